@@ -1,0 +1,21 @@
+use mathlib.Core.Path.{_≡_, sym, ap}
+use borrow.Author.Needs.{needs}
+use lib.Ieee
+use lib.Ieee.Bits.{is-true}
+use lib.Ieee.Compare.{differs-from-itself}
+use Rattle.bits.proofs.Nans.{no-nan}
+use Rattle.bits.proofs.bits_of.Statement.{statement}
+use Rattle.bits.proofs.bits_of.Tie as tie
+
+float-to-bits-result : tie.Need-float-to-bits-result
+float-to-bits-result c = no-nan (c .before .args .x) (c .if1 .left)
+
+returns : tie.Need-returns
+unfolding Ieee.toBits
+returns c = rw (differs-from-itself (c .before .args .x) (rw (c .if1 .taken) tt))
+
+returns-2 : tie.Need-returns-2
+returns-2 c = search needs
+
+pub bits-of-spec : {M : Type 1} → statement M
+bits-of-spec = tie.close (tie.spec float-to-bits-result returns returns-2)

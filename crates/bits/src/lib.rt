@@ -1,0 +1,81 @@
+// Fields of a record: numbers as bytes, low first, and floats as their bits.
+ghost use mathlib.Core.Path.{_≡_};
+ghost use Prim.Native.Nat.{_-_, _<_, _^_, min};
+ghost use lib.ListN.{length, take};
+ghost use lib.Seq.{sets};
+ghost use lib.Ieee.{binary64, toBits, ofBits};
+ghost use Rattle.bits.specs.Low.{lowBytes, lowWord};
+
+// A byte as a larger number.
+fn wide(b: u8) -> u64
+    ensures { λ r. ⌜ (r ≡ b) × (r < 256) ⌝ }
+{
+    b as u64
+}
+
+// The lesser of two numbers.
+fn least(a: usize, b: usize) -> usize
+    ensures { λ r. ⌜ r ≡ min a b ⌝ }
+{
+    if a < b { a } else { b }
+}
+
+// How many of n places from a place on stand before an end.
+fn room(end: usize, at: usize, n: usize) -> usize
+    ensures { λ r. ⌜ r ≡ min (end - at) n ⌝ }
+{
+    if end < at {
+        return 0;
+    }
+    least(end - at, n)
+}
+
+// The number that the first n bytes of a part are, or as many as there are; of more than eight the first eight.
+pub fn get_low(part: &[u8], n: usize) -> u64
+    ensures { λ r. ⌜ r ≡ lowWord (take (min n 8) (now (part .entry))) ⌝ }
+    ensures within { λ r. ⌜ r < 256 ^ min n 8 ⌝ }
+{
+    let mut word: u64 = 0;
+    let mut i = least(part.len(), least(n, 8));
+    while 0 < i {
+        i -= 1;
+        word = wide(part[i]) + 256 * word;
+    }
+    word
+}
+
+// Writes the n lowest bytes of a number from a place on, those for which there is a place.
+pub fn put_low(buf: &mut [u8], at: usize, n: usize, v: u64)
+    ensures { λ _. ⌜ now (buf .exit) ≡ sets (now (buf .entry)) at (lowBytes n v) ⌝ }
+{
+    let count = room(buf.len(), at, n);
+    let mut rest = v;
+    let mut i: usize = 0;
+    while i < count {
+        buf[at + i] = (rest % 256) as u8;
+        rest = rest / 256;
+        i += 1;
+    }
+}
+
+// The float of a bit pattern. All patterns of a NaN are the one NaN.
+pub fn float_of(bits: u64) -> f64
+    ensures { λ r. ⌜ r ≡ ofBits binary64 bits ⌝ }
+{
+    if 0x7ff0_0000_0000_0000 < bits % 0x8000_0000_0000_0000 {
+        0.0 / 0.0
+    } else {
+        f64::from_bits(bits)
+    }
+}
+
+// The bit pattern of a float. A NaN has one pattern, whatever the machine holds.
+pub fn bits_of(x: f64) -> u64
+    ensures { λ r. ⌜ r ≡ toBits binary64 x ⌝ }
+{
+    if x != x {
+        0x7ff8_0000_0000_0000
+    } else {
+        f64::to_bits(x)
+    }
+}

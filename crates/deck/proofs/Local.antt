@@ -1,0 +1,139 @@
+-- Demand 3, at the level of lines: what a change of one run of lines leaves as it was.
+use Prim.Native.Nat.{ℕ, zero, suc, _+_}
+use mathlib.Core.Path.{_≡_, refl, sym, ap, _∙_}
+use mathlib.Core.Bool.{Bool, true, false, cond}
+use mathlib.Core.List.{List, [], _∷_, _++_, map, append-assoc, map-append}
+use native.Mathlib.Nat.{add-zero, add-suc, suc-add, add-comm}
+use lib.ListN.{length}
+use Rattle.deck.specs.Lines.{Line, dotted, passed}
+use Rattle.deck.specs.Reading.{Statement, State, fresh, inside, goes-on, ends, after, ended, left, reading, closedIn, stateAfter}
+use Rattle.deck.specs.Reports.{Report, report, reports}
+
+-- ---- a reading of p ++ q: what is closed in p, and then the reading of q from the state after p
+pub reading-append : (s : State) (n : ℕ) (p q : List Line) → reading s n (p ++ q) ≡ closedIn s n p ++ reading (stateAfter s n p) (n + length p) q
+unfolding reading closedIn stateAfter
+reading-append s n [] q = rw add-zero
+reading-append s n (l ∷ p) q = rw (reading-append (after s n l) (suc n) p q, append-assoc, add-suc, suc-add)
+
+pub state-append : (s : State) (n : ℕ) (p q : List Line) → stateAfter s n (p ++ q) ≡ stateAfter (stateAfter s n p) (n + length p) q
+unfolding stateAfter
+state-append s n [] q = rw add-zero
+state-append s n (l ∷ p) q = rw (state-append (after s n l) (suc n) p q, add-suc, suc-add)
+
+-- ---- behind a line without closing dots reading is fresh
+pub after-undotted : (s : State) (n : ℕ) (l : Line) → dotted l ≡ false → after s n l ≡ fresh
+unfolding after
+after-undotted fresh n l e = rw e (go (passed l))
+  where
+    go : (b : Bool) → cond b fresh fresh ≡ fresh
+    go true = refl
+    go false = refl
+after-undotted (inside f cs) n l e = rw e
+
+pub fresh-behind : (ls : List Line) (l : Line) → dotted l ≡ false → stateAfter fresh 1 (ls ++ (l ∷ [])) ≡ fresh
+unfolding stateAfter
+fresh-behind ls l e = state-append fresh 1 ls (l ∷ []) ∙ after-undotted (stateAfter fresh 1 ls) (1 + length ls) l e
+
+-- ---- line numbers raised by k
+abbrev pub later : ℕ → Statement → Statement
+later k s = record { first = k + s .first; cards = s .cards; closed = s .closed }
+
+abbrev pub laterState : ℕ → State → State
+laterState k fresh = fresh
+laterState k (inside f cs) = inside (k + f) cs
+
+ends-later : (k : ℕ) (b : Bool) (f : ℕ) (cs : List Line) → ends b (k + f) cs ≡ map (later k) (ends b f cs)
+ends-later k true f cs = refl
+ends-later k false f cs = refl
+
+goes-on-later : (k : ℕ) (b : Bool) (f : ℕ) (cs : List Line) → goes-on b (k + f) cs ≡ laterState k (goes-on b f cs)
+goes-on-later k true f cs = refl
+goes-on-later k false f cs = refl
+
+after-later : (k : ℕ) (s : State) (n : ℕ) (l : Line) → after (laterState k s) (k + n) l ≡ laterState k (after s n l)
+unfolding after
+after-later k fresh n l = go (passed l)
+  where
+    go : (b : Bool) → cond b fresh (goes-on (dotted l) (k + n) (l ∷ [])) ≡ laterState k (cond b fresh (goes-on (dotted l) n (l ∷ [])))
+    go true = refl
+    go false = goes-on-later k (dotted l) n (l ∷ [])
+after-later k (inside f cs) n l = goes-on-later k (dotted l) f (cs ++ (l ∷ []))
+
+ended-later : (k : ℕ) (s : State) (n : ℕ) (l : Line) → ended (laterState k s) (k + n) l ≡ map (later k) (ended s n l)
+unfolding ended
+ended-later k fresh n l = go (passed l)
+  where
+    go : (b : Bool) → cond b [] (ends (dotted l) (k + n) (l ∷ [])) ≡ map (later k) (cond b [] (ends (dotted l) n (l ∷ [])))
+    go true = refl
+    go false = ends-later k (dotted l) n (l ∷ [])
+ended-later k (inside f cs) n l = ends-later k (dotted l) f (cs ++ (l ∷ []))
+
+left-later : (k : ℕ) (s : State) → left (laterState k s) ≡ map (later k) (left s)
+unfolding left
+left-later k fresh = refl
+left-later k (inside f cs) = refl
+
+pub reading-later : (k : ℕ) (s : State) (n : ℕ) (ls : List Line) → reading (laterState k s) (k + n) ls ≡ map (later k) (reading s n ls)
+unfolding reading
+reading-later k s n [] = left-later k s
+reading-later k s n (l ∷ ls) =
+    rw (ended-later k s n l, after-later k s n l, ← (add-suc k n), reading-later k (after s n l) (suc n) ls, map-append)
+
+-- ---- reports, their line numbers raised by k
+abbrev pub laterReport : {A : Type 0} → ℕ → Report A → Report A
+laterReport k r = record { line = k + r .line; what = r .what }
+
+-- the reports of what a line among these closes
+abbrev pub closedReports : {A : Type 0} → (List Line → Bool → A) → List Line → List (Report A)
+closedReports f ls = map (report f) (closedIn fresh 1 ls)
+
+map-later : {A : Type 0} (f : List Line → Bool → A) (k : ℕ) (ss : List Statement)
+    → map (report f) (map (later k) ss) ≡ map (laterReport k) (map (report f) ss)
+map-later f k [] = refl
+map-later f k (s ∷ ss) = ap (λ r. laterReport k (report f s) ∷ r) (map-later f k ss)
+
+-- what follows the statements closed in front
+abbrev pub openReports : {A : Type 0} → (List Line → Bool → A) → List Line → List Line → List (Report A)
+openReports f pre rest = map (report f) (reading (stateAfter fresh 1 pre) (1 + length pre) rest)
+
+module _ {A : Type 0} (f : List Line → Bool → A) (pre : List Line) where
+  -- what is closed in front is reported first, whatever follows
+  pub front : (rest : List Line) → reports f (pre ++ rest) ≡ closedReports f pre ++ openReports f pre rest
+  front rest = ap (map (report f)) (reading-append fresh 1 pre rest) ∙ map-append (report f) (closedIn fresh 1 pre) _
+
+  -- where reading is fresh, the reports from there on are those of the rest alone, line numbers raised
+  pub behind : (rest : List Line) → stateAfter fresh 1 pre ≡ fresh → reports f (pre ++ rest) ≡ closedReports f pre ++ map (laterReport (length pre)) (reports f rest)
+  behind rest e =
+      front rest
+      ∙ ap (λ r. closedReports f pre ++ r)
+      (rw (e, add-comm 1 (length pre), reading-later (length pre) fresh 1 rest) (map-later f (length pre) (reading fresh 1 rest)))
+
+-- ---- Demand 3. The lines pre ++ old ++ post become pre ++ new ++ post, and post is p ++ q
+pub record Unchanged {A : Type 0} (f : List Line → Bool → A) (pre old new p q : List Line) : Type 0 where
+  -- both begin with the reports of the statements that an undotted line before the change closed
+  pub front-before : reports f (pre ++ (old ++ (p ++ q))) ≡ closedReports f pre ++ openReports f pre (old ++ (p ++ q))
+  pub front-after : reports f (pre ++ (new ++ (p ++ q))) ≡ closedReports f pre ++ openReports f pre (new ++ (p ++ q))
+  -- if both readings are fresh before q, both end with the reports of q, the line numbers raised by the lines in front
+  pub tail-before : stateAfter fresh 1 (pre ++ old ++ p) ≡ fresh
+      → reports f (pre ++ (old ++ (p ++ q))) ≡ closedReports f (pre ++ old ++ p) ++ map (laterReport (length (pre ++ old ++ p))) (reports f q)
+  pub tail-after : stateAfter fresh 1 (pre ++ new ++ p) ≡ fresh
+      → reports f (pre ++ (new ++ (p ++ q))) ≡ closedReports f (pre ++ new ++ p) ++ map (laterReport (length (pre ++ new ++ p))) (reports f q)
+
+module _ {A : Type 0} (f : List Line → Bool → A) (pre run p q : List Line) where
+  tail : stateAfter fresh 1 (pre ++ run ++ p) ≡ fresh
+      → reports f (pre ++ (run ++ (p ++ q))) ≡ closedReports f (pre ++ run ++ p) ++ map (laterReport (length (pre ++ run ++ p))) (reports f q)
+  tail e = ap (reports f) (sym (append-assoc pre run (p ++ q)) ∙ sym (append-assoc (pre ++ run) p q)) ∙ behind f (pre ++ run ++ p) q e
+
+-- for any function of a statement's lines and closedness
+pub locality : {A : Type 0} (f : List Line → Bool → A) (pre old new p q : List Line) → Unchanged f pre old new p q
+locality f pre old new p q =
+    record {
+      front-before = front f pre (old ++ (p ++ q));
+      front-after = front f pre (new ++ (p ++ q));
+      tail-before = tail f pre old p q;
+      tail-after = tail f pre new p q;
+    }
+
+-- any place just behind an unchanged later line without closing dots is such a place: both readings are fresh there
+pub fresh-in-post : (pre run p : List Line) (l : Line) → dotted l ≡ false → stateAfter fresh 1 (pre ++ run ++ (p ++ (l ∷ []))) ≡ fresh
+fresh-in-post pre run p l d = rw (← (append-assoc (pre ++ run) p (l ∷ []))) (fresh-behind (pre ++ run ++ p) l d)

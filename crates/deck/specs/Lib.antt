@@ -1,0 +1,5 @@
+pub mod Lines
+pub mod Reading
+pub mod Reports
+pub mod Joined
+pub mod Faults

@@ -1,0 +1,57 @@
+-- The statements of a list of lines, read by a machine that takes a line at a time: it is fresh, or inside a statement.
+use Prim.Native.Nat.{ℕ, suc}
+use mathlib.Core.Bool.{Bool, true, false, cond}
+use mathlib.Core.List.{List, [], _∷_, _++_}
+use Rattle.deck.specs.Lines.{Line, dotted, passed}
+
+-- a statement: its first line's number, its lines, and whether a line without dots closed it; if none did, the text ended inside it
+pub record Statement : Type 0 where
+  pub first : ℕ
+  pub cards : List Line
+  pub closed : Bool
+
+-- fresh, or inside a statement with its first line's number and its lines so far
+pub data State : Type 0 where
+  fresh : State
+  inside : ℕ → List Line → State
+
+-- a line with the dots continues on the next line, whatever that is; a line without them ends the statement, and the next line is fresh
+abbrev pub goes-on : Bool → ℕ → List Line → State
+goes-on true f cs = inside f cs
+goes-on false f cs = fresh
+
+abbrev pub ends : Bool → ℕ → List Line → List Statement
+ends true f cs = []
+ends false f cs = record { first = f; cards = cs; closed = true } ∷ []
+
+-- the state after line n, which is l: fresh, a comment or a blank is passed over and any other line starts a statement
+unfoldable pub after : State → ℕ → Line → State
+after fresh n l = cond (passed l) fresh (goes-on (dotted l) n (l ∷ []))
+after (inside f cs) n l = goes-on (dotted l) f (cs ++ (l ∷ []))
+
+-- the statement that line n ends, if it ends one
+unfoldable pub ended : State → ℕ → Line → List Statement
+ended fresh n l = cond (passed l) [] (ends (dotted l) n (l ∷ []))
+ended (inside f cs) n l = ends (dotted l) f (cs ++ (l ∷ []))
+
+-- what the end of the text leaves
+unfoldable pub left : State → List Statement
+left fresh = []
+left (inside f cs) = record { first = f; cards = cs; closed = false } ∷ []
+
+-- the statements of the lines, of which the first has number n
+unfoldable pub reading : State → ℕ → List Line → List Statement
+reading s n [] = left s
+reading s n (l ∷ ls) = ended s n l ++ reading (after s n l) (suc n) ls
+
+-- ---- parts of a reading, for demand 3
+
+-- the statements that a line among these ends
+unfoldable pub closedIn : State → ℕ → List Line → List Statement
+closedIn s n [] = []
+closedIn s n (l ∷ ls) = ended s n l ++ closedIn (after s n l) (suc n) ls
+
+-- the state after these lines
+unfoldable pub stateAfter : State → ℕ → List Line → State
+stateAfter s n [] = s
+stateAfter s n (l ∷ ls) = stateAfter (after s n l) (suc n) ls

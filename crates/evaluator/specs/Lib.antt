@@ -1,0 +1,3 @@
+pub mod Machine
+pub mod Judge
+pub mod Evaluate

@@ -1,0 +1,1 @@
+// Evaluating a program: definitions.

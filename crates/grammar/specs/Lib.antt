@@ -1,0 +1,6 @@
+pub mod Tree
+pub mod Items
+pub mod Look
+pub mod Grammar
+pub mod Parser
+pub mod Meaning

@@ -1,0 +1,117 @@
+-- What a token can be at its place: the next one of a row, an operator, what begins a factor, what begins a statement or a part of one.
+use Prim.Native.Nat.{ℕ}
+use mathlib.Core.Bool.{Bool, true, false, cond}
+use mathlib.Core.List.{List, [], _∷_}
+use lib.Dec.{eqb}
+use lib.Ieee.{Float}
+use Rattle.tokens.specs.Symbol.{Word, CONST, PARAM, INCON, INTGRL, TIME, INSW, LIMIT, COMPAR, Symbol, mark, number, name, word}
+use Rattle.grammar.specs.Tree.{Two, plus, minus, times, over, compar, Three, insw, limit, Tree, value, named, time, negated, two, three}
+
+-- past the last token stands the mark 0, which begins nothing and continues nothing
+unfoldable pub next : List Symbol → Symbol
+next [] = mark 0
+next (t ∷ s) = t
+
+unfoldable pub rest : List Symbol → List Symbol
+rest [] = []
+rest (t ∷ s) = s
+
+-- a mark's byte, 0 of any other token
+unfoldable pub byteOf : Symbol → ℕ
+byteOf (mark b) = b
+byteOf (number x) = 0
+byteOf (name k) = 0
+byteOf (word w) = 0
+
+-- ---- operators
+
+pub data Op : Type 0 where
+  none : Op
+  op : Two → Op
+
+-- + and -
+abbrev pub addOp : Symbol → Op
+addOp t = cond (eqb (byteOf t) 43) (op plus) (cond (eqb (byteOf t) 45) (op minus) none)
+
+-- * and /
+abbrev pub mulOp : Symbol → Op
+mulOp t = cond (eqb (byteOf t) 42) (op times) (cond (eqb (byteOf t) 47) (op over) none)
+
+abbrev pub isMinus : Two → Bool
+isMinus plus = false
+isMinus minus = true
+isMinus times = false
+isMinus over = false
+isMinus compar = false
+
+-- a leading minus negates the whole first term, a leading plus nothing
+abbrev pub signed : Op → Tree → Tree
+signed none e = e
+signed (op o) e = cond (isMinus o) (negated e) e
+
+-- ---- openings: parentheses, and the functions with the expressions that they have been given so far
+
+pub data Opening : Type 0 where
+  group : Opening
+  pair : Opening
+  pair-of : Tree → Opening
+  triple : Three → Opening
+  triple-of : Three → Tree → Opening
+  triple-of-two : Three → Tree → Tree → Opening
+
+-- with one expression more it is whole, or wants another
+pub data Given : Type 0 where
+  whole : Tree → Given
+  wants : Opening → Given
+
+-- an expression in parentheses; COMPAR has two expressions, INSW and LIMIT have three
+unfoldable pub give-to : Opening → Tree → Given
+give-to group e = whole e
+give-to pair e = wants (pair-of e)
+give-to (pair-of a) e = whole (two compar a e)
+give-to (triple o) e = wants (triple-of o e)
+give-to (triple-of o a) e = wants (triple-of-two o a e)
+give-to (triple-of-two o a b) e = whole (three o a b e)
+
+-- ---- what a token begins as a factor: all of it; an expression in parentheses; a function; nothing
+
+pub data Shape : Type 0 where
+  Leaf : Tree → Shape
+  Paren : Shape
+  Call : Opening → Shape
+  NoFactor : Shape
+
+unfoldable pub shapeOf : Symbol → Shape
+shapeOf (mark b) = cond (eqb b 40) Paren NoFactor
+shapeOf (number x) = Leaf (value x)
+shapeOf (name k) = Leaf (named k)
+shapeOf (word CONST) = NoFactor
+shapeOf (word PARAM) = NoFactor
+shapeOf (word INCON) = NoFactor
+shapeOf (word INTGRL) = NoFactor
+shapeOf (word TIME) = Leaf time
+shapeOf (word INSW) = Call (triple insw)
+shapeOf (word LIMIT) = Call (triple limit)
+shapeOf (word COMPAR) = Call pair
+
+-- ---- what a token begins as a statement or in one
+
+pub data Start : Type 0 where
+  Constants : Start
+  Integral : Start
+  Named : ℕ → Start
+  Valued : Float → Start
+  Other : Start
+
+unfoldable pub startOf : Symbol → Start
+startOf (mark b) = Other
+startOf (number x) = Valued x
+startOf (name k) = Named k
+startOf (word CONST) = Constants
+startOf (word PARAM) = Constants
+startOf (word INCON) = Constants
+startOf (word INTGRL) = Integral
+startOf (word TIME) = Other
+startOf (word INSW) = Other
+startOf (word LIMIT) = Other
+startOf (word COMPAR) = Other

@@ -1,0 +1,212 @@
+-- The grammar as an executable parser. It reads from the front of a list of tokens; what is left tells the place.
+use Prim.Native.Nat.{ℕ, zero, suc, _+_, _-_, _*_}
+use mathlib.Core.Bool.{Bool, true, false, cond}
+use mathlib.Core.List.{List, [], _∷_, _++_}
+use lib.ListN.{length}
+use lib.Dec.{eqb}
+use lib.Ieee.{Float, neg}
+use Rattle.limits.specs.Limits.{levels}
+use Rattle.tokens.specs.Symbol.{Symbol, mark}
+use Rattle.grammar.specs.Tree.{Two, Three, Tree, two, Constant, constantOf, Initial, plain, from, Says, constants, assignment, state, compar}
+use Rattle.grammar.specs.Items.{Item, push, fetch, clock, negate, apply-two, apply-three, postfix}
+use Rattle.grammar.specs.Look.{next, rest, byteOf, Op, none, op, addOp, mulOp, isMinus, signed, Given, whole, wants, give-to}
+use Rattle.grammar.specs.Look.{Opening, group, pair, pair-of, triple, triple-of, triple-of-two}
+use Rattle.grammar.specs.Look.{Shape, Leaf, Paren, Call, NoFactor, shapeOf, Start, Constants, Integral, Named, Valued, Other, startOf}
+use Rattle.grammar.specs.Grammar.{Mode, expr, term, factor, terms, factors, opened, list}
+
+-- how reading ends: with what was read and the tokens left; or with a fault's code and the tokens left, the fault's first
+pub data End (A : Type 0) : Type 0 where
+  got : A → List Symbol → End A
+  bad : ℕ → List Symbol → End A
+
+-- what reading writes, and how it ends
+pub record Res (A : Type 0) : Type 0 where
+  pub out : List Item
+  pub end : End A
+
+abbrev pub give : {A : Type 0} → A → List Symbol → Res A
+give e s = record { out = []; end = got e s }
+
+abbrev pub stop : {A : Type 0} → ℕ → List Symbol → Res A
+stop c s = record { out = []; end = bad c s }
+
+-- these items first
+abbrev pub tell : {A : Type 0} → List Item → Res A → Res A
+tell is x = record { out = is ++ x .out; end = x .end }
+
+abbrev pub onward : {A B : Type 0} → List Item → End A → (A → List Symbol → Res B) → Res B
+onward {A} {B} o (got e t) k = let y : Res B = k e t in record { out = o ++ y .out; end = y .end }
+onward o (bad c t) k = record { out = o; end = bad c t }
+
+-- the one, and from where it ends the other
+unfoldable pub bind : {A B : Type 0} → Res A → (A → List Symbol → Res B) → Res B
+bind x k = onward (x .out) (x .end) k
+
+-- by a test, or by what a token is; only the branch that is taken is computed
+abbrev pub when : {A : Type 0} → Bool → (Unit {0} → Res A) → (Unit {0} → Res A) → Res A
+when true x y = x tt
+when false x y = y tt
+
+abbrev pub byOp : {A : Type 0} → Op → (Unit {0} → Res A) → (Two → Res A) → Res A
+byOp none x y = x tt
+byOp (op o) x y = y o
+
+abbrev pub byShape : {A : Type 0} → Shape → (Tree → Res A) → (Unit {0} → Res A) → (Opening → Res A) → (Unit {0} → Res A) → Res A
+byShape (Leaf e) x p y z = x e
+byShape Paren x p y z = p tt
+byShape (Call o) x p y z = y o
+byShape NoFactor x p y z = z tt
+
+abbrev pub byGiven : {A : Type 0} → Given → (Tree → Res A) → (Opening → Res A) → Res A
+byGiven (whole x) w z = w x
+byGiven (wants q) w z = z q
+
+-- the next token is the mark b: go on behind it
+abbrev pub need : {A : Type 0} → ℕ → List Symbol → (List Symbol → Res A) → Res A
+need b s k = when (eqb (byteOf (next s)) b) (λ _. k (rest s)) (λ _. stop 18 s)
+
+-- behind a sign, if one stands there
+abbrev pub behindSign : Op → List Symbol → List Symbol
+behindSign none s = s
+behindSign (op o) s = rest s
+
+-- what a sign writes behind the first term
+abbrev pub signItems : Op → List Item
+signItems none = []
+signItems (op o) = cond (isMinus o) (negate ∷ []) []
+
+-- what an opening writes behind its expressions
+abbrev pub openItems : Opening → List Item
+openItems group = []
+openItems pair = apply-two compar ∷ []
+openItems (pair-of a) = apply-two compar ∷ []
+openItems (triple o) = apply-three o ∷ []
+openItems (triple-of o a) = apply-three o ∷ []
+openItems (triple-of-two o a b) = apply-three o ∷ []
+
+-- f bounds the calls, d is the count of levels that may still be opened
+unfoldable pub parse : ℕ → Mode → ℕ → List Symbol → Res Tree
+parse zero m d s = stop 18 s
+parse (suc f) expr d s =
+    let o = addOp (next s) in
+    bind (parse f term d (behindSign o s)) λ e t. tell (signItems o) (parse f (terms (signed o e)) d t)
+parse (suc f) (terms l) d s =
+    byOp (addOp (next s)) (λ _. give l s) λ o. bind (parse f term d (rest s)) λ e t. tell (apply-two o ∷ []) (parse f (terms (two o l e)) d t)
+parse (suc f) term d s = bind (parse f factor d s) λ e t. parse f (factors e) d t
+parse (suc f) (factors l) d s =
+    byOp (mulOp (next s)) (λ _. give l s) λ o. bind (parse f factor d (rest s)) λ e t. tell (apply-two o ∷ []) (parse f (factors (two o l e)) d t)
+parse (suc f) factor d s =
+    byShape (shapeOf (next s))
+    (λ e. tell (postfix e) (give e (rest s)))
+    (λ _. parse f (opened group) d s)
+    (λ p. when (eqb (byteOf (next (rest s))) 40) (λ _. parse f (opened p) d (rest s)) (λ _. stop 18 (rest s)))
+    (λ _. stop 18 s)
+parse (suc f) (opened p) zero s = stop 19 s
+parse (suc f) (opened p) (suc d) s = parse f (list p) d (rest s)
+parse (suc f) (list p) d s =
+    bind (parse f expr d s) λ e t.
+    byGiven (give-to p e) (λ x. need 41 t λ u. tell (openItems p) (give x u)) (λ q. need 44 t (parse f (list q) d))
+
+-- every call reads a token or is followed, within four, by one that does: `rank` and five for each token bound the calls
+abbrev pub rank : Mode → ℕ
+rank expr = 3
+rank term = 2
+rank factor = 1
+rank (opened p) = 0
+rank (terms l) = 0
+rank (factors l) = 0
+rank (list p) = 4
+
+abbrev pub byStart : {A : Type 0} → Start → (Unit {0} → Res A) → (Unit {0} → Res A) → (ℕ → Res A) → (Float → Res A)
+    → (Unit {0} → Res A) → Res A
+byStart Constants c i k v z = c tt
+byStart Integral c i k v z = i tt
+byStart (Named n) c i k v z = k n
+byStart (Valued x) c i k v z = v x
+byStart Other c i k v z = z tt
+
+-- a name, a number, INTGRL, or else
+abbrev pub byName : {A : Type 0} → Start → (ℕ → Res A) → (Unit {0} → Res A) → Res A
+byName p x y = byStart p y y x (λ _. y tt) y
+
+abbrev pub byNumber : {A : Type 0} → Start → (Float → Res A) → (Unit {0} → Res A) → Res A
+byNumber p x y = byStart p y y (λ _. y tt) x y
+
+abbrev pub byIntegral : {A : Type 0} → Start → (Unit {0} → Res A) → (Unit {0} → Res A) → Res A
+byIntegral p x y = byStart p y x (λ _. y tt) (λ _. y tt) y
+
+-- [sign] number: a minus negates the value
+abbrev pub signedValue : Op → Float → Float
+signedValue none x = x
+signedValue (op o) x = cond (isMinus o) (neg x) x
+
+abbrev pub aNumber : Op → List Symbol → Res Float
+aNumber o s = byNumber (startOf (next s)) (λ x. give (signedValue o x) (rest s)) (λ _. stop 18 s)
+
+unfoldable pub signedNumber : List Symbol → Res Float
+signedNumber s = aNumber (addOp (next s)) (behindSign (addOp (next s)) s)
+
+-- constants, one or more
+abbrev pub onMore : (List Symbol → Res (List Constant)) → Constant → List Symbol → Res (List Constant)
+onMore go c s = when (eqb (byteOf (next s)) 44) (λ _. bind (go (rest s)) λ cs t. give (c ∷ cs) t) (λ _. give (c ∷ []) s)
+
+abbrev pub valued : (List Symbol → Res (List Constant)) → ℕ → List Symbol → Res (List Constant)
+valued go k s = bind (signedNumber s) λ x t. onMore go (constantOf k x) t
+
+unfoldable pub many : ℕ → List Symbol → Res (List Constant)
+many zero s = stop 18 s
+many (suc f) s = byName (startOf (next s)) (λ k. need 61 (rest s) (valued (many f) k)) (λ _. stop 18 s)
+
+-- an initial
+unfoldable pub initially : List Symbol → Res Initial
+initially s = byName (startOf (next s)) (λ k. give (from k) (rest s)) (λ _. bind (signedNumber s) λ x t. give (plain x) t)
+
+-- behind name =: an expression; behind INTGRL: an initial, and the expression of the rate
+unfoldable pub assigned : ℕ → ℕ → ℕ → List Symbol → Res Says
+assigned f d k s = bind (parse f expr d s) λ e t. give (assignment k e) t
+
+abbrev pub rated : ℕ → ℕ → ℕ → Initial → List Symbol → Res Says
+rated f d k i s = bind (parse f expr d s) λ e t. need 41 t (give (state k i e))
+
+abbrev pub started : ℕ → ℕ → ℕ → List Symbol → Res Says
+started f d k s = bind (initially s) λ i t. need 44 t (rated f d k i)
+
+unfoldable pub integrated : ℕ → ℕ → ℕ → List Symbol → Res Says
+integrated f d k s = need 40 s (started f d k)
+
+abbrev pub equated : ℕ → ℕ → ℕ → List Symbol → Res Says
+equated f d k s = byIntegral (startOf (next s)) (λ _. integrated f d k (rest s)) (λ _. assigned f d k s)
+
+-- a statement at the front, with at most d levels
+unfoldable pub statement : ℕ → ℕ → List Symbol → Res Says
+statement f d s =
+    byStart (startOf (next s))
+    (λ _. bind (many f (rest s)) λ cs t. give (constants cs) t)
+    (λ _. stop 18 s)
+    (λ k. need 61 (rest s) (equated f d k))
+    (λ _. stop 18 s)
+    (λ _. stop 18 s)
+
+-- and no token more
+abbrev pub ended : {A : Type 0} → A → List Symbol → Res A
+ended x [] = give x []
+ended x (t ∷ s) = stop 18 (t ∷ s)
+
+unfoldable pub entire : ℕ → ℕ → List Symbol → Res Says
+entire f d s = bind (statement f d s) ended
+
+-- calls enough for all tokens
+abbrev pub calls : List Symbol → ℕ
+calls row = 4 + 5 * length row
+
+-- the answer for a row of tokens: what it says; or a fault's code and the place of its token, the row's count for an early end
+pub data Read : Type 0 where
+  read : Says → Read
+  fault : ℕ → ℕ → Read
+
+abbrev pub answer : ℕ → End Says → Read
+answer n (got x t) = read x
+answer n (bad c t) = fault c (n - length t)
+
+unfoldable pub readRow : List Symbol → Read
+readRow row = answer (length row) (entire (calls row) levels row .end)

@@ -1,0 +1,1 @@
+// The grammar of statements: definitions and theorems.

@@ -1,0 +1,5 @@
+pub mod Text
+pub mod Lists
+pub mod Runs
+pub mod Counts
+pub mod Rising

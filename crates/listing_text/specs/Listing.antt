@@ -1,0 +1,39 @@
+-- The listing: the verdict on a line, then the first line of each ordered statement, or line and code of each fault.
+use Prim.Native.Nat.{ℕ, zero, suc, _+_, _/_, _%_}
+use mathlib.Core.Bool.{Bool, cond}
+use mathlib.Core.List.{List, [], _∷_, _++_}
+use lib.Dec.{ltb}
+use lib.ListN.{length}
+use Rattle.limits.specs.Limits.{faultRoom, programRoom}
+use Rattle.laws.specs.Text.{bytes}
+use Rattle.laws.specs.Lists.{concat-map}
+use Rattle.sheet.specs.Sheet.{Fault}
+use Rattle.translator.specs.Verdict.{Verdict, refused, faulty, translated, verdictOf}
+
+-- a number in decimal digits, with at most f of them
+unfoldable pub figuresIn : ℕ → ℕ → List ℕ
+figuresIn zero n = []
+figuresIn (suc f) n =
+    let r = figuresIn f (n / 10) ++ ((48 + n % 10) ∷ []) in
+    cond (ltb n 10) ((48 + n) ∷ []) r
+
+-- n is below 10 to the n + 1, so it has at most n + 1 digits
+abbrev pub figures : ℕ → List ℕ
+figures n = figuresIn (suc n) n
+
+-- a line of one number, and of two with a space between, each closed by byte 10
+abbrev pub line : ℕ → List ℕ
+line n = figures n ++ (10 ∷ [])
+
+abbrev pub line2 : ℕ → ℕ → List ℕ
+line2 m n = figures m ++ (32 ∷ line n)
+
+-- OK and the record count, then the first line of each ordered statement; otherwise NO and the number, then line and code of each fault
+unfoldable pub listed : Verdict → List ℕ
+listed (refused n) = bytes "NO " ++ line n
+listed (faulty n fs) = bytes "NO " ++ (line n ++ concat-map (λ (f : Fault). line2 (f .line) (f .code)) fs)
+listed (translated rs ls) = bytes "OK " ++ (line (length rs) ++ concat-map line ls)
+
+-- the listing program lends 1,024 and 65,536 bytes
+unfoldable pub listing : List ℕ → List ℕ
+listing text = listed (verdictOf text faultRoom programRoom)

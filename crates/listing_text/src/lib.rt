@@ -1,0 +1,1 @@
+// The listing of a text, as bytes: definitions.

@@ -1,0 +1,1 @@
+// Model faults, definitions and slots: definitions and theorems.

@@ -1,0 +1,4 @@
+pub mod Dictionary
+pub mod Sorting
+pub mod Chains
+pub mod Theorems

@@ -1,0 +1,1 @@
+// The order of statements: definitions and theorems.

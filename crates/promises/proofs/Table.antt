@@ -1,0 +1,134 @@
+-- The rows marked P of the paper's table of tried texts, and the listing that it gives whole, by computation.
+use Prim.Native.Nat.{ℕ}
+use Prim.Native.String.{String}
+use mathlib.Core.Path.{_≡_, refl}
+use mathlib.Core.List.{List, [], _∷_, map, List·Memᴰ}
+use lib.Ieee.{Float, binary64, ofBits, ofInt, mul, div, neg, round, units, size, climb, span, odd}
+use Rattle.laws.specs.Text.{bytes}
+use Rattle.laws.specs.Lists.{concat-map, sameBytes, numbers}
+use Rattle.laws.specs.Runs.{run}
+use Rattle.laws.specs.Counts.{count}
+use Rattle.laws.proofs.Closed.{at-mem}
+use Rattle.limits.specs.Limits.{faultRoom, programRoom}
+use Rattle.bits.specs.Low.{lowBytes, lowWord}
+use Rattle.deck.specs.Lines.{linesOf, trimmed, dotted, passed}
+use Rattle.deck.specs.Reading.{after, ended, left, reading}
+use Rattle.deck.specs.Joined.{partOf, joined}
+use Rattle.deck.specs.Faults.{Place, at-start, at-token, at-end, anyLong, sizeFlaw}
+use Rattle.tokens.specs.Number.{decimal, digitsFrom, exponentFrom, tenTo, scaled, numberOf}
+use Rattle.tokens.specs.Token.{numberAt, nameAt, tokenAt, cutAt}
+use Rattle.tokens.specs.Symbol.{named}
+use Rattle.tokens.specs.Row.{rowFrom, rowOf}
+use Rattle.grammar.specs.Tree.{names}
+use Rattle.grammar.specs.Items.{postfix}
+use Rattle.grammar.specs.Look.{next, rest, byteOf, give-to, shapeOf, startOf}
+use Rattle.grammar.specs.Parser.{bind, parse, signedNumber, many, initially, assigned, integrated, statement, entire, readRow}
+use Rattle.sheet.specs.Sheet.{Fault}
+use Rattle.sheet.specs.Reader.{told, sheetOf}
+use Rattle.order.specs.Order.{any, chained}
+use Rattle.order.specs.Greedy.{all, first, ready, next as nextReady, place, order}
+use Rattle.model.specs.Definitions.{placeIn}
+use Rattle.model.specs.Faults.{again, faults21, within, modelFaults}
+use Rattle.records.specs.declared.Instr.the-variants.{Constant, Initial, Value, Slot, Add, Sub, Mul, Div, Neg, Insw, Limit, Compar, Store, Deriv}
+use Rattle.records.specs.Record.{Rec, rec}
+use Rattle.program.specs.Program.{valueIn, program}
+use Rattle.translator.specs.Verdict.{Verdict, refused, faulty, translated, judged, verdictOf}
+use Rattle.listing_text.specs.Listing.{figuresIn, listed, listing}
+
+-- the numbers that the texts have, by their bits
+abbrev zero64 : Float
+zero64 = ofBits binary64 0
+
+abbrev one64 : Float
+one64 = ofBits binary64 0x3ff0_0000_0000_0000
+
+abbrev two64 : Float
+two64 = ofBits binary64 0x4000_0000_0000_0000
+
+abbrev three64 : Float
+three64 = ofBits binary64 0x4008_0000_0000_0000
+
+abbrev fault : ℕ → ℕ → Place → Fault
+fault l c p = record { line = l; code = c; place = p }
+
+-- a row: a text and its verdict, with the fault list or the records and the first lines of the ordered statements
+pub record Row : Type 0 where
+  pub text : String
+  pub wanted : Verdict
+
+abbrev row : String → Verdict → Row
+row t v = record { text = t; wanted = v }
+
+-- the tank
+abbrev pub tank : String
+tank = "* TANK\nPARAM K=2\nQ=K*H\nH=INTGRL(1,F-Q)\nF=LIMIT(0,3,TIME)\n"
+
+-- its 15 records: the constant, the initial, then Q (line 3), F (line 5) and H (line 4). The slots are 1 K, 2 Q, 3 H, 4 F
+abbrev tankRecords : List Rec
+tankRecords =
+    rec 2 (Constant 1 two64)
+    ∷ rec 4 (Initial 3 one64)
+    ∷ rec 3 (Slot 1)
+    ∷ rec 3 (Slot 3)
+    ∷ rec 3 Mul
+    ∷ rec 3 (Store 2)
+    ∷ rec 5 (Value zero64)
+    ∷ rec 5 (Value three64)
+    ∷ rec 5 (Slot 0)
+    ∷ rec 5 Limit
+    ∷ rec 5 (Store 4)
+    ∷ rec 4 (Slot 4)
+    ∷ rec 4 (Slot 2)
+    ∷ rec 4 Sub
+    ∷ rec 4 (Deriv 3)
+    ∷ []
+
+unfoldable pub rows : List Row
+rows =
+    row "" (translated [] [])
+    ∷ row tank (translated tankRecords (3 ∷ 5 ∷ 4 ∷ []))
+    ∷ row "X=INTGRL(1,-X)" (translated (rec 1 (Initial 1 one64) ∷ rec 1 (Slot 1) ∷ rec 1 Neg ∷ rec 1 (Deriv 1) ∷ []) (1 ∷ []))
+    ∷ row "A=A+1" (faulty 7 (fault 1 24 at-start ∷ []))
+    ∷ row "A=B\nB=A\nC=1" (faulty 7 (fault 1 24 at-start ∷ fault 2 24 at-start ∷ []))
+    ∷ row "A=B\nB=A\nD=A" (faulty 7 (fault 1 24 at-start ∷ fault 2 24 at-start ∷ fault 3 24 at-start ∷ []))
+    ∷ row "CONST A=1,A=2" (faulty 7 (fault 1 21 at-start ∷ []))
+    ∷ row "X=INTGRL(Y,1)\nY=2" (faulty 7 (fault 1 23 at-start ∷ []))
+    ∷ row "A=1..." (faulty 5 (fault 1 11 at-end ∷ []))
+    ∷ row "A=3...\n*2" (translated (rec 1 (Value three64) ∷ rec 1 (Value two64) ∷ rec 1 Mul ∷ rec 1 (Store 1) ∷ []) (1 ∷ []))
+    ∷ row "ABCDEFG=1" (faulty 5 (fault 1 15 (at-token 0) ∷ []))
+    ∷ row "ABCDEF=1" (translated (rec 1 (Value one64) ∷ rec 1 (Store 1) ∷ []) (1 ∷ []))
+    ∷ []
+
+-- with the room that the listing program lends
+abbrev pub verdict : Row → Verdict
+verdict r = verdictOf (bytes (r .text)) faultRoom programRoom
+
+-- THE TABLE. Each text has the verdict that stands beside it
+pub tried : map verdict rows ≡ map (λ (r : Row). r .wanted) rows
+unfolding rows verdictOf judged linesOf trimmed dotted passed after ended left reading partOf joined anyLong sizeFlaw told sheetOf concat-map
+    sameBytes numbers run count lowWord decimal digitsFrom exponentFrom tenTo scaled numberOf numberAt nameAt tokenAt cutAt named rowFrom rowOf
+    names postfix next rest byteOf give-to shapeOf startOf bind parse signedNumber many initially assigned integrated statement entire readRow
+    any chained all first ready nextReady place order placeIn again faults21 within modelFaults valueIn program ofBits ofInt mul div neg round
+    units size climb span odd
+tried = refl
+
+-- row by row
+pub each-row : (r : Row) → List·Memᴰ r rows → verdict r ≡ r .wanted
+each-row = at-mem verdict (λ (r : Row). r .wanted) rows tried
+
+-- THE LISTING, given whole: the tank's, and with its line 3 as `Q=K*`
+pub tank-listing : listing (bytes tank) ≡ bytes "OK 15\n3\n5\n4\n"
+unfolding figuresIn listed listing verdictOf judged linesOf trimmed dotted passed after ended left reading partOf joined anyLong sizeFlaw told sheetOf concat-map
+    sameBytes numbers run count lowWord decimal digitsFrom exponentFrom tenTo scaled numberOf numberAt nameAt tokenAt cutAt named rowFrom rowOf
+    names postfix next rest byteOf give-to shapeOf startOf bind parse signedNumber many initially assigned integrated statement entire readRow
+    any chained all first ready nextReady place order placeIn again faults21 within modelFaults valueIn program ofBits ofInt mul div neg round
+    units size climb span odd
+tank-listing = refl
+
+pub cut-listing : listing (bytes "* TANK\nPARAM K=2\nQ=K*\nH=INTGRL(1,F-Q)\nF=LIMIT(0,3,TIME)\n") ≡ bytes "NO 5\n3 18\n"
+unfolding figuresIn listed listing verdictOf judged linesOf trimmed dotted passed after ended left reading partOf joined anyLong sizeFlaw told sheetOf concat-map
+    sameBytes numbers run count lowWord decimal digitsFrom exponentFrom tenTo scaled numberOf numberAt nameAt tokenAt cutAt named rowFrom rowOf
+    names postfix next rest byteOf give-to shapeOf startOf bind parse signedNumber many initially assigned integrated statement entire readRow
+    any chained all first ready nextReady place order placeIn again faults21 within modelFaults valueIn program ofBits ofInt mul div neg round
+    units size climb span odd
+cut-listing = refl

@@ -1,0 +1,1 @@
+// What is promised of the definitions: theorems. No code.

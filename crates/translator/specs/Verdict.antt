@@ -1,0 +1,102 @@
+-- The verdict: its number, given exactly when, in this order; the count; and what is written.
+use Prim.Native.Nat.{ℕ, _/_}
+use mathlib.Core.Bool.{Bool, cond, _||_}
+use mathlib.Core.List.{List, [], _∷_, _++_, map}
+use lib.Dec.{ltb}
+use lib.ListN.{length}
+use lib.Seq.{sets}
+use Rattle.limits.specs.Limits.{faultRoom, textBytes, textLines, mostStatements, mostDefinitions, mostRecords, recordBytes}
+use Rattle.laws.specs.Lists.{concat-map}
+use Rattle.bits.specs.Low.{lowBytes}
+use Rattle.deck.specs.Lines.{linesOf}
+use Rattle.sheet.specs.Sheet.{Sheet, Numbered, Fault, said, statementFaults}
+use Rattle.sheet.specs.Reader.{sheetOf}
+use Rattle.model.specs.Definitions.{Def, definitions, equationAt}
+use Rattle.model.specs.Faults.{modelFaults, orderOf}
+use Rattle.records.specs.Record.{Rec, programBytes}
+use Rattle.program.specs.Program.{program}
+
+-- refused with a number, nothing written; faulty with 5 or 7, the fault list written; translated, 0, the program written. The last also
+-- names the first line of each ordered statement
+pub data Verdict : Type 0 where
+  refused : ℕ → Verdict
+  faulty : ℕ → List Fault → Verdict
+  translated : List Rec → List ℕ → Verdict
+
+-- if some fault stands, this verdict, else the next
+abbrev pub ifFaults : ℕ → List Fault → Verdict → Verdict
+ifFaults n [] next = next
+ifFaults n (f ∷ fs) next = faulty n (f ∷ fs)
+
+-- 8: records needed exceed 4,096 or the lent bytes divided by 16, rounded down; 0 otherwise
+abbrev pub fitted : ℕ → List Rec → List ℕ → Verdict
+fitted room rs ls = cond (ltb mostRecords (length rs) || ltb (room / recordBytes) (length rs)) (refused 8) (translated rs ls)
+
+-- the program of the definitions in their order, with the ordered statements' first lines
+abbrev pub programmed : ℕ → List Def → Verdict
+programmed room ds = fitted room (program ds (orderOf ds)) (map (λ (i : ℕ). equationAt ds i .line) (orderOf ds))
+
+-- 6: over 255 definitions, doubles counted; 7: a model fault stands
+abbrev pub modelled : ℕ → List Numbered → Verdict
+modelled room ss =
+    let next = programmed room (definitions ss) in
+    let faults = ifFaults 7 (modelFaults ss) next in
+    cond (ltb mostDefinitions (length (definitions ss))) (refused 6) faults
+
+-- 4: over 256 statements; 5: a statement fault stands. By the sheet alone, whatever the reader was
+unfoldable pub judged : ℕ → Sheet → Verdict
+judged room sheet =
+    let next = modelled room (said sheet) in
+    let faults = ifFaults 5 (statementFaults sheet) next in
+    cond (ltb mostStatements (length sheet)) (refused 4) faults
+
+-- 1: lent fault list under 1,024 bytes; 2: text over 16,384 bytes; 3: over 512 lines
+unfoldable pub verdictOf : List ℕ → ℕ → ℕ → Verdict
+verdictOf text faults room =
+    let next = judged room (sheetOf text) in
+    let long = cond (ltb textLines (length (linesOf text))) (refused 3) next in
+    cond (ltb faults faultRoom) (refused 1) (cond (ltb textBytes (length text)) (refused 2) long)
+
+-- ---- the number, and with it a count: records for 0, faults for 5 and 7, else 0
+
+abbrev pub numberOf : Verdict → ℕ
+numberOf (refused n) = n
+numberOf (faulty n fs) = n
+numberOf (translated rs ls) = 0
+
+abbrev pub countOf : Verdict → ℕ
+countOf (refused n) = 0
+countOf (faulty n fs) = length fs
+countOf (translated rs ls) = length rs
+
+-- ---- what is written. A fault is 4 bytes: line (two, low first), code, 0; in line order
+
+unfoldable pub faultEntry : Fault → List ℕ
+faultEntry f = lowBytes 2 (f .line) ++ (f .code ∷ 0 ∷ [])
+
+unfoldable pub faultList : List Fault → List ℕ
+faultList fs = concat-map faultEntry fs
+
+-- bytes past the written part, and the other buffer, stay as lent
+abbrev pub faultsAfter : Verdict → List ℕ → List ℕ
+faultsAfter (refused n) lent = lent
+faultsAfter (faulty n fs) lent = sets lent 0 (faultList fs)
+faultsAfter (translated rs ls) lent = lent
+
+abbrev pub programAfter : Verdict → List ℕ → List ℕ
+programAfter (refused n) lent = lent
+programAfter (faulty n fs) lent = lent
+programAfter (translated rs ls) lent = sets lent 0 (programBytes rs)
+
+-- ---- all that translating gives: number, count, and both lent buffers afterwards
+pub record Outcome : Type 0 where
+  pub number : ℕ
+  pub count : ℕ
+  pub faults : List ℕ
+  pub program : List ℕ
+
+abbrev pub outcomeOf : Verdict → List ℕ → List ℕ → Outcome
+outcomeOf v f p = record { number = numberOf v; count = countOf v; faults = faultsAfter v f; program = programAfter v p }
+
+unfoldable pub translation : List ℕ → List ℕ → List ℕ → Outcome
+translation text f p = outcomeOf (verdictOf text (length f) (length p)) f p
