@@ -3,3 +3,4 @@ pub mod Lists
 pub mod Runs
 pub mod Counts
 pub mod Rising
+pub mod Places

@@ -1,7 +1,8 @@
 -- The sheet: for each statement its number and what it says, or its fault. It knows no reader.
 use Prim.Native.Nat.{ℕ}
-use mathlib.Core.List.{List, [], _∷_}
+use mathlib.Core.List.{List, [], _∷_, _++_}
 use Rattle.laws.specs.Lists.{concat-map}
+use Rattle.bits.specs.Low.{lowBytes}
 use Rattle.deck.specs.Faults.{Place}
 use Rattle.deck.specs.Reports.{Report}
 use Rattle.grammar.specs.Tree.{Says}
@@ -39,3 +40,11 @@ said ss = concat-map (λ (r : Report Told). saidBy (r .line) (r .what)) ss
 
 abbrev pub statementFaults : Sheet → List Fault
 statementFaults ss = concat-map (λ (r : Report Told). faultBy (r .line) (r .what)) ss
+
+-- ---- the fault list. A fault is 4 bytes: line (two, low first), code, 0; in line order
+
+unfoldable pub faultEntry : Fault → List ℕ
+faultEntry f = lowBytes 2 (f .line) ++ (f .code ∷ 0 ∷ [])
+
+unfoldable pub faultList : List Fault → List ℕ
+faultList fs = concat-map faultEntry fs

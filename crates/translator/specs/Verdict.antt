@@ -6,10 +6,8 @@ use lib.Dec.{ltb}
 use lib.ListN.{length}
 use lib.Seq.{sets}
 use Rattle.limits.specs.Limits.{faultRoom, textBytes, textLines, mostStatements, mostDefinitions, mostRecords, recordBytes}
-use Rattle.laws.specs.Lists.{concat-map}
-use Rattle.bits.specs.Low.{lowBytes}
 use Rattle.deck.specs.Lines.{linesOf}
-use Rattle.sheet.specs.Sheet.{Sheet, Numbered, Fault, said, statementFaults}
+use Rattle.sheet.specs.Sheet.{Sheet, Numbered, Fault, said, statementFaults, faultList}
 use Rattle.sheet.specs.Reader.{sheetOf}
 use Rattle.model.specs.Definitions.{Def, definitions, equationAt}
 use Rattle.model.specs.Faults.{modelFaults, orderOf}
@@ -69,13 +67,7 @@ countOf (refused n) = 0
 countOf (faulty n fs) = length fs
 countOf (translated rs ls) = length rs
 
--- ---- what is written. A fault is 4 bytes: line (two, low first), code, 0; in line order
-
-unfoldable pub faultEntry : Fault → List ℕ
-faultEntry f = lowBytes 2 (f .line) ++ (f .code ∷ 0 ∷ [])
-
-unfoldable pub faultList : List Fault → List ℕ
-faultList fs = concat-map faultEntry fs
+-- ---- what is written
 
 -- bytes past the written part, and the other buffer, stay as lent
 abbrev pub faultsAfter : Verdict → List ℕ → List ℕ

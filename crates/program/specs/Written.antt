@@ -1,0 +1,59 @@
+-- The program as code writes it: by place, over the arrays of a sheet whose names are resolved. Every read past an end gives 0.
+use Prim.Native.Nat.{ℕ, zero, suc, _+_, _-_}
+use mathlib.Core.Bool.{Bool, true, false, cond, _&&_, _||_}
+use mathlib.Core.List.{List, [], _∷_, _++_}
+use lib.Dec.{eqb, leb}
+use lib.ListN.{length, getD}
+use Rattle.laws.specs.Places.{gather, onlyIf}
+use Rattle.bits.specs.Low.{lowBytes}
+use Rattle.model.specs.Places.{homeOf, inStatement}
+
+-- the sixteen bytes of a record
+abbrev pub fieldBytes : ℕ → ℕ → ℕ → ℕ → List ℕ
+fieldBytes kind slot line bits = kind ∷ 0 ∷ (lowBytes 2 slot ++ (lowBytes 4 line ++ lowBytes 8 bits))
+
+-- ---- which drafts write a record: all but a value behind a constant or an initial
+abbrev pub writes : ℕ → Bool
+writes k = leb 1 k && (leb k 14 || eqb k 17)
+
+unfoldable pub recordCount : List ℕ → ℕ
+recordCount [] = 0
+recordCount (k ∷ kinds) = cond (writes k) (suc (recordCount kinds)) (recordCount kinds)
+
+-- ---- the value behind a constant or an initial at place i: its bits, or those behind the constant that the name is
+abbrev pub valueAt : List ℕ → List ℕ → List ℕ → ℕ → ℕ
+valueAt places kinds slots i = cond (eqb (getD kinds (i + 1) 0) 16) (getD slots (homeOf places (getD slots (i + 1) 0) + 1) 0) (getD slots (i + 1) 0)
+
+-- the record of a constant (kind 1) or of an initial (kind 2), of the phase
+abbrev pub settingAt : ℕ → List ℕ → List ℕ → List ℕ → ℕ → ℕ → List ℕ
+settingAt phase places kinds slots line i =
+    cond (eqb (getD kinds i 0) phase) (fieldBytes phase (getD slots i 0) line (valueAt places kinds slots i)) []
+
+-- the record of a draft of an expression, or of a store or derivative
+abbrev pub stepBytes : ℕ → ℕ → ℕ → List ℕ
+stepBytes kind arg line =
+    cond (eqb kind 3) (fieldBytes 3 0 line arg)
+    (cond (eqb kind 17) (fieldBytes 4 0 line 0)
+    (cond (leb 4 kind && leb kind 14) (fieldBytes kind arg line 0) []))
+
+abbrev pub stepAt : List ℕ → List ℕ → ℕ → ℕ → List ℕ
+stepAt kinds slots line i = stepBytes (getD kinds i 0) (getD slots i 0) line
+
+-- ---- of a statement: its settings of a phase; its steps
+abbrev pub settingsOf : ℕ → List ℕ → List ℕ → List ℕ → List ℕ → List ℕ → ℕ → List ℕ
+settingsOf phase places lines bounds kinds slots j = inStatement bounds (settingAt phase places kinds slots (getD lines j 0)) j
+
+abbrev pub stepsOf : List ℕ → List ℕ → List ℕ → List ℕ → ℕ → List ℕ
+stepsOf lines bounds kinds slots j = inStatement bounds (stepAt kinds slots (getD lines j 0)) j
+
+-- of the ordered statements: order gives places in rows
+unfoldable pub orderedSteps : List ℕ → List ℕ → List ℕ → List ℕ → List ℕ → List ℕ → List ℕ
+orderedSteps rows lines bounds kinds slots [] = []
+orderedSteps rows lines bounds kinds slots (r ∷ order) =
+    stepsOf lines bounds kinds slots (getD rows r 0) ++ orderedSteps rows lines bounds kinds slots order
+
+-- first all of kind 1 in text order, then all of kind 2 likewise, then each ordered statement
+unfoldable pub writtenProgram : List ℕ → List ℕ → List ℕ → List ℕ → List ℕ → List ℕ → List ℕ → List ℕ
+writtenProgram places rows lines bounds kinds slots order =
+    gather (settingsOf 1 places lines bounds kinds slots) (length lines) 0
+    ++ (gather (settingsOf 2 places lines bounds kinds slots) (length lines) 0 ++ orderedSteps rows lines bounds kinds slots order)
