@@ -1,0 +1,14 @@
+pub mod Outcome
+pub mod Looks
+pub mod Sound
+pub mod Whole
+pub mod Complete
+pub mod Accepts
+pub mod Enough
+pub mod Clauses
+pub mod Local
+pub mod Rows
+pub mod Faults
+pub mod Tight
+pub mod Stack
+pub mod Tried

@@ -1,0 +1,202 @@
+-- What a look at a token tells: that it stands there, and which token it is; and what an opening has, and makes, of the expressions given to it.
+use Prim.Native.Nat.{ℕ}
+use mathlib.Core.Path.{_≡_, refl, ap, subst, _∙_}
+use mathlib.Core.List.{List, [], _∷_, _++_, append-assoc, append-nil}
+use mathlib.Core.Logic.{_⊎_, inl, inr, ⊎-elim}
+use borrow.Author.Tests.{eqb-true}
+use lib.Dec.{eqb}
+use lib.Ieee.{Float}
+use Rattle.laws.proofs.Tests.{cond-ind}
+use Rattle.tokens.specs.Symbol.{CONST, PARAM, INCON, INTGRL, TIME, INSW, LIMIT, COMPAR, Symbol, mark, number, name, word}
+use Rattle.grammar.specs.Tree.{Two, plus, minus, times, over, compar, Three, Tree, value, named, time}
+use Rattle.grammar.specs.Items.{Item, postfix}
+use Rattle.grammar.specs.Look.{next, rest, byteOf, Op, none, op, addOp, mulOp, signed}
+use Rattle.grammar.specs.Look.{Opening, group, pair, pair-of, triple, triple-of, triple-of-two, Given, whole, wants, give-to}
+use Rattle.grammar.specs.Look.{Shape, Leaf, Paren, Call, NoFactor, shapeOf, Start, Constants, Integral, Named, Valued, Other, startOf}
+use Rattle.grammar.specs.Parser.{signItems, openItems}
+use Rattle.grammar.proofs.Outcome.{clash, here, is-mark}
+
+-- what is seen of the next token is not what is seen past the end: it stands there
+here-by : {X : Type 0} (f : Symbol → X) (s : List Symbol) → (f (next s) ≡ f (mark 0) → ⊥) → s ≡ next s ∷ rest s
+here-by f s n = here s λ z. n (ap f z)
+
+-- + or - stands there
+pub add-here : (s : List Symbol) (o : Two) → addOp (next s) ≡ op o → s ≡ next s ∷ rest s
+unfolding byteOf
+add-here s o h = here-by addOp s λ z. clash (cc)
+
+-- * or / stands there
+pub mul-here : (s : List Symbol) (o : Two) → mulOp (next s) ≡ op o → s ≡ next s ∷ rest s
+unfolding byteOf
+mul-here s o h = here-by mulOp s λ z. clash (cc)
+
+-- a number, a name or TIME stands there
+pub leaf-here : (s : List Symbol) (e : Tree) → shapeOf (next s) ≡ Leaf e → s ≡ next s ∷ rest s
+unfolding shapeOf
+leaf-here s e h = here-by shapeOf s λ z. clash (cc)
+
+-- a function's name stands there
+pub call-here : (s : List Symbol) (p : Opening) → shapeOf (next s) ≡ Call p → s ≡ next s ∷ rest s
+unfolding shapeOf
+call-here s p h = here-by shapeOf s λ z. clash (cc)
+
+-- ---- signs
+
+-- what adds is + or -
+add-mark : (t : Symbol) (o : Two) → addOp t ≡ op o → (t ≡ mark 43) ⊎ (t ≡ mark 45)
+add-mark t o =
+    cond-ind (λ z. z ≡ op o → (t ≡ mark 43) ⊎ (t ≡ mark 45)) (eqb (byteOf t) 43) (op plus) _ (λ e _. inl (is-mark t 42 e))
+    λ _. cond-ind (λ z. z ≡ op o → (t ≡ mark 43) ⊎ (t ≡ mark 45)) (eqb (byteOf t) 45) (op minus) none
+    (λ e _. inr (is-mark t 44 e)) λ _ h. clash (cc)
+
+-- it does not multiply
+pub add-no-mul : (t : Symbol) (o : Two) → addOp t ≡ op o → mulOp t ≡ none
+unfolding byteOf
+add-no-mul t o h = ⊎-elim (λ (e : t ≡ mark 43). ap mulOp e) (λ (e : t ≡ mark 45). ap mulOp e) (add-mark t o h)
+
+-- it begins no statement and no part of one but a signed number
+pub add-other : (t : Symbol) (o : Two) → addOp t ≡ op o → startOf t ≡ Other
+unfolding startOf
+add-other t o h = ⊎-elim (λ (e : t ≡ mark 43). ap startOf e) (λ (e : t ≡ mark 45). ap startOf e) (add-mark t o h)
+
+-- what begins a factor does not add
+pub factor-no-add : (t : Symbol) → (shapeOf t ≡ NoFactor → ⊥) → addOp t ≡ none
+unfolding shapeOf
+factor-no-add t n = go (addOp t) refl
+  where
+    go : (o : Op) → addOp t ≡ o → o ≡ none
+    go none h = refl
+    go (op o) h = absurd (n (⊎-elim (λ (e : t ≡ mark 43). ap shapeOf e) (λ (e : t ≡ mark 45). ap shapeOf e) (add-mark t o h)))
+
+-- ---- factors
+
+-- the openings that a function's name makes: nothing is given yet
+pub data New : Opening → Type 0 where
+  new-pair : New pair
+  new-triple : {o : Three} → New (triple o)
+
+-- the trees that one token makes
+pub data Bare : Tree → Type 0 where
+  bare-value : {x : Float} → Bare (value x)
+  bare-name : {k : ℕ} → Bare (named k)
+  bare-time : Bare time
+
+-- what the shape of a token tells of it
+abbrev pub Shaped : Shape → Symbol → Type 0
+Shaped (Leaf e) t = Bare e
+Shaped Paren t = t ≡ mark 40
+Shaped (Call p) t = New p
+Shaped NoFactor t = Unit {0}
+
+-- it tells this of each token
+shaped : (t : Symbol) → Shaped (shapeOf t) t
+unfolding shapeOf
+shaped (mark b) = cond-ind (λ h. Shaped h (mark b)) (eqb b 40) Paren NoFactor (λ e. ap mark (eqb-true b 40 e)) λ e. tt
+shaped (number x) = bare-value
+shaped (name k) = bare-name
+shaped (word CONST) = tt
+shaped (word PARAM) = tt
+shaped (word INCON) = tt
+shaped (word INTGRL) = tt
+shaped (word TIME) = bare-time
+shaped (word INSW) = new-triple
+shaped (word LIMIT) = new-triple
+shaped (word COMPAR) = new-pair
+
+-- so it does where the shape is known
+pub as-shaped : (t : Symbol) {h : Shape} → shapeOf t ≡ h → Shaped h t
+as-shaped t q = subst (λ (h : Shape). Shaped h t) q (shaped t)
+
+-- ---- statements
+
+-- what the start of a statement, or of a part of one, tells of the token
+abbrev pub Known : Start → Symbol → Type 0
+Known Constants t = Unit {0}
+Known Integral t = t ≡ word INTGRL
+Known (Named k) t = t ≡ name k
+Known (Valued x) t = t ≡ number x
+Known Other t = Unit {0}
+
+-- it tells this of each token
+known : (t : Symbol) → Known (startOf t) t
+unfolding startOf
+known (mark b) = tt
+known (number x) = refl
+known (name k) = refl
+known (word CONST) = tt
+known (word PARAM) = tt
+known (word INCON) = tt
+known (word INTGRL) = refl
+known (word TIME) = tt
+known (word INSW) = tt
+known (word LIMIT) = tt
+known (word COMPAR) = tt
+
+-- so it does where the start is known
+pub as-known : (t : Symbol) {k : Start} → startOf t ≡ k → Known k t
+as-known t q = subst (λ (k : Start). Known k t) q (known t)
+
+-- by what a statement, or a part of one, begins with: each case may use that it stands there
+pub start-cases : (s : List Symbol) (P : Start → Type 0)
+    → (startOf (next s) ≡ Constants → s ≡ next s ∷ rest s → P Constants)
+    → (s ≡ word INTGRL ∷ rest s → P Integral)
+    → ((k : ℕ) → s ≡ name k ∷ rest s → P (Named k))
+    → ((x : Float) → s ≡ number x ∷ rest s → P (Valued x))
+    → P Other → P (startOf (next s))
+unfolding startOf
+start-cases s P c i k v z = go (startOf (next s)) refl
+  where
+    stands : {t : Symbol} → (startOf (next s) ≡ Other → ⊥) → next s ≡ t → s ≡ t ∷ rest s
+    stands {t} n h = here-by startOf s n ∙ ap (λ (t : Symbol). t ∷ rest s) h
+
+    go : (p : Start) → startOf (next s) ≡ p → P p
+    go Constants e = c e (stands (λ z. clash (cc)) refl)
+    go Integral e = i (stands (λ z. clash (cc)) (as-known (next s) e))
+    go (Named n) e = k n (stands (λ z. clash (cc)) (as-known (next s) e))
+    go (Valued x) e = v x (stands (λ z. clash (cc)) (as-known (next s) e))
+    go Other e = z
+
+-- ---- signs and openings
+
+-- what a sign writes stands behind the first term
+pub sign-items : (o : Op) (e : Tree) → postfix e ++ signItems o ≡ postfix (signed o e)
+unfolding postfix
+sign-items none e = append-nil (postfix e)
+sign-items (op plus) e = append-nil (postfix e)
+sign-items (op minus) e = refl
+sign-items (op times) e = append-nil (postfix e)
+sign-items (op over) e = append-nil (postfix e)
+sign-items (op compar) e = append-nil (postfix e)
+
+-- the items of the expressions that an opening has been given so far
+abbrev pub so-far : Opening → List Item
+so-far group = []
+so-far pair = []
+so-far (pair-of a) = postfix a
+so-far (triple o) = []
+so-far (triple-of o a) = postfix a
+so-far (triple-of-two o a b) = postfix a ++ postfix b
+
+-- nothing is given yet, so there are none
+pub new-items : {p : Opening} → New p → so-far p ≡ []
+new-items new-pair = refl
+new-items new-triple = refl
+
+-- given one more: the whole has these, those of the expression, and the opening's own; what wants another has these and those of the expression
+abbrev pub Gave : Opening → Tree → Given → Type 0
+Gave p e (whole x) = so-far p ++ (postfix e ++ openItems p) ≡ postfix x
+Gave p e (wants q) = so-far q ≡ so-far p ++ postfix e
+
+-- it is so for each opening
+gave : (p : Opening) (e : Tree) → Gave p e (give-to p e)
+unfolding give-to postfix
+gave group e = append-nil (postfix e)
+gave pair e = refl
+gave (pair-of a) e = refl
+gave (triple o) e = refl
+gave (triple-of o a) e = refl
+gave (triple-of-two o a b) e = append-assoc (postfix a) (postfix b) _
+
+-- so it is where what it makes is known
+pub as-gave : (p : Opening) (e : Tree) {g : Given} → give-to p e ≡ g → Gave p e g
+as-gave p e q = subst (λ (g : Given). Gave p e g) q (gave p e)

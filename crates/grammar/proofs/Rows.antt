@@ -1,0 +1,200 @@
+-- Statements: a count of calls that suffices, and what a reading hangs on.
+use Prim.Native.Nat.{ℕ, zero, suc, _+_, _*_, _≤_, _<_}
+use mathlib.Core.Path.{_≡_, refl}
+use mathlib.Core.List.{List, [], _∷_}
+use native.Mathlib.Omega.{arith}
+use lib.Ieee.{Float}
+use lib.ListN.{length, length-append}
+use Rattle.tokens.specs.Symbol.{INTGRL, Symbol, number, name, word}
+use Rattle.grammar.specs.Tree.{Constant, constantOf, plain, from, Says, constants, assignment, state}
+use Rattle.grammar.specs.Look.{next, rest, Op, addOp, Start, Constants, Integral, Named, Valued, Other, startOf}
+use Rattle.grammar.specs.Grammar.{expr}
+use Rattle.grammar.specs.Parser.{got, Res, give, stop, bind, byStart, byName, byNumber, byIntegral, need, behindSign, parse}
+use Rattle.grammar.specs.Parser.{signedValue, aNumber, signedNumber, onMore, valued, many, initially}
+use Rattle.grammar.specs.Parser.{assigned, rated, started, integrated, equated, statement, ended, entire}
+use Rattle.grammar.proofs.Outcome.{Asked, Before, Out, OutEnd, here-mark}
+use Rattle.grammar.proofs.Looks.{add-here, start-cases}
+use Rattle.grammar.proofs.Whole.{signed-out, initially-out}
+use Rattle.grammar.proofs.Enough.{bind-cong, mark-cong, need-cong, shorter, rest-le, enough}
+use Rattle.grammar.proofs.Local.{Reading, Loc, loc-bind, loc-seen, loc-rest, loc-give, loc-stop, loc-mark, loc-need, loc-behind, local}
+
+-- ---- calls
+
+-- what is left is no longer
+out-left : {A : Type 0} {L : Asked A} {F : Before} (s : List Symbol) (x : Res A) → Out L F s x → (e : A) (t : List Symbol) → x .end ≡ got e t
+    → length t ≤ length s
+out-left {A} {L} {F} s x o e t h =
+    let r : OutEnd L F s (x .out) (got e t) = rw h at (o .ends) in
+    let q = length-append (r .0) t in
+    rw (r .1) (omega arith)
+
+-- readings that differ in what they call are the same where their calls are
+module _ {A : Type 0} where
+  -- by what stands next
+  start-cong : (p : Start) (c c′ i i′ : Unit {0} → Res A) (k k′ : ℕ → Res A) (v v′ : Float → Res A) (z z′ : Unit {0} → Res A)
+      → c tt ≡ c′ tt → i tt ≡ i′ tt → ((n : ℕ) → k n ≡ k′ n) → ((x : Float) → v x ≡ v′ x) → z tt ≡ z′ tt
+      → byStart p c i k v z ≡ byStart p c′ i′ k′ v′ z′
+  start-cong Constants c c′ i i′ k k′ v v′ z z′ p q r s t = p
+  start-cong Integral c c′ i i′ k k′ v v′ z z′ p q r s t = q
+  start-cong (Named n) c c′ i i′ k k′ v v′ z z′ p q r s t = r n
+  start-cong (Valued x) c c′ i i′ k k′ v v′ z z′ p q r s t = s x
+  start-cong Other c c′ i i′ k k′ v v′ z z′ p q r s t = t
+
+-- constants
+many-enough : (f f′ : ℕ) (s : List Symbol) → length s < f → length s < f′ → many f s ≡ many f′ s
+unfolding many
+many-enough zero f′ s b b′ = absurd (omega arith)
+many-enough (suc f) zero s b b′ = absurd (omega arith)
+many-enough (suc f) (suc f′) s b b′ =
+    let r = rest-le s in
+    start-cong (startOf (next s)) _ _ _ _ _ _ _ _ _ _ refl refl
+    (λ k. need-cong 60 (rest s) (valued (many f) k) (valued (many f′) k) λ l.
+    bind-cong (signedNumber (rest (rest s))) _ _ _ refl λ x t h.
+    let n = out-left (rest (rest s)) _ (signed-out 0 (rest (rest s))) x t h in
+    mark-cong 43 t _ _ _ λ m.
+    let z = shorter t (here-mark t 43 m) in
+    bind-cong (many f (rest t)) _ _ _ (many-enough f f′ (rest t) (omega arith) (omega arith)) λ e t h. refl)
+    (λ x. refl) refl
+
+module _ (f f′ d k : ℕ) where
+  -- an expression behind name =
+  assigned-enough : (s : List Symbol) → 3 + 5 * length s < f → 3 + 5 * length s < f′ → assigned f d k s ≡ assigned f′ d k s
+  unfolding assigned
+  assigned-enough s b b′ = bind-cong (parse f expr d s) _ _ _ (enough f f′ expr d s tt b b′) λ e t h. refl
+
+  -- behind name = INTGRL
+  integrated-enough : (s : List Symbol) → 3 + 5 * length s < f → 3 + 5 * length s < f′ → integrated f d k s ≡ integrated f′ d k s
+  unfolding integrated
+  integrated-enough s b b′ =
+      need-cong 39 s (started f d k) (started f′ d k) λ l.
+      bind-cong (initially (rest s)) _ _ _ refl λ i t h.
+      let n = out-left (rest s) _ (initially-out 0 (rest s)) i t h in
+      need-cong 43 t (rated f d k i) (rated f′ d k i) λ m.
+      bind-cong (parse f expr d (rest t)) _ _ _ (enough f f′ expr d (rest t) tt (omega arith) (omega arith)) λ e u h. refl
+
+  -- behind name =
+  equated-enough : (s : List Symbol) → 3 + 5 * length s < f → 3 + 5 * length s < f′ → equated f d k s ≡ equated f′ d k s
+  equated-enough s b b′ =
+      let r = rest-le s in
+      let plainly = assigned-enough s b b′ in
+      start-cong (startOf (next s)) _ _ _ _ _ _ _ _ _ _
+      plainly (integrated-enough (rest s) (omega arith) (omega arith)) (λ _. plainly) (λ _. plainly) plainly
+
+-- a statement at the front
+statement-enough : (f f′ d : ℕ) (s : List Symbol) → 3 + 5 * length s < f → 3 + 5 * length s < f′ → statement f d s ≡ statement f′ d s
+unfolding statement
+statement-enough f f′ d s b b′ =
+    let r = rest-le s in
+    start-cong (startOf (next s)) _ _ _ _ _ _ _ _ _ _
+    (bind-cong (many f (rest s)) _ _ _ (many-enough f f′ (rest s) (omega arith) (omega arith)) λ e t h. refl)
+    refl
+    (λ k. need-cong 60 (rest s) (equated f d k) (equated f′ d k) λ l. equated-enough f f′ d k (rest (rest s)) (omega arith) (omega arith))
+    (λ x. refl) refl
+
+-- any two counts of calls that suffice read a row alike
+pub entire-enough : (f f′ d : ℕ) (s : List Symbol) → 3 + 5 * length s < f → 3 + 5 * length s < f′ → entire f d s ≡ entire f′ d s
+unfolding entire
+entire-enough f f′ d s b b′ = bind-cong (statement f d s) _ ended ended (statement-enough f f′ d s b b′) λ e t h. refl
+
+-- ---- what a reading hangs on
+
+-- by what stands next
+loc-start : {A : Type 0} (d : ℕ) (s : List Symbol) (G : Start → Reading A)
+    → (s ≡ next s ∷ rest s → Loc d s (G Constants))
+    → (s ≡ word INTGRL ∷ rest s → Loc d s (G Integral))
+    → ((k : ℕ) → s ≡ name k ∷ rest s → Loc d s (G (Named k)))
+    → ((x : Float) → s ≡ number x ∷ rest s → Loc d s (G (Valued x)))
+    → Loc d s (G Other) → Loc d s (λ d′ u. G (startOf (next u)) d′ u)
+loc-start d s G c i k v z = loc-seen d s startOf G (start-cases s (λ p. Loc d s (G p)) (λ _. c) i k v z)
+
+-- a number behind its sign
+number-loc : (d : ℕ) (o : Op) (s : List Symbol) → Loc d s (λ _. aNumber o)
+number-loc d o s =
+    let no = loc-stop d s 18 in
+    loc-start d s (λ p _ u. byNumber p (λ x. give (signedValue o x) (rest u)) (λ _. stop 18 u)) (λ _. no) (λ _. no) (λ _ _. no)
+    (λ x q. loc-rest d s (λ _. give (signedValue o x)) q (loc-give d (rest s) _)) no
+
+-- with a sign or without
+signed-loc : (d : ℕ) (s : List Symbol) → Loc d s (λ _. signedNumber)
+unfolding signedNumber
+signed-loc d s =
+    loc-seen d s addOp (λ o _ u. aNumber o (behindSign o u))
+    (loc-behind d s (λ _. aNumber (addOp (next s))) (addOp (next s)) (add-here s) (number-loc d (addOp (next s))))
+
+-- behind a constant's value
+more-loc : (d : ℕ) (go : List Symbol → Res (List Constant)) (c : Constant) → ((s : List Symbol) → Loc d s (λ _. go))
+    → (s : List Symbol) → Loc d s (λ _. onMore go c)
+more-loc d go c ih s =
+    loc-mark d s 43 (λ _ u. bind (go (rest u)) λ cs t. give (c ∷ cs) t) (λ _. give (c ∷ []))
+    (λ m. loc-rest d s (λ _ u. bind (go u) λ cs t. give (c ∷ cs) t) (here-mark s 43 m)
+    (loc-bind d (rest s) (λ _. go) (λ _ cs t. give (c ∷ cs) t) (ih (rest s)) λ cs t. loc-give d t (c ∷ cs)))
+    (loc-give d s (c ∷ []))
+
+-- constants, whatever the count of calls
+many-loc : (f d : ℕ) (s : List Symbol) → Loc d s (λ _. many f)
+unfolding many
+many-loc zero d s = loc-stop d s 18
+many-loc (suc f) d s =
+    let no = loc-stop d s 18 in
+    loc-start d s (λ p _ u. byName p (λ k. need 61 (rest u) (valued (many f) k)) (λ _. stop 18 u)) (λ _. no) (λ _. no)
+    (λ k q. loc-rest d s (λ _ u. need 61 u (valued (many f) k)) q
+    (loc-need d (rest s) 60 (λ _. valued (many f) k) λ m.
+    loc-bind d (rest (rest s)) (λ _. signedNumber) (λ _ x t. onMore (many f) (constantOf k x) t) (signed-loc d (rest (rest s)))
+    λ x t. more-loc d (many f) (constantOf k x) (many-loc f d) t))
+    (λ _ _. no) no
+
+-- an initial
+initially-loc : (d : ℕ) (s : List Symbol) → Loc d s (λ _. initially)
+unfolding initially
+initially-loc d s =
+    let given = loc-bind d s (λ _. signedNumber) (λ _ x t. give (plain x) t) (signed-loc d s) λ x t. loc-give d t (plain x) in
+    loc-start d s (λ p _ u. byName p (λ k. give (from k) (rest u)) (λ _. bind (signedNumber u) λ x t. give (plain x) t)) (λ _. given) (λ _. given)
+    (λ k q. loc-rest d s (λ _. give (from k)) q (loc-give d (rest s) (from k))) (λ _ _. given) given
+
+module _ (f d k : ℕ) where
+  -- an expression behind name =
+  assigned-loc : (s : List Symbol) → Loc d s (λ d′. assigned f d′ k)
+  unfolding assigned
+  assigned-loc s = loc-bind d s (parse f expr) (λ _ e t. give (assignment k e) t) (local f expr d s tt) λ e t. loc-give d t (assignment k e)
+
+  -- behind name = INTGRL
+  integrated-loc : (s : List Symbol) → Loc d s (λ d′. integrated f d′ k)
+  unfolding integrated
+  integrated-loc s =
+      loc-need d s 39 (λ d′. started f d′ k) λ m.
+      loc-bind d (rest s) (λ _. initially) (λ d′ i t. need 44 t (rated f d′ k i)) (initially-loc d (rest s)) λ i t.
+      loc-need d t 43 (λ d′. rated f d′ k i) λ m.
+      loc-bind d (rest t) (parse f expr) (λ _ e u. need 41 u (give (state k i e))) (local f expr d (rest t) tt) λ e u.
+      loc-need d u 40 (λ _. give (state k i e)) λ m. loc-give d (rest u) (state k i e)
+
+  -- behind name =
+  equated-loc : (s : List Symbol) → Loc d s (λ d′. equated f d′ k)
+  equated-loc s =
+      let plainly = assigned-loc s in
+      loc-start d s (λ p d′ u. byIntegral p (λ _. integrated f d′ k (rest u)) (λ _. assigned f d′ k u)) (λ _. plainly)
+      (λ q. loc-rest d s (λ d′. integrated f d′ k) q (integrated-loc (rest s))) (λ _ _. plainly) (λ _ _. plainly) plainly
+
+-- a statement at the front
+statement-loc : (f d : ℕ) (s : List Symbol) → Loc d s (statement f)
+unfolding statement
+statement-loc f d s =
+    let no = loc-stop d s 18 in
+    loc-start d s
+    (λ p d′ u. byStart p (λ _. bind (many f (rest u)) λ cs t. give (constants cs) t) (λ _. stop 18 u) (λ k. need 61 (rest u) (equated f d′ k))
+    (λ _. stop 18 u) (λ _. stop 18 u))
+    (λ q. loc-rest d s (λ _ u. bind (many f u) λ cs t. give (constants cs) t) q
+    (loc-bind d (rest s) (λ _. many f) (λ _ cs t. give (constants cs) t) (many-loc f d (rest s)) λ cs t. loc-give d t (constants cs)))
+    (λ _. no)
+    (λ k q. loc-rest d s (λ d′ u. need 61 u (equated f d′ k)) q
+    (loc-need d (rest s) 60 (λ d′. equated f d′ k) λ m. equated-loc f d k (rest (rest s))))
+    (λ _ _. no) no
+
+-- the end, or one token too many
+ended-loc : (d : ℕ) (x : Says) (t : List Symbol) → Loc d t (λ _. ended x)
+ended-loc d x [] = record { ends = ([], refl, λ d′ u. elim u [ [] ↦ λ le like. refl | a ∷ v ↦ λ le like. absurd like ]) }
+ended-loc d x (a ∷ t) = record { ends = ([], refl, λ d′ u. elim u [ [] ↦ λ le n like. absurd like | b ∷ v ↦ λ le n like. refl ]) }
+
+-- a row, read as a statement with nothing behind it
+pub entire-loc : (f d : ℕ) (s : List Symbol) → Loc d s (entire f)
+unfolding entire
+entire-loc f d s = loc-bind d s (statement f) (λ _. ended) (statement-loc f d s) λ x t. ended-loc d x t

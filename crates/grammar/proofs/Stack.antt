@@ -1,0 +1,151 @@
+-- How many values stand at once while a tree's postfix runs: with d levels at most 3 + 4 · d, so the stack's places suffice; and one row fills them.
+use Prim.Native.Nat.{ℕ, zero, suc, _+_, _*_, _≤_, max}
+use mathlib.Core.Path.{_≡_, refl, subst}
+use mathlib.Core.List.{List, [], _∷_, _++_}
+use native.Mathlib.Omega.{arith}
+use Rattle.limits.specs.Limits.{levels, stackPlaces}
+use Rattle.tokens.specs.Symbol.{INSW, Symbol, mark, number, name, word}
+use Rattle.grammar.specs.Tree.{Two, plus, minus, times, over, compar, Tree, value, named, time, negated, two, three}
+use Rattle.grammar.specs.Tree.{Says, constants, assignment, state}
+use Rattle.grammar.specs.Look.{next, rest, byteOf, op, signed, shapeOf, startOf}
+use Rattle.grammar.specs.Look.{Opening, group, pair, pair-of, triple, triple-of, triple-of-two, Given, whole, wants, give-to}
+use Rattle.grammar.specs.Grammar.{Mode, expr, term, factor, terms, factors, opened, list}
+use Rattle.grammar.specs.Grammar.{Der, unsigned, sign, no-terms, add, a-term, no-factors, mul, a-leaf, grouped, called, opening, last, comma}
+use Rattle.grammar.specs.Grammar.{Derives, of-constants, of-assignment, of-state}
+use Rattle.grammar.specs.Parser.{Read, read, fault, bind, parse, assigned, statement, entire, readRow}
+use Rattle.grammar.proofs.Looks.{Bare, bare-value, bare-name, bare-time, New, new-pair, new-triple, as-shaped}
+use Rattle.grammar.proofs.Sound.{nought}
+
+-- how many stand at once at most: operands are worked out from left to right, each above those before it
+unfoldable pub peak : Tree → ℕ
+peak (value x) = 1
+peak (named k) = 1
+peak time = 1
+peak (negated a) = peak a
+peak (two o a b) = max (peak a) (1 + peak b)
+peak (three o a b c) = max (peak a) (max (1 + peak b) (2 + peak c))
+
+-- for a statement: constants work out nothing
+abbrev pub peakOf : Says → ℕ
+peakOf (constants cs) = 0
+peakOf (assignment k e) = peak e
+peakOf (state k i e) = peak e
+
+-- ---- openings
+
+-- of the expressions that an opening has been given so far
+abbrev held : Opening → ℕ
+held group = 0
+held pair = 0
+held (pair-of a) = peak a
+held (triple o) = 0
+held (triple-of o a) = peak a
+held (triple-of-two o a b) = max (peak a) (1 + peak b)
+
+-- nothing is given yet, so nothing stands
+new-peak : {p : Opening} → New p → held p ≡ 0
+new-peak new-pair = refl
+new-peak new-triple = refl
+
+-- given one more: at most two stand below it
+abbrev Raised : Opening → Tree → Given → Type 0
+Raised p e (whole x) = peak x ≤ max (held p) (2 + peak e)
+Raised p e (wants q) = held q ≤ max (held p) (2 + peak e)
+
+-- it is so for each opening
+raised : (p : Opening) (e : Tree) → Raised p e (give-to p e)
+unfolding give-to peak
+raised group e = omega arith
+raised pair e = omega arith
+raised (pair-of a) e = omega arith
+raised (triple o) e = omega arith
+raised (triple-of o a) e = omega arith
+raised (triple-of-two o a b) e = omega arith
+
+-- so it is where what it makes is known
+as-raised : (p : Opening) (e : Tree) {g : Given} → give-to p e ≡ g → Raised p e g
+as-raised p e q = subst (λ (g : Given). Raised p e g) q (raised p e)
+
+-- ---- over the depth
+
+-- what a mode can reach within d levels
+abbrev high : Mode → ℕ → ℕ
+high expr d = 3 + 4 * d
+high (terms l) d = 3 + 4 * d
+high term d = 2 + 4 * d
+high (factors l) d = 2 + 4 * d
+high factor d = 1 + 4 * d
+high (opened p) d = 1 + 4 * d
+high (list p) d = 5 + 4 * d
+
+-- what it goes on from has not reached more
+abbrev Low : Mode → ℕ → Type 0
+Low expr d = Unit {0}
+Low (terms l) d = peak l ≤ high (terms l) d
+Low term d = Unit {0}
+Low (factors l) d = peak l ≤ high (factors l) d
+Low factor d = Unit {0}
+Low (opened p) d = held p ≤ high (opened p) d
+Low (list p) d = held p ≤ high (list p) d
+
+-- a sign adds nothing
+peak-signed : (o : Two) (e : Tree) → peak (signed (op o) e) ≡ peak e
+unfolding peak
+peak-signed plus e = refl
+peak-signed minus e = refl
+peak-signed times e = refl
+peak-signed over e = refl
+peak-signed compar e = refl
+
+-- a number, a name or TIME is one value
+bare-peak : {e : Tree} → Bare e → peak e ≡ 1
+unfolding peak
+bare-peak bare-value = refl
+bare-peak bare-name = refl
+bare-peak bare-time = refl
+
+-- no mode reaches more
+stack : {m : Mode} {d : ℕ} {w : List Symbol} {e : Tree} → Der m d w e → Low m d → peak e ≤ high m d
+unfolding peak
+stack (unsigned a b) p = stack b (let x = stack a tt in omega arith)
+stack (sign {o = o} {e = e} h a b) p = stack b (rw (peak-signed o e) (let x = stack a tt in omega arith))
+stack no-terms p = p
+stack (add h a b) p = stack b (let x = stack a tt in omega arith)
+stack (a-term a b) p = stack b (let x = stack a tt in omega arith)
+stack no-factors p = p
+stack (mul h a b) p = stack b (let x = stack a tt in omega arith)
+stack (a-leaf {t = t} h) p = rw (bare-peak (as-shaped t h)) (omega arith)
+stack (grouped a) p = stack a (omega arith)
+stack (called {t = t} h a) p = stack a (rw (new-peak (as-shaped t h)) (omega arith))
+stack (opening a) p = let x = stack a (omega arith) in omega arith
+stack (last {p = q} {e = e} h a) p = let x = stack a tt in let y = as-raised q e h in omega arith
+stack (comma {p = q} {e = e} h a b) p = stack b (let x = stack a tt in let y = as-raised q e h in omega arith)
+
+-- one fact over the depth: for a statement, whatever the levels
+pub stack-of : {d : ℕ} {w : List Symbol} {x : Says} → Derives d w x → peakOf x ≤ 3 + 4 * d
+stack-of (of-constants h a) = omega arith
+stack-of (of-assignment a) = stack a tt
+stack-of (of-state i a) = stack a tt
+
+-- the places of the stack suffice
+pub suffices : {w : List Symbol} {x : Says} → Derives levels w x → peakOf x ≤ stackPlaces
+suffices a = let h = stack-of a in omega arith
+
+-- ---- and are reached
+
+-- 0+0*INSW(0,0, .. ) n times, with 0+0*0 inside
+unfoldable pub nested : ℕ → List Symbol
+nested zero = number nought ∷ mark 43 ∷ number nought ∷ mark 42 ∷ number nought ∷ []
+nested (suc n) =
+    number nought ∷ mark 43 ∷ number nought ∷ mark 42 ∷ word INSW ∷ mark 40 ∷ number nought ∷ mark 44 ∷ number nought ∷ mark 44
+    ∷ (nested n ++ mark 41 ∷ [])
+
+-- of what is read, 0 of a fault
+abbrev pub peakRead : Read → ℕ
+peakRead (read x) = peakOf x
+peakRead (fault c i) = 0
+
+-- with as many as there are levels it fills the stack
+pub reached : peakRead (readRow (name 1 ∷ mark 61 ∷ nested levels)) ≡ stackPlaces
+unfolding readRow entire statement assigned parse bind byteOf shapeOf startOf give-to next rest nested peak
+reached = refl
