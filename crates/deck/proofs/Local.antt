@@ -102,7 +102,8 @@ module _ {A : Type 0} (f : List Line → Bool → A) (pre : List Line) where
   front rest = ap (map (report f)) (reading-append fresh 1 pre rest) ∙ map-append (report f) (closedIn fresh 1 pre) _
 
   -- where reading is fresh, the reports from there on are those of the rest alone, line numbers raised
-  pub behind : (rest : List Line) → stateAfter fresh 1 pre ≡ fresh → reports f (pre ++ rest) ≡ closedReports f pre ++ map (laterReport (length pre)) (reports f rest)
+  pub behind : (rest : List Line) → stateAfter fresh 1 pre ≡ fresh
+      → reports f (pre ++ rest) ≡ closedReports f pre ++ map (laterReport (length pre)) (reports f rest)
   behind rest e =
       front rest
       ∙ ap (λ r. closedReports f pre ++ r)

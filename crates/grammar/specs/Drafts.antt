@@ -5,7 +5,8 @@ use Prim.Native.Nat.{ℕ}
 use mathlib.Core.List.{List, [], _∷_, _++_, map}
 use lib.Ieee.{Float, binary64, toBits}
 use Rattle.laws.specs.Lists.{concat-map}
-use Rattle.grammar.specs.Tree.{Two, plus, minus, times, over, compar, Three, insw, limit, Constant, Initial, plain, from, Says, constants, assignment, state}
+use Rattle.grammar.specs.Tree.{Two, plus, minus, times, over, compar, Three, insw, limit}
+use Rattle.grammar.specs.Tree.{Constant, Initial, plain, from, Says, constants, assignment, state}
 use Rattle.grammar.specs.Items.{Item, push, fetch, clock, negate, apply-two, apply-three, postfix}
 
 pub record Draft : Type 0 where

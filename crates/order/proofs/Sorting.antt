@@ -132,7 +132,8 @@ module _ (n : ℕ) (uses : ℕ → ℕ → Bool) where
   next-none l h j m = first-before (ready n uses l) n 0 j (omega arith) (omega arith)
 
   -- what each step keeps holds at the end
-  place-keeps : (P : List ℕ → Type 0) → ((l : List ℕ) → P l → next n uses l < n → P (l ++ (next n uses l ∷ []))) → (k : ℕ) (l : List ℕ) → P l → P (place n uses k l)
+  place-keeps : (P : List ℕ → Type 0) → ((l : List ℕ) → P l → next n uses l < n → P (l ++ (next n uses l ∷ [])))
+      → (k : ℕ) (l : List ℕ) → P l → P (place n uses k l)
   unfolding place
   place-keeps P step zero l p = p
   place-keeps P step (suc k) l p =

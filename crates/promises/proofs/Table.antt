@@ -51,13 +51,14 @@ three64 = ofBits binary64 0x4008_0000_0000_0000
 abbrev fault : ℕ → ℕ → Place → Fault
 fault l c p = record { line = l; code = c; place = p }
 
--- a row: a text and its verdict, with the fault list or the records and the first lines of the ordered statements
+-- a row: a text, its verdict with the fault list or the records and the first lines of the ordered statements, and its listing
 pub record Row : Type 0 where
   pub text : String
-  pub wanted : Verdict
+  pub verdict : Verdict
+  pub listing : String
 
-abbrev row : String → Verdict → Row
-row t v = record { text = t; wanted = v }
+abbrev row : String → Verdict → String → Row
+row t v l = record { text = t; verdict = v; listing = l }
 
 -- the tank
 abbrev pub tank : String
@@ -83,52 +84,44 @@ tankRecords =
     ∷ rec 4 (Deriv 3)
     ∷ []
 
+-- the rows marked P, and the listing's second text
 unfoldable pub rows : List Row
 rows =
-    row "" (translated [] [])
-    ∷ row tank (translated tankRecords (3 ∷ 5 ∷ 4 ∷ []))
-    ∷ row "X=INTGRL(1,-X)" (translated (rec 1 (Initial 1 one64) ∷ rec 1 (Slot 1) ∷ rec 1 Neg ∷ rec 1 (Deriv 1) ∷ []) (1 ∷ []))
-    ∷ row "A=A+1" (faulty 7 (fault 1 24 at-start ∷ []))
-    ∷ row "A=B\nB=A\nC=1" (faulty 7 (fault 1 24 at-start ∷ fault 2 24 at-start ∷ []))
-    ∷ row "A=B\nB=A\nD=A" (faulty 7 (fault 1 24 at-start ∷ fault 2 24 at-start ∷ fault 3 24 at-start ∷ []))
-    ∷ row "CONST A=1,A=2" (faulty 7 (fault 1 21 at-start ∷ []))
-    ∷ row "X=INTGRL(Y,1)\nY=2" (faulty 7 (fault 1 23 at-start ∷ []))
-    ∷ row "A=1..." (faulty 5 (fault 1 11 at-end ∷ []))
-    ∷ row "A=3...\n*2" (translated (rec 1 (Value three64) ∷ rec 1 (Value two64) ∷ rec 1 Mul ∷ rec 1 (Store 1) ∷ []) (1 ∷ []))
-    ∷ row "ABCDEFG=1" (faulty 5 (fault 1 15 (at-token 0) ∷ []))
-    ∷ row "ABCDEF=1" (translated (rec 1 (Value one64) ∷ rec 1 (Store 1) ∷ []) (1 ∷ []))
+    row "" (translated [] []) "OK 0\n"
+    ∷ row tank (translated tankRecords (3 ∷ 5 ∷ 4 ∷ [])) "OK 15\n3\n5\n4\n"
+    ∷ row "* TANK\nPARAM K=2\nQ=K*\nH=INTGRL(1,F-Q)\nF=LIMIT(0,3,TIME)\n" (faulty 5 (fault 3 18 at-end ∷ [])) "NO 5\n3 18\n"
+    ∷ row "X=INTGRL(1,-X)" (translated (rec 1 (Initial 1 one64) ∷ rec 1 (Slot 1) ∷ rec 1 Neg ∷ rec 1 (Deriv 1) ∷ []) (1 ∷ [])) "OK 4\n1\n"
+    ∷ row "A=A+1" (faulty 7 (fault 1 24 at-start ∷ [])) "NO 7\n1 24\n"
+    ∷ row "A=B\nB=A\nC=1" (faulty 7 (fault 1 24 at-start ∷ fault 2 24 at-start ∷ [])) "NO 7\n1 24\n2 24\n"
+    ∷ row "A=B\nB=A\nD=A" (faulty 7 (fault 1 24 at-start ∷ fault 2 24 at-start ∷ fault 3 24 at-start ∷ [])) "NO 7\n1 24\n2 24\n3 24\n"
+    ∷ row "CONST A=1,A=2" (faulty 7 (fault 1 21 at-start ∷ [])) "NO 7\n1 21\n"
+    ∷ row "X=INTGRL(Y,1)\nY=2" (faulty 7 (fault 1 23 at-start ∷ [])) "NO 7\n1 23\n"
+    ∷ row "A=1..." (faulty 5 (fault 1 11 at-end ∷ [])) "NO 5\n1 11\n"
+    ∷ row "A=3...\n*2" (translated (rec 1 (Value three64) ∷ rec 1 (Value two64) ∷ rec 1 Mul ∷ rec 1 (Store 1) ∷ []) (1 ∷ [])) "OK 4\n1\n"
+    ∷ row "ABCDEFG=1" (faulty 5 (fault 1 15 (at-token 0) ∷ [])) "NO 5\n1 15\n"
+    ∷ row "ABCDEF=1" (translated (rec 1 (Value one64) ∷ rec 1 (Store 1) ∷ []) (1 ∷ [])) "OK 2\n1\n"
     ∷ []
 
--- with the room that the listing program lends
-abbrev pub verdict : Row → Verdict
-verdict r = verdictOf (bytes (r .text)) faultRoom programRoom
+-- a text's verdict, with the room that the listing program lends, and its listing
+pub record Shown : Type 0 where
+  pub verdict : Verdict
+  pub listing : List ℕ
 
--- THE TABLE. Each text has the verdict that stands beside it
-pub tried : map verdict rows ≡ map (λ (r : Row). r .wanted) rows
-unfolding rows verdictOf judged linesOf trimmed dotted passed after ended left reading partOf joined anyLong sizeFlaw told sheetOf concat-map
-    sameBytes numbers run count lowWord decimal digitsFrom exponentFrom tenTo scaled numberOf numberAt nameAt tokenAt cutAt named rowFrom rowOf
+abbrev pub shown : Row → Shown
+shown r = record { verdict = verdictOf (bytes (r .text)) faultRoom programRoom; listing = listing (bytes (r .text)) }
+
+abbrev pub wanted : Row → Shown
+wanted r = record { verdict = r .verdict; listing = bytes (r .listing) }
+
+-- THE TABLE. Each text has the verdict and the listing that stand beside it
+pub tried : map shown rows ≡ map wanted rows
+unfolding rows listing listed figuresIn verdictOf judged linesOf trimmed dotted passed after ended left reading partOf joined anyLong sizeFlaw told sheetOf
+    concat-map sameBytes numbers run count lowWord decimal digitsFrom exponentFrom tenTo scaled numberOf numberAt nameAt tokenAt cutAt named rowFrom rowOf
     names postfix next rest byteOf give-to shapeOf startOf bind parse signedNumber many initially assigned integrated statement entire readRow
     any chained all first ready nextReady place order placeIn again faults21 within modelFaults valueIn program ofBits ofInt mul div neg round
     units size climb span odd
 tried = refl
 
 -- row by row
-pub each-row : (r : Row) → List·Memᴰ r rows → verdict r ≡ r .wanted
-each-row = at-mem verdict (λ (r : Row). r .wanted) rows tried
-
--- THE LISTING, given whole: the tank's, and with its line 3 as `Q=K*`
-pub tank-listing : listing (bytes tank) ≡ bytes "OK 15\n3\n5\n4\n"
-unfolding figuresIn listed listing verdictOf judged linesOf trimmed dotted passed after ended left reading partOf joined anyLong sizeFlaw told sheetOf concat-map
-    sameBytes numbers run count lowWord decimal digitsFrom exponentFrom tenTo scaled numberOf numberAt nameAt tokenAt cutAt named rowFrom rowOf
-    names postfix next rest byteOf give-to shapeOf startOf bind parse signedNumber many initially assigned integrated statement entire readRow
-    any chained all first ready nextReady place order placeIn again faults21 within modelFaults valueIn program ofBits ofInt mul div neg round
-    units size climb span odd
-tank-listing = refl
-
-pub cut-listing : listing (bytes "* TANK\nPARAM K=2\nQ=K*\nH=INTGRL(1,F-Q)\nF=LIMIT(0,3,TIME)\n") ≡ bytes "NO 5\n3 18\n"
-unfolding figuresIn listed listing verdictOf judged linesOf trimmed dotted passed after ended left reading partOf joined anyLong sizeFlaw told sheetOf concat-map
-    sameBytes numbers run count lowWord decimal digitsFrom exponentFrom tenTo scaled numberOf numberAt nameAt tokenAt cutAt named rowFrom rowOf
-    names postfix next rest byteOf give-to shapeOf startOf bind parse signedNumber many initially assigned integrated statement entire readRow
-    any chained all first ready nextReady place order placeIn again faults21 within modelFaults valueIn program ofBits ofInt mul div neg round
-    units size climb span odd
-cut-listing = refl
+pub each-row : (r : Row) → List·Memᴰ r rows → shown r ≡ wanted r
+each-row = at-mem shown wanted rows tried
