@@ -4,3 +4,4 @@ pub mod Runs
 pub mod Counts
 pub mod Rising
 pub mod Places
+pub mod Put

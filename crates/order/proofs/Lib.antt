@@ -2,3 +2,9 @@ pub mod Dictionary
 pub mod Sorting
 pub mod Chains
 pub mod Theorems
+pub mod Tables
+pub mod Searches
+pub mod Marking
+pub mod Users
+pub mod Going
+pub mod Answers

@@ -168,7 +168,8 @@ module _ (n : ℕ) (uses : ℕ → ℕ → Bool) where
       rw (take-append-le p l (next n uses l ∷ []) le) (a p j g hj (rw (List·getD-append l (next n uses l ∷ []) 0 p g) at u)))
       (eq-or-lt-of-le {n = p} {m = length l} (omega (arith, length-append l (next n uses l ∷ []))))
 
-  place-length : (k : ℕ) (l : List ℕ) → length (place n uses k l) ≤ length l + k
+  -- no more are placed than tried
+  pub place-length : (k : ℕ) (l : List ℕ) → length (place n uses k l) ≤ length l + k
   unfolding place
   place-length zero l = omega arith
   place-length (suc k) l =

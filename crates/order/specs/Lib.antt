@@ -1,2 +1,5 @@
 pub mod Order
 pub mod Greedy
+pub mod Table
+pub mod Marks
+pub mod Answer

@@ -1,0 +1,150 @@
+-- Laws of marks and cursors.
+use mathlib.Core.Path.{_≡_, refl, sym, ap, _∙_}
+use mathlib.Core.Bool.{Bool, true, false, not, _||_}
+use mathlib.Core.Logic.{⊎-elim}
+use mathlib.Core.List.{List}
+use Prim.Native.Nat.{ℕ, _+_, _-_, _≤_, _<_}
+use native.Mathlib.Omega.{arith}
+use borrow.Author.Tests.{lt-ltb, le-ltb, le-leb, lt-leb, not-true, not-false}
+use lib.Dec.{leb}
+use lib.ListN.{length, getD, set, length-set, replicate, length-replicate, getD-replicate}
+use lib.Seq.{getD-set-same, getD-set-other}
+use Rattle.limits.specs.Limits.{mostStatements}
+use Rattle.laws.specs.Counts.{count, has}
+use Rattle.laws.proofs.Tests.{bool-cases, not-both, lt-or-ge, eq-or-ne}
+use Rattle.laws.proofs.Counts.{has-true}
+use Rattle.order.specs.Greedy.{first, ready}
+use Rattle.order.specs.Table.{usedOf, usesIn, Fit}
+use Rattle.order.specs.Marks.{marked, openAt, freeIn, readyIn, Cursors}
+use Rattle.order.proofs.Sorting.{all-true, all-intro, all-same, first-hit, first-before}
+use Rattle.order.proofs.Searches.{first-from}
+use Rattle.order.proofs.Tables.{in-part, part-place}
+
+-- an implication as a test
+implied : (a b : Bool) → (a ≡ true → b ≡ true) → (not a || b) ≡ true
+implied true b f = f refl
+implied false b f = refl
+
+-- any mark but 0 is one
+marked-yes : (m : List ℕ) (j : ℕ) → (getD m j 0 ≡ 0 → ⊥) → marked m j ≡ true
+marked-yes m j h = lt-ltb 0 (getD m j 0) (⊎-elim (λ e. absurd (h e)) (λ (e : getD m j 0 ≡ 0 → ⊥). omega arith) (eq-or-ne (getD m j 0) 0))
+
+-- 0 is none
+marked-no : (m : List ℕ) (j : ℕ) → getD m j 0 ≡ 0 → marked m j ≡ false
+marked-no m j e = le-ltb 0 (getD m j 0) (omega arith)
+
+-- ---- the statement j, which is used at place p
+module _ (u m : List ℕ) (p j : ℕ) (e : j ≡ getD u p 0) where
+  -- it is not marked
+  pub open-yes : getD m j 0 ≡ 0 → openAt u m p ≡ true
+  open-yes h = ap not (marked-no m (getD u p 0) (rw e at h))
+
+  -- it is
+  pub open-no : (getD m j 0 ≡ 0 → ⊥) → openAt u m p ≡ false
+  open-no h = ap not (marked-yes m (getD u p 0) (rw e at h))
+
+module _ (n : ℕ) (s u m : List ℕ) (i : ℕ) where
+  -- a marked statement is not ready
+  pub ready-marked : (getD m i 0 ≡ 0 → ⊥) → readyIn n s u m i ≡ false
+  unfolding readyIn
+  ready-marked h = rw (marked-yes m i h)
+
+  -- any other is, if all that it uses is marked
+  ready-unmarked : getD m i 0 ≡ 0 → readyIn n s u m i ≡ freeIn n s u m i
+  unfolding readyIn
+  ready-unmarked e = rw (marked-no m i e)
+
+  -- marks that say what is placed say what is ready
+  pub ready-same : (placed : List ℕ) → ((j : ℕ) → j < n → getD m j 0 ≡ count j placed) → i < n
+      → readyIn n s u m i ≡ ready n (usesIn s u) placed i
+  unfolding readyIn ready
+  ready-same placed e h =
+      let uses = usesIn s u i in
+      rw (e i h, all-same (λ j. not (uses j) || marked m j) (λ j. not (uses j) || has j placed) n n (omega arith) (λ j l. rw (e j l)))
+
+-- ---- the place that statement i's cursor moves to, and what it says
+module _ (n : ℕ) (s u m c : List ℕ) (t : Fit n s u) (g : Cursors n s u m c) (i : ℕ) (h : i < n) where
+  -- where the search begins
+  abbrev start : ℕ
+  start = getD s i 0 + getD c i 0
+
+  -- where the row ends
+  abbrev stop : ℕ
+  stop = getD s (i + 1) 0
+
+  -- the place
+  abbrev goal : ℕ
+  goal = first (openAt u m) (stop - start) start
+
+  -- each place of the row before it has a marked statement
+  before-goal : (p : ℕ) → getD s i 0 ≤ p → p < goal → openAt u m p ≡ false
+  before-goal p lo hi =
+      let e : getD s i 0 + (p - getD s i 0) ≡ p = omega arith in
+      ⊎-elim (λ w. rw e at (g .pass i (p - getD s i 0) h w)) (λ w. first-before (openAt u m) (stop - start) start p (omega arith) hi)
+      (lt-or-ge (p - getD s i 0) (getD c i 0))
+
+  -- before the end it has one that is not marked
+  goal-open : goal < stop → freeIn n s u m i ≡ false
+  goal-open l =
+      let x = getD u goal 0 in
+      let e = t .ends i h in
+      let w = first-hit (openAt u m) (stop - start) start (omega arith) in
+      let b = in-part (getD s i 0) stop u e goal (omega (arith, first-from (openAt u m) (stop - start) start)) l in
+      let no : freeIn n s u m i ≡ true → ⊥ = λ a.
+      let r = all-true n (λ j. not (usesIn s u i j) || marked m j) a x (t .below goal (omega arith)) in
+      not-both (rw (lt-ltb 0 (count x (usedOf s u i)) b) at r) (not-true (marked m x) w) in
+      ⊎-elim (λ a. absurd (no a)) (λ a. a) (bool-cases (freeIn n s u m i))
+
+  -- at the end all are marked
+  goal-end : stop ≤ goal → freeIn n s u m i ≡ true
+  goal-end l =
+      all-intro n _
+      (λ j k.
+      implied (usesIn s u i j) (marked m j)
+      (λ v.
+      let r = part-place (getD s i 0) stop u (t .ends i h) j (has-true j (usedOf s u i) v) in
+      rw (r .3) at (not-false (marked m (getD u (r .0) 0)) (before-goal (r .0) (r .1) (omega (arith, r .2))))))
+
+  -- so it says whether all that i uses is marked
+  goal-says : leb stop goal ≡ freeIn n s u m i
+  goal-says =
+      ⊎-elim (λ l. lt-leb stop goal l ∙ sym (goal-open l)) (λ l. le-leb stop goal l ∙ sym (goal-end l)) (lt-or-ge goal stop)
+
+  -- the cursor may move there
+  goal-moves : Cursors n s u m (set c i (goal - getD s i 0))
+  goal-moves =
+      let d = goal - getD s i 0 in
+      record {
+        size = length-set c i d ∙ g .size;
+        pass =
+            λ j e hj k.
+            ⊎-elim
+            (λ (q : j ≡ i).
+            let w : e < d = rw (q, getD-set-same c i d 0 (omega (arith, g .size, t .few))) at k in
+            rw q (before-goal (getD s i 0 + e) (omega arith) (omega arith)))
+            (λ q. g .pass j e hj (rw (getD-set-other c i j d 0 q) at k)) (eq-or-ne j i);
+      }
+
+  -- what `test` works out: whether i is ready, and where its cursor stands then
+  pub tested : (a b d k : ℕ) → a ≡ getD s i 0 → b ≡ stop → d ≡ getD c i 0 → k ≡ first (openAt u m) (b - (a + d)) (a + d) → getD m i 0 ≡ 0
+      → (leb b k ≡ readyIn n s u m i) × Cursors n s u m (set c i (k - a))
+  tested a b d k ea eb ed ek z = rw (ek, ea, eb, ed) (goal-says ∙ sym (ready-unmarked n s u m i z), goal-moves)
+
+-- one mark more
+pub cursors-mark : (n : ℕ) (s u m c : List ℕ) → Cursors n s u m c → (i : ℕ) → i < length m → Cursors n s u (set m i 1) c
+cursors-mark n s u m c g i l =
+    record {
+      size = g .size;
+      pass =
+          λ j d hj k.
+          let x = getD u (getD s j 0 + d) 0 in
+          ⊎-elim (λ (e : x ≡ i). rw (e, getD-set-same m i 1 0 l)) (λ e. rw (getD-set-other m i x 1 0 e) (g .pass j d hj k)) (eq-or-ne x i);
+    }
+
+-- at the start no cursor has moved
+pub cursors-none : (n : ℕ) (s u m : List ℕ) → n ≤ mostStatements → Cursors n s u m (replicate mostStatements 0)
+cursors-none n s u m f =
+    record {
+      size = length-replicate {A = ℕ} mostStatements 0;
+      pass = λ i d h k. absurd (omega (arith, getD-replicate {A = ℕ} mostStatements i 0 0 (omega arith)));
+    }

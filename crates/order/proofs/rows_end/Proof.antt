@@ -1,0 +1,77 @@
+-- The loop goes from the last row down: all rows end inside exactly if the first i do.
+use mathlib.Core.Path.{_≡_, sym, _∙_}
+use Prim.Native.Nat.{_+_, _-_, _≤_}
+use native.Mathlib.Omega.{arith}
+use borrow.Author.Tests.{le-leb, lt-leb}
+use borrow.Author.Needs.{needs}
+use lib.ListN.{getD}
+use Rattle.order.specs.Greedy.{all}
+use Rattle.order.specs.Table.{endsIn}
+use Rattle.order.proofs.Tables.{all-stop, all-pass, all-done}
+use Rattle.order.proofs.rows_end.Statement.{statement}
+use Rattle.order.proofs.rows_end.Tie as tie
+
+abbrev Inv-loop : tie.InvT-loop
+Inv-loop n starts size i₀ i = (i ≤ n) × (all n (endsIn starts size) ≡ all i (endsIn starts size))
+
+abbrev μ-loop : tie.MeasureT-loop
+μ-loop n starts size i₀ i = i
+
+loop-holds : tie.Need-loop-holds Inv-loop μ-loop
+loop-holds c = search needs
+
+sub-i : tie.Need-sub-i Inv-loop μ-loop
+sub-i c = search needs
+
+add-wide : tie.Need-add-wide Inv-loop μ-loop
+add-wide c = search needs
+
+mul-wide : tie.Need-mul-wide Inv-loop μ-loop
+mul-wide c = search needs
+
+shared-slice-read-wide : tie.Need-shared-slice-read-wide Inv-loop μ-loop
+shared-slice-read-wide c = search needs
+
+wide-requires : tie.Need-wide-requires Inv-loop μ-loop
+wide-requires c κs = search needs
+
+returns : tie.Need-returns Inv-loop μ-loop
+returns c =
+    let l = c .before .before .before .before .loop in
+    let s = c .before .before .before .before .before .before .args in
+    let e = getD (s .starts .now) (l .i - 1 + 1) 0 in
+    let w = c .before .wide .ensures .0 in
+    sym (l .inv .1 ∙ all-stop (endsIn (s .starts .now) (s .size)) (l .i) (omega arith) (lt-leb e (s .size) (omega arith)))
+
+loop-less : tie.Need-loop-less Inv-loop μ-loop
+loop-less c = search needs
+
+loop-again : tie.Need-loop-again Inv-loop μ-loop
+loop-again c =
+    let l = c .before .before .before .before .loop in
+    let s = c .before .before .before .before .before .before .args in
+    let e = getD (s .starts .now) (l .i - 1 + 1) 0 in
+    let w = c .before .wide .ensures .0 in
+    (omega arith, l .inv .1 ∙ all-pass (endsIn (s .starts .now) (s .size)) (l .i) (omega arith) (le-leb e (s .size) (omega arith)))
+
+returns-2 : tie.Need-returns-2 Inv-loop μ-loop
+returns-2 c =
+    let l = c .before .loop in
+    sym (l .inv .1 ∙ all-done _ (l .i) (c .loop-test .left))
+
+pub rows-end-spec : {M : Type 1} → statement M
+rows-end-spec =
+    tie.close
+    (tie.spec
+    Inv-loop
+    μ-loop
+    loop-holds
+    sub-i
+    add-wide
+    mul-wide
+    shared-slice-read-wide
+    wide-requires
+    returns
+    loop-less
+    loop-again
+    returns-2)
