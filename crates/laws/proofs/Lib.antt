@@ -5,3 +5,7 @@ pub mod Runs
 pub mod Sets
 pub mod Rising
 pub mod Lists
+pub mod Concats
+pub mod Along
+pub mod Members
+pub mod Sums

@@ -41,7 +41,7 @@ said-rises b (r ∷ rs) h = go (r .what) (said-rises (suc (r .line)) rs (h .1))
     go (faulty c p) k = rising-le (suc (r .line)) b (numbersOf (said rs)) k (omega (arith, h .0))
 
 -- ---- constants give no equation, an assignment or a state statement gives one
-no-equations : (l : ℕ) (cs : List Constant) → equations (definedBy l (constants cs)) ≡ []
+pub no-equations : (l : ℕ) (cs : List Constant) → equations (definedBy l (constants cs)) ≡ []
 unfolding concat-map
 no-equations l [] = refl
 no-equations l (c ∷ cs) = no-equations l cs

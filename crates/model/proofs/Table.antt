@@ -1,0 +1,116 @@
+-- The table of uses, of any arrays: one that can be ordered.
+use Prim.Native.Nat.{ℕ, suc, _+_, _≤_, _<_}
+use mathlib.Core.Path.{_≡_, refl, ap, _∙_}
+use mathlib.Core.List.{List, [], _∷_, _++_}
+use native.Mathlib.Nat.{zero-add}
+use native.Mathlib.Omega.{arith}
+use lib.Dec.{eqb}
+use lib.ListN.{length, getD, take, drop, length-append, length-map, take-append-drop}
+use lib.Seq.{slice, split-at, length-take-le, take-length}
+use Rattle.laws.specs.Lists.{concat-map}
+use Rattle.laws.specs.Counts.{count}
+use Rattle.laws.proofs.Tests.{cond-ind}
+use Rattle.laws.proofs.Lists.{concat-append}
+use Rattle.laws.proofs.Along.{startsAt, length-starts, start-at, end-at, part-at}
+use Rattle.laws.proofs.Members.{at-in, Below, below-concat, below-gather, below-only}
+use Rattle.model.specs.Definitions.{placeIn}
+use Rattle.model.specs.Places.{assignedSlot, assignedSlots, usedBy, usedAt, usedOfRow, usedIn, startsFrom}
+
+-- the starts are where each row's uses begin
+starts-at : (o : ℕ) (assigned bounds kinds slots rows : List ℕ)
+    → startsFrom o assigned bounds kinds slots rows ≡ startsAt (usedOfRow assigned bounds kinds slots) o rows
+unfolding startsFrom startsAt
+starts-at o assigned bounds kinds slots [] = refl
+starts-at o assigned bounds kinds slots (j ∷ rows) =
+    ap (_∷_ o) (starts-at (o + length (usedOfRow assigned bounds kinds slots j)) assigned bounds kinds slots rows)
+
+-- the uses of all rows
+used-at : (assigned bounds kinds slots rows : List ℕ)
+    → usedIn assigned bounds kinds slots rows ≡ concat-map (usedOfRow assigned bounds kinds slots) rows
+unfolding usedIn concat-map
+used-at assigned bounds kinds slots [] = refl
+used-at assigned bounds kinds slots (j ∷ rows) = ap (λ r. usedOfRow assigned bounds kinds slots j ++ r) (used-at assigned bounds kinds slots rows)
+
+module _ (bounds kinds slots rows : List ℕ) where
+  abbrev pub assignedOf : List ℕ
+  assignedOf = assignedSlots rows bounds kinds slots
+
+  -- what statement j uses
+  abbrev pub usesOf : ℕ → List ℕ
+  usesOf j = usedOfRow assignedOf bounds kinds slots j
+
+  -- the table: the uses of all equations, and where each begins
+  abbrev pub tableOf : List ℕ
+  tableOf = usedIn assignedOf bounds kinds slots rows
+
+  abbrev pub startsOf : List ℕ
+  startsOf = startsFrom 0 assignedOf bounds kinds slots rows
+
+  -- what the table says that equation i uses
+  abbrev pub usedOf : ℕ → List ℕ
+  usedOf i = slice (getD startsOf i 0) (getD startsOf (i + 1) 0) tableOf
+
+  starts-eq : startsOf ≡ startsAt usesOf 0 rows
+  starts-eq = starts-at 0 assignedOf bounds kinds slots rows
+
+  table-eq : tableOf ≡ concat-map usesOf rows
+  table-eq = used-at assignedOf bounds kinds slots rows
+
+  -- each that is used is one of the equations
+  pub used-few : Below (length rows) tableOf
+  unfolding count
+  used-few =
+      let n = length assignedOf in
+      let b = below-concat n usesOf (λ j. below-gather n (usedAt assignedOf kinds slots) one _ _) rows in
+      rw (table-eq, ← (length-map rows (assignedSlot bounds kinds slots))) b
+    where
+      one : (i : ℕ) → Below (length assignedOf) (usedAt assignedOf kinds slots i)
+      one i =
+          cond-ind (Below (length assignedOf)) (eqb (getD kinds i 0) 4) (usedBy assignedOf (getD slots i 0)) []
+          (λ t. below-only (length assignedOf) (placeIn (getD slots i 0) assignedOf)) (λ t j h. absurd (omega arith))
+
+  -- the same by place
+  pub used-few-at : (k : ℕ) → k < length tableOf → getD tableOf k 0 < length rows
+  used-few-at k h = used-few (getD tableOf k 0) (at-in tableOf k h)
+
+  -- one start for each equation, and one more
+  pub starts-many : length startsOf ≡ suc (length rows)
+  starts-many = rw starts-eq (length-starts usesOf 0 rows)
+
+  -- where the uses of a row begin: behind all before it
+  start-of : (i : ℕ) → i ≤ length rows → getD startsOf i 0 ≡ length (concat-map usesOf (take i rows))
+  start-of i h =
+      let l : length (take i rows) ≡ i = length-take-le i rows h in
+      let s = start-at usesOf 0 (take i rows) (drop i rows) in
+      rw starts-eq (rw (take-append-drop i rows, l) at s ∙ zero-add _)
+
+  -- the starts end at the table's length
+  pub starts-last : getD startsOf (length rows) 0 ≡ length tableOf
+  starts-last = rw table-eq (start-of (length rows) (omega arith) ∙ ap (λ l. length (concat-map usesOf l)) (take-length rows))
+
+  -- none is past it
+  pub starts-inside : (i : ℕ) → i ≤ length rows → getD startsOf i 0 ≤ length tableOf
+  starts-inside i h =
+      let x = concat-map usesOf (take i rows) in
+      let y = concat-map usesOf (drop i rows) in
+      let d : concat-map usesOf rows ≡ x ++ y = rw (take-append-drop i rows) at (concat-append usesOf (take i rows) (drop i rows)) in
+      rw (table-eq, start-of i h, d) (omega (arith, length-append x y))
+
+  module _ (i : ℕ) (h : i < length rows) where
+    row-split : rows ≡ take i rows ++ getD rows i 0 ∷ drop (suc i) rows
+    row-split = split-at rows i 0 h
+
+    front : length (take i rows) ≡ i
+    front = length-take-le i rows (omega arith)
+
+    -- the starts ascend
+    pub starts-ascend : getD startsOf i 0 ≤ getD startsOf (i + 1) 0
+    starts-ascend =
+        let x = length (concat-map usesOf (take i rows)) in
+        let e : getD (startsAt usesOf 0 rows) (i + 1) 0 ≡ 0 + x + length (usesOf (getD rows i 0)) =
+        rw (← row-split, front) at (end-at usesOf 0 (take i rows) (getD rows i 0) (drop (suc i) rows)) in
+        omega (arith, start-of i (omega arith), ap (λ l. getD l (i + 1) 0) starts-eq, e)
+
+    -- what the table says of a row is what its statement uses
+    pub table-row : usedOf i ≡ usesOf (getD rows i 0)
+    table-row = rw (starts-eq, table-eq) (rw (← row-split, front) at (part-at usesOf (take i rows) (getD rows i 0) (drop (suc i) rows)))

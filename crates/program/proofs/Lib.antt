@@ -1,0 +1,4 @@
+pub mod Steps
+pub mod Settings
+pub mod Counts
+pub mod Meant

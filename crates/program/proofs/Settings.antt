@@ -1,0 +1,178 @@
+-- The settings of constants and states: their records as they are written.
+use Prim.Native.Nat.{ℕ, suc, _+_}
+use mathlib.Core.Path.{_≡_, refl, sym, ap, ap₂, _∙_}
+use mathlib.Core.Bool.{true, cond}
+use mathlib.Core.Logic.{⊎-elim}
+use mathlib.Core.List.{List, [], _∷_, _++_}
+use native.Mathlib.Nat.{add-zero}
+use native.Mathlib.Omega.{arith}
+use borrow.Author.Tests.{eq-eqb, ne-eqb}
+use lib.Dec.{eqb}
+use lib.ListN.{length, getD, drop, length-map}
+use lib.Seq.{getD-drop}
+use lib.Ieee.{Float, binary64, toBits}
+use Rattle.laws.specs.Lists.{concat-map}
+use Rattle.laws.specs.Counts.{count, _∈_}
+use Rattle.laws.specs.Places.{gather}
+use Rattle.laws.proofs.Tests.{eq-or-ne, not-both}
+use Rattle.laws.proofs.Counts.{once-other}
+use Rattle.laws.proofs.Concats.{concat-concat}
+use Rattle.laws.proofs.Along.{along, gather-over}
+use Rattle.laws.proofs.Members.{in-has}
+use Rattle.grammar.specs.Tree.{plain, from, Says, constants, assignment, state}
+use Rattle.grammar.specs.Drafts.{Draft, draft, initialDraft, draftsOf}
+use Rattle.sheet.specs.Sheet.{Numbered}
+use Rattle.sheet.specs.Layout.{draftsIn}
+use Rattle.records.specs.Record.{Rec, recBytes}
+use Rattle.model.specs.Definitions.{What, constant, assigned, integral, Def, definedBy, definitions, keys, placeIn, slotIn}
+use Rattle.model.specs.Faults.{constantKeys, nameFaults}
+use Rattle.model.specs.Places.{homeOf}
+use Rattle.model.proofs.Drafts.{noDraft, Plain, along-expression, Home, homeOfWhat}
+use Rattle.model.proofs.Walk.{sheetKinds, sheetLines, sheetBounds, sheetKeys, sheetSlots, sheetPlaces, slotOf, kind-at, slot-at, draftsBy, line-at}
+use Rattle.model.proofs.Walk.{along-statement}
+use Rattle.model.proofs.Slots.{Once, isConstant, definitionOf, definition-first, definition-later, constant-at}
+use Rattle.model.proofs.Doubles.{definedIn, homeAt}
+use Rattle.model.proofs.Names.{home-of}
+use Rattle.model.proofs.Clean.{initial-known}
+use Rattle.program.specs.Program.{constantValue, valueIn, initialValue, constantRecs, initialRecs}
+use Rattle.program.specs.Written.{fieldBytes, settingAt, settingsOf}
+
+-- the value of a constant is the one of its definition
+value-of : (ds : List Def) (k : ℕ) (x : Float) → k ∈ keys ds → definitionOf ds k .what ≡ constant x → valueIn ds k ≡ x
+unfolding valueIn count
+value-of [] k x h e = absurd (omega arith)
+value-of (d ∷ ds) k x h e =
+    ⊎-elim (λ (q : k ≡ d .key). first q)
+    (λ q. later q (d .what) ∙ value-of ds k x (omega (arith, once-other k (d .key) q)) (rw (definition-later d ds k q) at e)) (eq-or-ne k (d .key))
+  where
+    first : k ≡ d .key → constantValue k (d .key) (d .what) (valueIn ds k) ≡ x
+    first q =
+        let w : d .what ≡ constant x = sym (ap (λ (y : Def). y .what) (definition-first d ds k q)) ∙ e in
+        rw (w, eq-eqb k (d .key) q)
+
+    later : (k ≡ d .key → ⊥) → (w : What) → constantValue k (d .key) w (valueIn ds k) ≡ valueIn ds k
+    later q (constant y) = rw (ne-eqb k (d .key) q)
+    later q (assigned t) = refl
+    later q (integral i t) = refl
+
+-- what is a constant has a value
+constant-what : (w : What) → isConstant w ≡ true → (x : Float) × (w ≡ constant x)
+constant-what (constant x) e = (x, refl)
+constant-what (assigned t) e = absurd (not-both e refl)
+constant-what (integral i t) e = absurd (not-both e refl)
+
+module _ (ss : List Numbered) where
+  abbrev ds : List Def
+  ds = definitions ss
+
+  abbrev ks : List ℕ
+  ks = sheetKeys ss
+
+  -- the settings of a phase of statement j
+  abbrev settingsIn : ℕ → ℕ → List ℕ
+  settingsIn phase j = settingsOf phase (sheetPlaces ss) (sheetLines ss) (sheetBounds ss) (sheetKinds ss) (sheetSlots ss) j
+
+  -- the setting of place i, with the line l
+  abbrev settingIn : ℕ → ℕ → ℕ → List ℕ
+  settingIn phase l i = settingAt phase (sheetPlaces ss) (sheetKinds ss) (sheetSlots ss) l i
+
+  -- the value of a draft behind a constant or an initial
+  abbrev valueOf : Draft → ℕ
+  valueOf d = cond (eqb (d .kind) 16) (getD (sheetSlots ss) (homeOf (sheetPlaces ss) (slotOf ks d) + 1) 0) (slotOf ks d)
+
+  -- the setting of a draft with all that stands behind it
+  abbrev settingOf : ℕ → ℕ → List Draft → List ℕ
+  settingOf phase l x =
+      cond (eqb (getD x 0 noDraft .kind) phase) (fieldBytes phase (slotOf ks (getD x 0 noDraft)) l (valueOf (getD x 1 noDraft))) []
+
+  setting-at : (phase l i : ℕ) → settingIn phase l i ≡ settingOf phase l (drop i (draftsIn ss))
+  setting-at phase l i =
+      rw (getD-drop i (draftsIn ss) 0 noDraft, getD-drop i (draftsIn ss) 1 noDraft, add-zero i)
+      (rw (kind-at (draftsIn ss) i, slot-at ks (draftsIn ss) i, kind-at (draftsIn ss) (i + 1), slot-at ks (draftsIn ss) (i + 1)))
+
+  -- of a statement
+  settings-at : (phase : ℕ) (a : List Numbered) (s : Numbered) (b : List Numbered) → ss ≡ a ++ s ∷ b
+      → settingsIn phase (length a) ≡ along (settingOf phase (s .line)) (draftsBy s) (draftsIn b)
+  settings-at phase a s b p =
+      rw (line-at ss a s b p) (along-statement ss a s b p (settingIn phase (s .line)) (settingOf phase (s .line)) (setting-at phase (s .line)))
+
+  -- statement by statement, where each writes the records f of its definitions
+  settings-of : (phase : ℕ) (f : Def → List Rec)
+      → ((a : List Numbered) (s : Numbered) (b : List Numbered) → ss ≡ a ++ s ∷ b
+      → settingsIn phase (length a) ≡ concat-map recBytes (concat-map f (definedIn s)))
+      → gather (settingsIn phase) (length (sheetLines ss)) 0 ≡ concat-map recBytes (concat-map f ds)
+  settings-of phase f e =
+      rw (length-map ss (λ (s : Numbered). s .line))
+      (gather-over (settingsIn phase) (λ s. concat-map recBytes (concat-map f (definedIn s))) ss e
+      ∙ sym (ap (concat-map recBytes) (concat-concat f definedIn ss) ∙ concat-concat recBytes (λ s. concat-map f (definedIn s)) ss))
+
+  -- ---- constants: plain drafts have no setting
+  constant-none : (l k a : ℕ) (x : List Draft) → Plain k → settingOf 1 l (draft k a ∷ x) ≡ []
+  constant-none l k a x p = rw (p .2)
+
+  -- a statement has those of its constants
+  constant-settings : (l : ℕ) (x : Says) (q : List Draft)
+      → along (settingOf 1 l) (draftsOf x) q ≡ concat-map recBytes (concat-map (λ (d : Def). constantRecs ds d (d .what)) (definedBy l x))
+  unfolding along concat-map recBytes
+  constant-settings l (constants []) q = refl
+  constant-settings l (constants (c ∷ cs)) q =
+      ap (λ r. fieldBytes 1 (slotIn ds (c .key)) l (toBits binary64 (c .worth)) ++ r) (constant-settings l (constants cs) q)
+  constant-settings l (assignment k t) q = along-expression (settingOf 1 l) (constant-none l) t (draft 13 k) q
+  constant-settings l (state k (plain x) t) q = along-expression (settingOf 1 l) (constant-none l) t (draft 14 k) q
+  constant-settings l (state k (from c) t) q = along-expression (settingOf 1 l) (constant-none l) t (draft 14 k) q
+
+  -- KIND 1, in text order
+  pub constants-of : gather (settingsIn 1) (length (sheetLines ss)) 0
+      ≡ concat-map recBytes (concat-map (λ (d : Def). constantRecs ds d (d .what)) ds)
+  constants-of =
+      settings-of 1 (λ (d : Def). constantRecs ds d (d .what))
+      (λ a s b p. settings-at 1 a s b p ∙ constant-settings (s .line) (s .says) (draftsIn b))
+
+  -- ---- states: plain drafts have no setting
+  initial-none : (l k a : ℕ) (x : List Draft) → Plain k → settingOf 2 l (draft k a ∷ x) ≡ []
+  initial-none l k a x p = rw (p .3)
+
+  -- the value behind an initial, if the statement has one, is the initial's
+  abbrev Valued : Says → Type 0
+  Valued (constants cs) = Unit {0}
+  Valued (assignment k t) = Unit {0}
+  Valued (state k i t) = valueOf (initialDraft i) ≡ toBits binary64 (initialValue ds i)
+
+  -- a statement has that of its state
+  initial-settings : (l : ℕ) (x : Says) → Valued x → (q : List Draft)
+      → along (settingOf 2 l) (draftsOf x) q ≡ concat-map recBytes (concat-map (λ (d : Def). initialRecs ds d (d .what)) (definedBy l x))
+  unfolding along concat-map recBytes
+  initial-settings l (constants []) v q = refl
+  initial-settings l (constants (c ∷ cs)) v q = initial-settings l (constants cs) tt q
+  initial-settings l (assignment k t) v q = along-expression (settingOf 2 l) (initial-none l) t (draft 13 k) q
+  initial-settings l (state k (plain x) t) v q =
+      ap₂ (λ n r. fieldBytes 2 (slotIn ds k) l n ++ r) v (along-expression (settingOf 2 l) (initial-none l) t (draft 14 k) q)
+  initial-settings l (state k (from c) t) v q =
+      ap₂ (λ n r. fieldBytes 2 (slotIn ds k) l n ++ r) v (along-expression (settingOf 2 l) (initial-none l) t (draft 14 k) q)
+
+  -- ---- where names stand once and there is no 22 and no 23
+  module _ (distinct : Once ks) (clean : nameFaults ds ds ≡ []) where
+    -- behind a name's home stands the value of its constant
+    named-value : (c : ℕ) → c ∈ ks → c ∈ constantKeys ds → valueOf (draft 16 c) ≡ toBits binary64 (valueIn ds c)
+    named-value c h m =
+        let at = homeOf (sheetPlaces ss) (suc (placeIn c ks)) in
+        let d = definitionOf ds c in
+        let w = constant-what (d .what) (sym (constant-at ds distinct c h) ∙ in-has c (constantKeys ds) m) in
+        let e : homeAt ss at ≡ homeOfWhat (d .key) (constant (w .0)) = home-of ss c h ∙ ap (homeOfWhat (d .key)) (w .1) in
+        let k : getD (draftsIn ss) at noDraft .kind ≡ 1 = ap (λ (x : Home). x .own .kind) e in
+        let b : getD (draftsIn ss) (at + 1) noDraft ≡ draft 0 (toBits binary64 (w .0)) = rw k at (ap (λ (x : Home). x .behind) e) in
+        slot-at ks (draftsIn ss) (at + 1) ∙ ap (slotOf ks) b ∙ ap (toBits binary64) (sym (value-of ds c (w .0) h (w .1)))
+
+    -- so each initial has its value
+    valued : (a : List Numbered) (s : Numbered) (b : List Numbered) → ss ≡ a ++ s ∷ b → (x : Says) → s .says ≡ x → Valued x
+    valued a s b p (constants cs) e = tt
+    valued a s b p (assignment k t) e = tt
+    valued a s b p (state k (plain x) t) e = refl
+    valued a s b p (state k (from c) t) e = let r = initial-known ss a s b p ds clean k c t e in named-value c (r .0) (r .1)
+
+    -- KIND 2, in text order
+    pub initials-of : gather (settingsIn 2) (length (sheetLines ss)) 0
+        ≡ concat-map recBytes (concat-map (λ (d : Def). initialRecs ds d (d .what)) ds)
+    initials-of =
+        settings-of 2 (λ (d : Def). initialRecs ds d (d .what))
+        (λ a s b p. settings-at 2 a s b p ∙ initial-settings (s .line) (s .says) (valued a s b p (s .says) refl) (draftsIn b))
