@@ -2,7 +2,7 @@
 use Prim.Native.Nat.{ℕ, zero, suc, zero-le, _+_, _-_, _*_, _/_, _%_, _^_, _≤_, _<_, min}
 use mathlib.Core.Path.{_≡_, refl, sym, ap, ap₂, _∙_}
 use mathlib.Core.Logic.{⊎-elim}
-use mathlib.Core.List.{List, [], _∷_}
+use mathlib.Core.List.{List, _∷_}
 use native.Mathlib.Nat.{add-zero, sub-zero, pow-suc, pow-le-pow-right, lt-of-lt-of-le, div-lt-iff-lt-mul}
 use native.Mathlib.Omega.{arith}
 use lib.Dec.{T, lit<}
@@ -20,12 +20,14 @@ pub record Reading (s : List ℕ) (m i word : ℕ) : Type 0 where
   pub value : word ≡ lowWord (drop i (take m s))
   pub small : word < 256 ^ (m - i)
 
+-- at the end of the bytes nothing is read
 pub reading-first : (s : List ℕ) (m i : ℕ) → i ≡ min (length s) m → Reading s m i 0
 unfolding lowWord
 reading-first s m i e =
     let h : length (take m s) ≤ i = omega (arith, length-take m s) in
     record { within = omega arith; value = rw (drop-of-length-le (take m s) h); small = lt-of-lt-of-le (lit< tt) (pow-le-pow-right (lit< tt) zero-le) }
 
+-- one byte more, below those that are read
 pub reading-next : (s : List ℕ) (m i word b : ℕ) → 0 < i → b ≡ getD s (i - 1) 0 → b < 256 → Reading s m i word
     → Reading s m (i - 1) (b + 256 * word)
 unfolding lowWord
@@ -42,6 +44,7 @@ reading-next s m i word b p e h r =
 pub reading-fits : (s : List ℕ) (m i word : ℕ) → m ≤ 8 → 0 < i → Reading s m i word → word < 256 ^ 7
 reading-fits s m i word h p r = let e : m - i ≤ 7 = omega arith in lt-of-lt-of-le (r .small) (pow-le-pow-right (lit< tt) e)
 
+-- at the front all are read
 pub reading-last : (s : List ℕ) (m i word : ℕ) → i ≤ 0 → Reading s m i word → (word ≡ lowWord (take m s)) × (word < 256 ^ m)
 reading-last s m i word h r =
     let z : i ≡ 0 = omega arith in
@@ -53,9 +56,11 @@ pub record Writing (l₀ l : List ℕ) (at n v rest i : ℕ) : Type 0 where
   pub long : length l ≡ length l₀
   pub left : sets l (at + i) (lowBytes (n - i) rest) ≡ sets l₀ at (lowBytes n v)
 
+-- at the front all are left
 pub writing-first : (l : List ℕ) (at n v : ℕ) → Writing l l at n v v 0
 writing-first l at n v = record { long = refl; left = simp (add-zero, sub-zero) }
 
+-- one byte more is written
 pub writing-next : (l₀ l : List ℕ) (at n v rest i : ℕ) → i < n → Writing l₀ l at n v rest i
     → Writing l₀ (set l (at + i) (rest % 256)) at n v (rest / 256) (i + 1)
 unfolding lowBytes

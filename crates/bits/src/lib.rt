@@ -1,7 +1,7 @@
 // Fields of a record: numbers as bytes, low first, and floats as their bits.
 ghost use mathlib.Core.Path.{_≡_};
 ghost use Prim.Native.Nat.{_-_, _<_, _^_, min};
-ghost use lib.ListN.{length, take};
+ghost use lib.ListN.{take};
 ghost use lib.Seq.{sets};
 ghost use lib.Ieee.{binary64, toBits, ofBits};
 ghost use Rattle.bits.specs.Low.{lowBytes, lowWord};

@@ -1,2 +1,9 @@
 pub mod Local
 pub mod Rising
+pub mod Bytes
+pub mod Whole
+pub mod Steps
+pub mod Tallies
+pub mod Parts
+pub mod Writes
+pub mod Linked

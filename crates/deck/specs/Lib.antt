@@ -3,3 +3,6 @@ pub mod Reading
 pub mod Reports
 pub mod Joined
 pub mod Faults
+pub mod Next
+pub mod Codes
+pub mod Survey

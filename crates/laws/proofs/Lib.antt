@@ -9,3 +9,4 @@ pub mod Concats
 pub mod Along
 pub mod Members
 pub mod Sums
+pub mod Copies

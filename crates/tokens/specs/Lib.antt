@@ -4,3 +4,6 @@ pub mod Token
 pub mod Symbol
 pub mod Row
 pub mod Held
+pub mod Capped
+pub mod Steps
+pub mod Written

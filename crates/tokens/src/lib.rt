@@ -1,4 +1,18 @@
 // Tokens: a name, a mark, or a number with its float value.
+ghost use mathlib.Core.Path.{_≡_};
+ghost use mathlib.Core.Bool.{_||_};
+ghost use Prim.Native.Nat.{_+_, _*_, _-_, _≤_, min};
+ghost use lib.ListN.{length, getD};
+ghost use Rattle.laws.specs.Lists.{sameBytes};
+ghost use Rattle.limits.specs.Limits.{nameBytes, mostTens};
+ghost use Rattle.tokens.specs.Bytes.{isDigit, isLetter, isPoint, isWord, isMark, spacesAt, wordAt};
+ghost use Rattle.tokens.specs.Number.{tenTo, numberOf, digitsFrom, signEnd, exponentFrom};
+ghost use Rattle.tokens.specs.Token.{badAt, numberAt, nameAt, cutAt};
+ghost use Rattle.tokens.specs.Symbol.{named};
+ghost use Rattle.tokens.specs.Held.{kindOf};
+ghost use Rattle.tokens.specs.Capped.{cap, decimalAt, capped, powerOf};
+ghost use Rattle.tokens.specs.Steps.{heldAs, stepAt};
+ghost use Rattle.tokens.specs.Written.{Written};
 
 // A name's place and length, a mark's byte, a number's value; the end of the text; a bad token's code.
 pub enum Token {
@@ -14,4 +28,563 @@ pub struct Cut {
     pub token: Token,
     pub at: usize,
     pub next: usize,
+}
+
+// ---- bytes
+
+// The byte at a place; 0 past the end.
+fn byte_at(body: &[u8], i: usize) -> u8
+    ensures { λ r. ⌜ r ≡ getD (now (body .entry)) i 0 ⌝ }
+{
+    if i < body.len() { body[i] } else { 0 }
+}
+
+// 0 to 9.
+fn is_digit(b: u8) -> bool
+    ensures { λ r. ⌜ r ≡ isDigit b ⌝ }
+{
+    48 <= b && b <= 57
+}
+
+// A to Z.
+fn is_letter(b: u8) -> bool
+    ensures { λ r. ⌜ r ≡ isLetter b ⌝ }
+{
+    65 <= b && b <= 90
+}
+
+// What a name goes on with.
+fn is_word(b: u8) -> bool
+    ensures { λ r. ⌜ r ≡ isWord b ⌝ }
+{
+    is_letter(b) || is_digit(b)
+}
+
+// What a number begins with.
+fn is_figure(b: u8) -> bool
+    ensures { λ r. ⌜ r ≡ (isDigit b || isPoint b) ⌝ }
+{
+    is_digit(b) || b == 46
+}
+
+// What may not stand directly after a number.
+fn is_tail(b: u8) -> bool
+    ensures { λ r. ⌜ r ≡ (isWord b || isPoint b) ⌝ }
+{
+    is_word(b) || b == 46
+}
+
+// / = ( ) * + , -
+fn is_mark(b: u8) -> bool
+    ensures { λ r. ⌜ r ≡ isMark b ⌝ }
+{
+    if b == 47 {
+        return true;
+    }
+    if b == 61 {
+        return true;
+    }
+    40 <= b && b <= 45
+}
+
+// The place behind the spaces from a place on.
+fn past_spaces(body: &[u8], from: usize) -> usize
+    ensures { λ r. ⌜ r ≡ from + length (spacesAt (now (body .entry)) from) ⌝ }
+{
+    let mut i = from;
+    while byte_at(body, i) == 32 {
+        i += 1;
+    }
+    i
+}
+
+// The place behind the letters and digits from a place on.
+fn past_word(body: &[u8], from: usize) -> usize
+    ensures { λ r. ⌜ r ≡ from + length (wordAt (now (body .entry)) from) ⌝ }
+{
+    let mut i = from;
+    while is_word(byte_at(body, i)) {
+        i += 1;
+    }
+    i
+}
+
+// ---- numbers
+
+// A number read from digits, and the place behind them.
+struct Decimal {
+    value: u64,
+    end: usize,
+}
+
+// One more digit behind a number; what is too large stays at one more than the most.
+fn with_digit(v: u64, b: u8) -> u64
+    requires { ⌜ v ≤ cap ⌝ }
+    ensures { λ r. ⌜ r ≡ min cap (v * 10 + (b - 48)) ⌝ }
+{
+    let d = if 48 <= b { b - 48 } else { 0 };
+    let w = v * 10 + d as u64;
+    if w <= limits::MOST_DIGITS {
+        w
+    } else {
+        limits::MOST_DIGITS + 1
+    }
+}
+
+// The digits from a place on, read behind a number.
+fn digits(body: &[u8], from: usize, value: u64) -> Decimal
+    requires { ⌜ value ≤ cap ⌝ }
+    ensures { λ r. ⌜ r ≡ decimalAt (now (body .entry)) from value ⌝ }
+{
+    let mut v = value;
+    let mut i = from;
+    while is_digit(byte_at(body, i)) {
+        v = with_digit(v, byte_at(body, i));
+        i += 1;
+    }
+    Decimal { value: v, end: i }
+}
+
+// What stands before an exponent: its digits as a number, how many stand after the point, how many there are, the place behind.
+struct Mantissa {
+    value: u64,
+    after: usize,
+    count: usize,
+    end: usize,
+}
+
+// The digits of a number, with at most one point among them.
+fn read_mantissa(body: &[u8], at: usize) -> Mantissa
+    ensures { λ r. ⌜ r ≡ capped (digitsFrom (now (body .entry)) at) ⌝ }
+{
+    let w = digits(body, at, 0);
+    let p = w.end;
+    let v = w.value;
+    if byte_at(body, p) == 46 {
+        let f = digits(body, p + 1, v);
+        let after = f.end - (p + 1);
+        return Mantissa {
+            value: f.value,
+            after: after,
+            count: (p - at) + after,
+            end: f.end,
+        };
+    }
+    Mantissa {
+        value: v,
+        after: 0,
+        count: p - at,
+        end: p,
+    }
+}
+
+// An exponent and the place behind it, or an E that begins none. With a minus the exponent stands in down, else in up.
+enum Power {
+    Of { up: usize, down: usize, end: usize },
+    Wrong,
+}
+
+// The place behind a sign.
+fn sign_end(body: &[u8], at: usize) -> usize
+    requires { ⌜ at ≤ length (now body) ⌝ }
+    ensures { λ r. ⌜ r ≡ signEnd (now (body .entry)) at ⌝ }
+{
+    let b = byte_at(body, at);
+    if b == 43 {
+        return at + 1;
+    }
+    if b == 45 {
+        return at + 1;
+    }
+    at
+}
+
+// The exponent behind a number's digits; 0 where there is none.
+fn read_exponent(body: &[u8], at: usize) -> Power
+    ensures { λ r. ⌜ r ≡ powerOf (exponentFrom (now (body .entry)) at) ⌝ }
+{
+    if byte_at(body, at) != 69 {
+        return Power::Of {
+            up: 0,
+            down: 0,
+            end: at,
+        };
+    }
+    let from = sign_end(body, at + 1);
+    let d = digits(body, from, 0);
+    let n = d.end - from;
+    if n == 0 {
+        return Power::Wrong;
+    }
+    if limits::EXPONENT_DIGITS < n {
+        return Power::Wrong;
+    }
+    let value = d.value as usize;
+    if byte_at(body, at + 1) == 45 {
+        return Power::Of {
+            up: 0,
+            down: value,
+            end: d.end,
+        };
+    }
+    Power::Of {
+        up: value,
+        down: 0,
+        end: d.end,
+    }
+}
+
+// The powers of ten that an f64 holds exactly.
+const TENS: [f64; 23] = [
+    1.0,
+    1e1,
+    1e2,
+    1e3,
+    1e4,
+    1e5,
+    1e6,
+    1e7,
+    1e8,
+    1e9,
+    1e10,
+    1e11,
+    1e12,
+    1e13,
+    1e14,
+    1e15,
+    1e16,
+    1e17,
+    1e18,
+    1e19,
+    1e20,
+    1e21,
+    1e22,
+];
+
+// 10 to the k.
+fn ten(k: usize) -> f64
+    requires { ⌜ k ≤ mostTens ⌝ }
+    ensures { λ r. ⌜ r ≡ tenTo k ⌝ }
+{
+    TENS[k]
+}
+
+// How far two numbers are apart.
+fn apart(a: usize, b: usize) -> usize
+    ensures { λ r. ⌜ r ≡ (a - b) + (b - a) ⌝ }
+{
+    if a < b { b - a } else { a - b }
+}
+
+// m times 10 to the up less down, or 17 where one of them is out of range.
+fn scaled(m: u64, up: usize, down: usize) -> Token
+    ensures { λ r. ⌜ r ≡ numberOf m up down ⌝ }
+{
+    if limits::MOST_DIGITS < m {
+        return Token::Bad(17);
+    }
+    let k = apart(up, down);
+    if limits::MOST_TENS < k {
+        return Token::Bad(17);
+    }
+    let x = ten(k);
+    if down <= up {
+        return Token::Number(m as f64 * x);
+    }
+    Token::Number(m as f64 / x)
+}
+
+// ---- cuts
+
+// A bad token; behind it nothing is read.
+fn bad(code: u8, at: usize) -> Cut
+    ensures { λ r. ⌜ r ≡ badAt code at ⌝ }
+{
+    Cut {
+        token: Token::Bad(code),
+        at: at,
+        next: at,
+    }
+}
+
+// The number at a place.
+fn read_number(body: &[u8], at: usize) -> Cut
+    ensures { λ r. ⌜ r ≡ numberAt (now (body .entry)) at ⌝ }
+{
+    let m = read_mantissa(body, at);
+    let count = m.count;
+    if count == 0 {
+        return bad(16, at);
+    }
+    let end = m.end;
+    let e = read_exponent(body, end);
+    match e {
+        Power::Wrong => bad(16, at),
+        Power::Of {
+            up,
+            down,
+            end: stop,
+        } => {
+            if is_tail(byte_at(body, stop)) {
+                return bad(16, at);
+            }
+            Cut {
+                token: scaled(m.value, up, down + m.after),
+                at: at,
+                next: stop,
+            }
+        }
+    }
+}
+
+// The name at a place.
+fn read_name(body: &[u8], at: usize) -> Cut
+    ensures { λ r. ⌜ r ≡ nameAt (now (body .entry)) at ⌝ }
+{
+    let end = past_word(body, at);
+    let n = end - at;
+    if limits::NAME_BYTES < n {
+        return bad(15, at);
+    }
+    Cut {
+        token: Token::Name(at, n),
+        at: at,
+        next: end,
+    }
+}
+
+// The next token from a place on.
+pub fn take_cut(body: &[u8], from: usize) -> Cut
+    ensures { λ r. ⌜ r ≡ cutAt (now (body .entry)) from ⌝ }
+{
+    let at = past_spaces(body, from);
+    if body.len() <= at {
+        return Cut {
+            token: Token::End,
+            at: at,
+            next: at,
+        };
+    }
+    let b = body[at];
+    if is_letter(b) {
+        return read_name(body, at);
+    }
+    if is_figure(b) {
+        return read_number(body, at);
+    }
+    if is_mark(b) {
+        return Cut {
+            token: Token::Mark(b),
+            at: at,
+            next: at + 1,
+        };
+    }
+    bad(14, at)
+}
+
+// ---- tokens as they are held
+
+// The kinds; a mark's is its byte.
+pub const NUMBER: u8 = 1;
+
+pub const NAME: u8 = 2;
+
+pub const CONST: u8 = 3;
+
+pub const PARAM: u8 = 4;
+
+pub const INCON: u8 = 5;
+
+pub const INTGRL: u8 = 6;
+
+pub const TIME: u8 = 7;
+
+pub const INSW: u8 = 8;
+
+pub const LIMIT: u8 = 9;
+
+pub const COMPAR: u8 = 10;
+
+// Whether a name's bytes are those of a word.
+fn spells(name: &[u8], word: &[u8]) -> bool
+    ensures { λ r. ⌜ r ≡ sameBytes (now (name .entry)) (now (word .entry)) ⌝ }
+{
+    if name.len() != word.len() {
+        return false;
+    }
+    let mut i: usize = 0;
+    while i < name.len() {
+        if name[i] != word[i] {
+            return false;
+        }
+        i += 1;
+    }
+    true
+}
+
+// The kind of a name of four bytes.
+fn kind_of_four(name: &[u8]) -> u8
+    requires { ⌜ length (now name) ≡ 4 ⌝ }
+    ensures { λ r. ⌜ r ≡ kindOf (named (now (name .entry))) ⌝ }
+{
+    if spells(name, b"TIME") {
+        return TIME;
+    }
+    if spells(name, b"INSW") {
+        return INSW;
+    }
+    NAME
+}
+
+// The kind of a name of five bytes.
+fn kind_of_five(name: &[u8]) -> u8
+    requires { ⌜ length (now name) ≡ 5 ⌝ }
+    ensures { λ r. ⌜ r ≡ kindOf (named (now (name .entry))) ⌝ }
+{
+    if spells(name, b"CONST") {
+        return CONST;
+    }
+    if spells(name, b"PARAM") {
+        return PARAM;
+    }
+    if spells(name, b"INCON") {
+        return INCON;
+    }
+    if spells(name, b"LIMIT") {
+        return LIMIT;
+    }
+    NAME
+}
+
+// The kind of a name of six bytes.
+fn kind_of_six(name: &[u8]) -> u8
+    requires { ⌜ length (now name) ≡ 6 ⌝ }
+    ensures { λ r. ⌜ r ≡ kindOf (named (now (name .entry))) ⌝ }
+{
+    if spells(name, b"INTGRL") {
+        return INTGRL;
+    }
+    if spells(name, b"COMPAR") {
+        return COMPAR;
+    }
+    NAME
+}
+
+// The kind of a name: a reserved word's, or a name's.
+fn kind_of_name(name: &[u8]) -> u8
+    ensures { λ r. ⌜ r ≡ kindOf (named (now (name .entry))) ⌝ }
+{
+    let n = name.len();
+    if n == 4 {
+        return kind_of_four(name);
+    }
+    if n == 5 {
+        return kind_of_five(name);
+    }
+    if n == 6 {
+        return kind_of_six(name);
+    }
+    NAME
+}
+
+// A token's kind and argument.
+struct Held {
+    kind: u8,
+    arg: u64,
+}
+
+// A name or a reserved word as it is held.
+fn held_name(name: &[u8]) -> Held
+    requires { ⌜ length (now name) ≤ nameBytes ⌝ }
+    ensures { λ r. ⌜ r ≡ heldAs (named (now (name .entry))) ⌝ }
+{
+    let kind = kind_of_name(name);
+    if kind == NAME {
+        return Held {
+            kind: kind,
+            arg: bits::get_low(name, limits::NAME_BYTES),
+        };
+    }
+    Held { kind: kind, arg: 0 }
+}
+
+// What one cut gives a row: a token as it is held and the place where the next begins, the end, or a bad token's code and place.
+enum Step {
+    Good { held: Held, next: usize },
+    Over,
+    Refused { code: u8, at: usize },
+}
+
+// The next step from a place on.
+fn take_step(body: &[u8], from: usize) -> Step
+    ensures { λ r. ⌜ r ≡ stepAt (now (body .entry)) from ⌝ }
+{
+    let c = take_cut(body, from);
+    let t = c.token;
+    match t {
+        Token::Name(p, n) => {
+            let e = p + n;
+            Step::Good {
+                held: held_name(&body[p..e]),
+                next: c.next,
+            }
+        }
+        Token::Mark(b) => Step::Good {
+            held: Held { kind: b, arg: 0 },
+            next: c.next,
+        },
+        Token::Number(x) => Step::Good {
+            held: Held {
+                kind: NUMBER,
+                arg: bits::bits_of(x),
+            },
+            next: c.next,
+        },
+        Token::End => Step::Over,
+        Token::Bad(code) => Step::Refused { code, at: c.at },
+    }
+}
+
+// ---- the row
+
+// How a row ends: no room for it; the count of its tokens; or the first bad token's code and place, behind so many good ones.
+pub enum RowEnd {
+    NoRoom,
+    Tokens(usize),
+    Fault { code: u8, count: usize, at: usize },
+}
+
+// Writes the kind and the argument of each token of a text, up to the end or the first bad one. It takes room for a token for each byte.
+pub fn row(body: &[u8], kinds: &mut [u8], args: &mut [u64]) -> RowEnd
+    ensures { λ r. ⌜ Written (now (body .entry)) (now (kinds .entry)) (now (args .entry)) r (now (kinds .exit)) (now (args .exit)) ⌝ }
+{
+    if kinds.len() < body.len() {
+        return RowEnd::NoRoom;
+    }
+    if args.len() < body.len() {
+        return RowEnd::NoRoom;
+    }
+    let mut from: usize = 0;
+    let mut n: usize = 0;
+    loop {
+        let s = take_step(body, from);
+        match s {
+            Step::Over => {
+                return RowEnd::Tokens(n);
+            }
+            Step::Refused { code, at } => {
+                return RowEnd::Fault {
+                    code: code,
+                    count: n,
+                    at: at,
+                };
+            }
+            Step::Good { held, next } => {
+                kinds[n] = held.kind;
+                args[n] = held.arg;
+                n += 1;
+                from = next;
+            }
+        }
+    }
 }

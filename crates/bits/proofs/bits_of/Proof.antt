@@ -1,7 +1,5 @@
-use mathlib.Core.Path.{_≡_, sym, ap}
 use borrow.Author.Needs.{needs}
 use lib.Ieee
-use lib.Ieee.Bits.{is-true}
 use lib.Ieee.Compare.{differs-from-itself}
 use Rattle.bits.proofs.Nans.{no-nan}
 use Rattle.bits.proofs.bits_of.Statement.{statement}

@@ -1,6 +1,5 @@
 -- The loop reads from the last byte to the first.
-use Prim.Native.Nat.{ℕ, _-_, _<_, _^_, _≤_, min}
-use mathlib.Core.Path.{_≡_, _∙_}
+use Prim.Native.Nat.{_<_, _^_, _≤_, min}
 use native.Mathlib.Omega.{arith}
 use borrow.Author.Needs.{needs}
 use Rattle.bits.proofs.Lows.{Reading, reading-first, reading-next, reading-fits, reading-last}

@@ -1,0 +1,97 @@
+-- Counting a line at a time counts the lines and the statements of the reading.
+use Prim.Native.Nat.{ℕ, suc, _+_, _≤_}
+use mathlib.Core.Path.{_≡_, refl, ap, _∙_}
+use mathlib.Core.Bool.{Bool, true, false, cond}
+use mathlib.Core.List.{List, [], _∷_, _++_}
+use native.Mathlib.Omega.{arith}
+use lib.ListN.{length, drop}
+use Rattle.deck.specs.Lines.{Line, linesOf, dotted, passed}
+use Rattle.deck.specs.Reading.{State, fresh, inside, goes-on, ends, after, ended, left, reading}
+use Rattle.deck.specs.Survey.{sizesOf, begun, tallied}
+use Rattle.deck.specs.declared.Tally.{Tally}
+use Rattle.deck.proofs.Bytes.{lineOf, LineAt, lines-end}
+
+-- whether a statement is open
+abbrev open-in : State → Bool
+open-in fresh = false
+open-in (inside f cs) = true
+
+-- the count of open statements
+abbrev owed : State → ℕ
+owed fresh = 0
+owed (inside f cs) = 1
+
+-- a reading has the statement that is open, and those that begin in the lines
+begun-reading : (s : State) (n : ℕ) (ls : List Line) → length (reading s n ls) ≡ owed s + begun (open-in s) ls
+unfolding reading left after ended begun
+begun-reading fresh n [] = refl
+begun-reading (inside f cs) n [] = refl
+begun-reading fresh n (l ∷ ls) = go (passed l) (dotted l) (λ s. begun-reading s (suc n) ls)
+  where
+    go : (p d : Bool) → ((s : State) → length (reading s (suc n) ls) ≡ owed s + begun (open-in s) ls)
+        → length (cond p [] (ends d n (l ∷ [])) ++ reading (cond p fresh (goes-on d n (l ∷ []))) (suc n) ls)
+        ≡ 0 + cond p (begun false ls) (suc (begun d ls))
+    go true d ih = ih fresh
+    go false true ih = omega (arith, ih (inside n (l ∷ [])))
+    go false false ih = omega (arith, ih fresh)
+begun-reading (inside f cs) n (l ∷ ls) = go (dotted l) (λ s. begun-reading s (suc n) ls)
+  where
+    go : (d : Bool) → ((s : State) → length (reading s (suc n) ls) ≡ owed s + begun (open-in s) ls)
+        → length (ends d f (cs ++ (l ∷ [])) ++ reading (goes-on d f (cs ++ (l ∷ []))) (suc n) ls) ≡ 1 + begun d ls
+    go true ih = ih (inside f (cs ++ (l ∷ [])))
+    go false ih = omega (arith, ih fresh)
+
+-- one line more is counted, and one less is left
+tally-step : (n : Tally) (l : Line) (ls : List Line)
+    → (tallied n l .statements ≤ n .statements + 1) × (tallied n l .statements + begun (tallied n l .more) ls ≡ n .statements + begun (n .more) (l ∷ ls))
+unfolding begun
+tally-step n l ls = go (n .more)
+  where
+    k : ℕ
+    k = n .statements
+
+    by : (p : Bool) → (cond p k (k + 1) ≤ k + 1)
+        × (cond p k (k + 1) + begun (cond p false (dotted l)) ls ≡ k + cond p (begun false ls) (suc (begun (dotted l) ls)))
+    by true = (omega arith, refl)
+    by false = (omega arith, omega arith)
+
+    go : (b : Bool) → (cond b k (cond (passed l) k (k + 1)) ≤ k + 1)
+        × (cond b k (cond (passed l) k (k + 1)) + begun (cond b (dotted l) (cond (passed l) false (dotted l))) ls ≡ k + begun b (l ∷ ls))
+    go true = (omega arith, refl)
+    go false = by (passed l)
+
+-- the tally of the lines before a place, and what is left to count
+pub record Counting (t : List ℕ) (at : ℕ) (n : Tally) : Type 0 where
+  pub few : n .lines ≤ at
+  pub fewer : n .statements ≤ n .lines
+  pub lines : n .lines + length (linesOf (drop at t)) ≡ length (linesOf t)
+  pub statements : n .statements + begun (n .more) (linesOf (drop at t)) ≡ begun false (linesOf t)
+
+module _ (t : List ℕ) where
+  -- nothing is counted
+  pub counting-first : Counting t 0 (record { lines = 0; statements = 0; more = false })
+  counting-first = record { few = omega arith; fewer = omega arith; lines = omega arith; statements = omega arith }
+
+  module _ (at : ℕ) (n : Tally) (c : Counting t at n) where
+    -- one line more is counted
+    pub counting-next : (e : ℕ) (m : Tally) → LineAt t at e → m ≡ tallied n (lineOf t at e) → Counting t (e + 1) m
+    counting-next e m l q =
+        let line = lineOf t at e in
+        let step = tally-step n line (linesOf (drop (e + 1) t)) in
+        rw q
+        (record {
+          few = omega (arith, c .few, l .from);
+          fewer = omega (arith, c .fewer, step .0);
+          lines = omega (arith, c .lines, ap length (l .lines));
+          statements = step .1 ∙ rw (← (l .lines)) (c .statements);
+        })
+
+    -- all is counted
+    pub counting-last : length t ≤ at → record { lines = n .lines; statements = n .statements } ≡ sizesOf t
+    unfolding begun
+    counting-last h =
+        let z = lines-end t at h in
+        let lines : n .lines ≡ length (linesOf t) = omega (arith, c .lines, ap length z) in
+        let found : n .statements + 0 ≡ begun false (linesOf t) = rw z at (c .statements) in
+        let statements : n .statements ≡ length (reading fresh 1 (linesOf t)) = omega (arith, begun-reading fresh 1 (linesOf t)) in
+        λ k. record { lines = lines k; statements = statements k }

@@ -1,0 +1,50 @@
+-- At each return the tests that led there decide the conjunction.
+use borrow.Author.Needs.{needs}
+use borrow.Author.Tests.{lt-leb, le-leb, eq-eqb, ne-eqb}
+use Rattle.deck.proofs.dots_at.Statement.{statement}
+use Rattle.deck.proofs.dots_at.Tie as tie
+
+returns : tie.Need-returns
+returns c = simp (lt-leb _ _ (c .if1 .taken))
+
+sub-if2 : tie.Need-sub-if2
+sub-if2 c = search needs
+
+shared-slice-read-if2 : tie.Need-shared-slice-read-if2
+shared-slice-read-if2 c = search needs
+
+returns-2 : tie.Need-returns-2
+returns-2 c = simp (le-leb _ _ (c .before .before .if1 .left), ne-eqb _ _ (c .if2 .taken))
+
+sub-if3 : tie.Need-sub-if3
+sub-if3 c = search needs
+
+shared-slice-read-if3 : tie.Need-shared-slice-read-if3
+shared-slice-read-if3 c = search needs
+
+returns-3 : tie.Need-returns-3
+returns-3 c =
+    let b = c .before .before in
+    simp (le-leb _ _ (b .before .before .if1 .left), eq-eqb _ _ (b .if2 .left), ne-eqb _ _ (c .if3 .taken))
+
+shared-slice-read-result : tie.Need-shared-slice-read-result
+shared-slice-read-result c = search needs
+
+returns-4 : tie.Need-returns-4
+returns-4 c =
+    let b = c .before .before .before in
+    simp (le-leb _ _ (b .before .before .if1 .left), eq-eqb _ _ (b .if2 .left), eq-eqb _ _ (c .before .if3 .left))
+
+pub dots-at-spec : {M : Type 1} → statement M
+dots-at-spec =
+    tie.close
+    (tie.spec
+    returns
+    sub-if2
+    shared-slice-read-if2
+    returns-2
+    sub-if3
+    shared-slice-read-if3
+    returns-3
+    shared-slice-read-result
+    returns-4)

@@ -1,0 +1,19 @@
+-- The points stand before the place that trailing spaces leave.
+use mathlib.Core.Path.{ap, _∙_}
+use borrow.Author.Needs.{needs}
+use Rattle.deck.specs.Lines.{dotsAt, dotted}
+use Rattle.deck.proofs.is_dotted.Statement.{statement}
+use Rattle.deck.proofs.is_dotted.Tie as tie
+
+trim-requires : tie.Need-trim-requires
+trim-requires c κs = search needs
+
+dots-at-requires : tie.Need-dots-at-requires
+dots-at-requires c κs = search needs
+
+returns : tie.Need-returns
+unfolding dotted
+returns c = c .dots-at .ensures ∙ ap (dotsAt (c .before .before .before .args .line .now)) (c .before .trim .ensures .0)
+
+pub is-dotted-spec : {M : Type 1} → statement M
+is-dotted-spec = tie.close (tie.spec trim-requires dots-at-requires returns)

@@ -1,0 +1,28 @@
+-- How many lines and statements a text has, and the same a line at a time.
+use Prim.Native.Nat.{ℕ, suc, _+_}
+use mathlib.Core.Bool.{Bool, true, false, cond}
+use mathlib.Core.List.{List, [], _∷_}
+use lib.ListN.{length}
+use Rattle.deck.specs.Lines.{Line, linesOf, dotted, passed}
+use Rattle.deck.specs.Reading.{fresh, reading}
+use Rattle.deck.specs.declared.Sizes.{Sizes}
+use Rattle.deck.specs.declared.Tally.{Tally}
+
+-- all its lines, and all its statements
+abbrev pub sizesOf : List ℕ → Sizes
+sizesOf t = record { lines = length (linesOf t); statements = length (reading fresh 1 (linesOf t)) }
+
+-- how many statements begin in the lines, where one continues or none does
+unfoldable pub begun : Bool → List Line → ℕ
+begun more [] = 0
+begun true (l ∷ ls) = begun (dotted l) ls
+begun false (l ∷ ls) = cond (passed l) (begun false ls) (suc (begun (dotted l) ls))
+
+-- a tally with one line more
+abbrev pub tallied : Tally → Line → Tally
+tallied n l =
+    record {
+      lines = n .lines + 1;
+      statements = cond (n .more) (n .statements) (cond (passed l) (n .statements) (n .statements + 1));
+      more = cond (n .more) (dotted l) (cond (passed l) false (dotted l));
+    }

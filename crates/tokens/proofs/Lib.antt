@@ -1,0 +1,12 @@
+mod Tens
+mod Decimals
+mod Numbers
+mod Cuts
+mod Spelling
+pub mod Words
+pub mod Values
+pub mod Keys
+pub mod Sound
+pub mod Rows
+mod Steps
+pub mod Answers

@@ -1,0 +1,29 @@
+-- The parts of a number as code holds them: a number over mostDigits is held as one more than that, which is out of range too.
+use Prim.Native.Nat.{ℕ, _+_, min}
+use mathlib.Core.Bool.{true, false}
+use mathlib.Core.List.{List}
+use lib.ListN.{length}
+use Rattle.limits.specs.Limits.{mostDigits}
+use Rattle.tokens.specs.declared.Decimal.{Decimal}
+use Rattle.tokens.specs.declared.Mantissa.{Mantissa}
+use Rattle.tokens.specs.declared.Power.{Power}
+use Rattle.tokens.specs.declared.Power.the-variants.{Of, Wrong}
+use Rattle.tokens.specs.Bytes.{digitsAt}
+use Rattle.tokens.specs.Number.{Digits, decimal, Exponent, exponent, wrong}
+
+abbrev pub cap : ℕ
+cap = mostDigits + 1
+
+-- the digits from a place on, read behind the number a
+abbrev pub decimalAt : List ℕ → ℕ → ℕ → Decimal
+decimalAt s from a = record { value = min cap (decimal a (digitsAt s from)); end = from + length (digitsAt s from) }
+
+-- the digits before an exponent
+abbrev pub capped : Digits → Mantissa
+capped d = record { value = min cap (d .whole); after = d .after; count = d .count; end = d .end }
+
+-- an exponent: with a minus it stands in down, else in up
+abbrev pub powerOf : Exponent → Power
+powerOf (exponent true e stop) = Of 0 e stop
+powerOf (exponent false e stop) = Of e 0 stop
+powerOf wrong = Wrong
