@@ -2,15 +2,18 @@
 use Prim.Native.Nat.{ℕ, zero, suc, zero-le, _+_, _-_, _*_, _/_, _%_, _^_, _≤_, _<_, min}
 use mathlib.Core.Path.{_≡_, refl, sym, ap, ap₂, _∙_}
 use mathlib.Core.Logic.{⊎-elim}
-use mathlib.Core.List.{List, _∷_}
-use native.Mathlib.Nat.{add-zero, sub-zero, pow-suc, pow-le-pow-right, lt-of-lt-of-le, div-lt-iff-lt-mul}
+use mathlib.Core.Bool.{Bool, true}
+use mathlib.Core.List.{List, _∷_, _++_}
+use native.Mathlib.Nat.{zero-add, add-zero, sub-zero, suc-add, pow-suc, pow-succ', pow-le-pow-right, lt-of-lt-of-le}
+use native.Mathlib.Nat.{div-one, div-lt-iff-lt-mul, div-div-eq-div-mul}
 use native.Mathlib.Omega.{arith}
-use lib.Dec.{T, lit<}
+use borrow.Author.Tests.{leb-true}
+use lib.Dec.{T, lit<, leb}
 use lib.ListN.{length, getD, set, take, drop, length-take, length-set, drop-of-length-le}
 use lib.Seq.{sets, drop-cons, getD-take}
 use lib.Ieee.{Float, binary64, fits, toBits, ofBits}
 use lib.Ieee.Bits.{ofBits-toBits, toBits-lt}
-use Rattle.laws.proofs.Sets.{sets-out, sets-back}
+use Rattle.laws.proofs.Sets.{sets-out, sets-append, sets-back}
 use Rattle.laws.proofs.Tests.{lt-or-ge}
 use Rattle.bits.specs.Low.{lowBytes, lowWord}
 
@@ -111,3 +114,20 @@ word-back l at n v h k =
 pub float-back : (l : List ℕ) (at : ℕ) (x : Float) → at + 8 ≤ length l → T (fits binary64 x)
     → ofBits binary64 (lowWord (take 8 (drop at (sets l at (lowBytes 8 (toBits binary64 x)))))) ≡ x
 float-back l at x h f = ap (ofBits binary64) (word-back l at 8 (toBits binary64 x) h (toBits-lt binary64 x f)) ∙ ofBits-toBits binary64 x f
+
+-- ---- fixed widths
+
+-- what a test of room says
+pub room-is : {t : Bool} (m n : ℕ) → t ≡ leb m n → t ≡ true → m ≤ n
+room-is m n e h = leb-true m n (sym e ∙ h)
+
+-- the lowest m bytes and then n of the rest
+pub low-append : (m n v : ℕ) → lowBytes (m + n) v ≡ lowBytes m v ++ lowBytes n (v / 256 ^ m)
+unfolding lowBytes
+low-append zero n v = rw (zero-add, div-one)
+low-append (suc m) n v = rw (suc-add m n, low-append m n (v / 256), div-div-eq-div-mul v 256 (256 ^ m), ← (pow-succ' 256 m))
+
+-- one behind the other
+pub low-both : (l half whole : List ℕ) (at m n v : ℕ) → half ≡ sets l at (lowBytes m v) → whole ≡ sets half (at + m) (lowBytes n (v / 256 ^ m))
+    → whole ≡ sets l at (lowBytes (m + n) v)
+low-both l half whole at m n v p q = q ∙ rw (p, low-append m n v, sets-append l at (lowBytes m v), length-low m v)

@@ -1,6 +1,7 @@
 // Fields of a record: numbers as bytes, low first, and floats as their bits.
 ghost use mathlib.Core.Path.{_≡_};
-ghost use Prim.Native.Nat.{_-_, _<_, _^_, min};
+ghost use Prim.Native.Nat.{_+_, _-_, _<_, _^_, min};
+ghost use lib.Dec.{leb};
 ghost use lib.ListN.{take};
 ghost use lib.Seq.{sets};
 ghost use lib.Ieee.{binary64, toBits, ofBits};
@@ -78,4 +79,50 @@ pub fn bits_of(x: f64) -> u64
     } else {
         f64::to_bits(x)
     }
+}
+
+// Whether n bytes from a place on stand before an end.
+fn has_room(end: usize, at: usize, n: usize) -> bool
+    ensures { λ r. ⌜ r ≡ leb (at + n) end ⌝ }
+{
+    if end < n {
+        return false;
+    }
+    at <= end - n
+}
+
+// Writes the two lowest bytes of a number, as put_low does.
+pub fn put_two(buf: &mut [u8], at: usize, v: u64)
+    ensures { λ _. ⌜ now (buf .exit) ≡ sets (now (buf .entry)) at (lowBytes 2 v) ⌝ }
+{
+    if has_room(buf.len(), at, 2) {
+        buf[at] = (v % 256) as u8;
+        buf[at + 1] = (v / 256 % 256) as u8;
+        return;
+    }
+    put_low(buf, at, 2, v);
+}
+
+// Writes the four lowest bytes.
+pub fn put_four(buf: &mut [u8], at: usize, v: u64)
+    ensures { λ _. ⌜ now (buf .exit) ≡ sets (now (buf .entry)) at (lowBytes 4 v) ⌝ }
+{
+    if has_room(buf.len(), at, 4) {
+        put_two(&mut *buf, at, v);
+        put_two(buf, at + 2, v / 65536);
+        return;
+    }
+    put_low(buf, at, 4, v);
+}
+
+// Writes the eight lowest bytes.
+pub fn put_eight(buf: &mut [u8], at: usize, v: u64)
+    ensures { λ _. ⌜ now (buf .exit) ≡ sets (now (buf .entry)) at (lowBytes 8 v) ⌝ }
+{
+    if has_room(buf.len(), at, 8) {
+        put_four(&mut *buf, at, v);
+        put_four(buf, at + 4, v / 4294967296);
+        return;
+    }
+    put_low(buf, at, 8, v);
 }

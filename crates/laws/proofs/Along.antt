@@ -11,6 +11,7 @@ use Rattle.laws.specs.Lists.{concat-map, numbers}
 use Rattle.laws.specs.Places.{gather, anyIn, onlyIf}
 use Rattle.laws.proofs.Concats.{map-append}
 use Rattle.laws.proofs.Lists.{concat-append}
+use Rattle.laws.proofs.Gathers.{gather-same}
 
 -- one more at the end of a front
 pub length-snoc : {A : Type 0} (p : List A) (a : A) → length (p ++ (a ∷ [])) ≡ suc (length p)
@@ -64,12 +65,6 @@ module _ {A B : Type 0} (f : ℕ → List B) (g : A → List B) (d : A) where
   -- over all places of a list
   pub gather-all : (l : List A) → ((i : ℕ) → f i ≡ g (getD l i d)) → gather f (length l) 0 ≡ concat-map g l
   gather-all l e = gather-part [] l [] (rw (append-nil l) e)
-
--- ---- two functions that agree gather the same
-pub gather-same : {B : Type 0} (f g : ℕ → List B) (k i : ℕ) → ((j : ℕ) → i ≤ j → j < i + k → f j ≡ g j) → gather f k i ≡ gather g k i
-unfolding gather
-gather-same f g zero i e = refl
-gather-same f g (suc k) i e = ap₂ _++_ (e i (omega arith) (omega arith)) (gather-same f g k (suc i) (λ j h l. e j (omega arith) (omega arith)))
 
 -- f of each that is gathered
 pub map-gather : {B C : Type 0} (h : B → C) (f : ℕ → List B) (k i : ℕ) → map h (gather f k i) ≡ gather (λ j. map h (f j)) k i

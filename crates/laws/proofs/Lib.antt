@@ -10,3 +10,4 @@ pub mod Along
 pub mod Members
 pub mod Sums
 pub mod Copies
+pub mod Gathers

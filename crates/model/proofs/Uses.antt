@@ -13,7 +13,8 @@ use Rattle.laws.specs.Counts.{count, _∈_, has}
 use Rattle.laws.specs.Places.{onlyIf}
 use Rattle.laws.proofs.Tests.{bool-cases, not-both, and-true, and-both}
 use Rattle.laws.proofs.Concats.{at-map}
-use Rattle.laws.proofs.Along.{gather-same, gather-numbers}
+use Rattle.laws.proofs.Along.{gather-numbers}
+use Rattle.laws.proofs.Gathers.{gather-same}
 use Rattle.laws.proofs.Members.{has-append, has-one, has-cons, at-in}
 use Rattle.grammar.specs.Tree.{names}
 use Rattle.sheet.specs.Sheet.{Numbered, Fault}

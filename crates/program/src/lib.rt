@@ -1,1 +1,285 @@
-// The program of a text: definitions.
+// The program of a text, written from the arrays of its sheet, and the count of its records.
+ghost use mathlib.Core.Path.{_≡_};
+ghost use Prim.Native.Nat.{_+_, _≤_, _<_};
+ghost use lib.ListN.{length, getD};
+ghost use lib.Seq.{sets};
+ghost use Rattle.limits.specs.Limits.{recordBytes};
+ghost use Rattle.laws.specs.Counts.{once};
+ghost use Rattle.laws.specs.Places.{gather};
+ghost use Rattle.model.specs.Places.{homeOf};
+ghost use Rattle.laws.specs.Put.{Put};
+ghost use Rattle.program.specs.Written.{fieldBytes, writes, recordCount, valueAt, settingAt, settingsOf};
+ghost use Rattle.program.specs.Written.{stepBytes, stepsOf, orderedSteps, writtenProgram};
+use bits::put_eight;
+use bits::put_four;
+use bits::put_two;
+use limits::RECORD_BYTES;
+
+// The byte at a place, 0 past the end.
+fn byte_at(s: &[u8], i: usize) -> u8
+    ensures { λ r. ⌜ r ≡ getD (now (s .entry)) i 0 ⌝ }
+{
+    if i < s.len() { s[i] } else { 0 }
+}
+
+// The number of two bytes at a place, 0 past the end.
+fn half_at(s: &[u16], i: usize) -> usize
+    ensures { λ r. ⌜ (r ≡ getD (now (s .entry)) i 0) × (r < 65536) ⌝ }
+{
+    if i < s.len() { s[i] as usize } else { 0 }
+}
+
+// The number of eight bytes at a place, 0 past the end.
+fn word_at(s: &[u64], i: usize) -> u64
+    ensures { λ r. ⌜ r ≡ getD (now (s .entry)) i 0 ⌝ }
+{
+    if i < s.len() { s[i] } else { 0 }
+}
+
+// How many records a draft of this kind writes: one or none.
+fn records_of(kind: u8) -> usize
+    ensures { λ r. ⌜ (r ≡ once (writes kind)) × (r ≤ 1) ⌝ }
+{
+    if kind < 1 {
+        return 0;
+    }
+    if kind <= 14 {
+        return 1;
+    }
+    if kind == 17 {
+        return 1;
+    }
+    0
+}
+
+// How many records the drafts of these kinds write.
+pub fn count_records(kinds: &[u8]) -> usize
+    ensures { λ r. ⌜ r ≡ recordCount (now (kinds .entry)) ⌝ }
+{
+    let mut n: usize = 0;
+    let mut i: usize = 0;
+    while i < kinds.len() {
+        n += records_of(kinds[i]);
+        i += 1;
+    }
+    n
+}
+
+// Writes a record to its sixteen bytes.
+fn put_fields(kind: u8, slot: u64, line: u64, bits: u64, part: &mut [u8])
+    requires { ⌜ length (now part) ≡ recordBytes ⌝ }
+    ensures { λ _. ⌜ now (part .exit) ≡ sets (now (part .entry)) 0 (fieldBytes kind slot line bits) ⌝ }
+{
+    part[0] = kind;
+    part[1] = 0;
+    put_two(&mut *part, 2, slot);
+    put_four(&mut *part, 4, line);
+    put_eight(part, 8, bits);
+}
+
+// Writes a record from a place on; the place behind it.
+fn put_record(kind: u8, slot: u64, line: u64, bits: u64, out: &mut [u8], w: usize) -> usize
+    requires { ⌜ w + recordBytes ≤ length (now out) ⌝ }
+    ensures { λ r. ⌜ Put (fieldBytes kind slot line bits) w r (now (out .entry)) (now (out .exit)) ⌝ }
+{
+    let end = w + RECORD_BYTES;
+    put_fields(kind, slot, line, bits, &mut out[w..end]);
+    end
+}
+
+// The place at which a slot is defined.
+fn home_of(places: &[u16], slot: u64) -> usize
+    ensures { λ r. ⌜ (r ≡ homeOf (now (places .entry)) slot) × (r < 65536) ⌝ }
+{
+    if slot == 0 {
+        return half_at(places, 0);
+    }
+    half_at(places, (slot - 1) as usize)
+}
+
+// The bits of the value behind a constant or an initial.
+fn value_at(places: &[u16], kinds: &[u8], slots: &[u64], i: usize) -> u64
+    requires { ⌜ i < 65536 ⌝ }
+    ensures { λ r. ⌜ r ≡ valueAt (now (places .entry)) (now (kinds .entry)) (now (slots .entry)) i ⌝ }
+{
+    let v = word_at(slots, i + 1);
+    if byte_at(kinds, i + 1) == 16 {
+        return word_at(slots, home_of(places, v) + 1);
+    }
+    v
+}
+
+// Writes the constant or initial at a place, if it is one of this phase.
+fn put_setting(
+    phase: u8,
+    places: &[u16],
+    kinds: &[u8],
+    slots: &[u64],
+    line: u64,
+    i: usize,
+    out: &mut [u8],
+    w: usize,
+) -> usize
+    requires { ⌜ (i < 65536) × (w + length (settingAt phase (now places) (now kinds) (now slots) line i) ≤ length (now out)) ⌝ }
+    ensures { λ r. ⌜ Put (settingAt phase (now (places .entry)) (now (kinds .entry)) (now (slots .entry)) line i) w r (now (out .entry)) (now (out .exit)) ⌝ }
+{
+    if byte_at(kinds, i) == phase {
+        let slot = word_at(slots, i);
+        let bits = value_at(places, kinds, slots, i);
+        return put_record(phase, slot, line, bits, out, w);
+    }
+    w
+}
+
+// Writes the constants or initials of a statement.
+fn put_settings(
+    phase: u8,
+    places: &[u16],
+    lines: &[u16],
+    bounds: &[u16],
+    kinds: &[u8],
+    slots: &[u64],
+    j: usize,
+    out: &mut [u8],
+    at: usize,
+) -> usize
+    requires { ⌜
+        (j < length (now lines))
+        × (at + length (settingsOf phase (now places) (now lines) (now bounds) (now kinds) (now slots) j) ≤ length (now out)) ⌝ }
+    ensures { λ r. ⌜
+        Put (settingsOf phase (now (places .entry)) (now (lines .entry)) (now (bounds .entry)) (now (kinds .entry)) (now (slots .entry)) j)
+        at r (now (out .entry)) (now (out .exit)) ⌝ }
+{
+    let line = half_at(lines, j) as u64;
+    let end = half_at(bounds, j + 1);
+    let mut i = half_at(bounds, j);
+    let mut w = at;
+    while i < end {
+        w = put_setting(phase, places, kinds, slots, line, i, &mut *out, w);
+        i += 1;
+    }
+    w
+}
+
+// Writes all constants or all initials, in text order.
+fn put_all_settings(
+    phase: u8,
+    places: &[u16],
+    lines: &[u16],
+    bounds: &[u16],
+    kinds: &[u8],
+    slots: &[u64],
+    out: &mut [u8],
+    at: usize,
+) -> usize
+    requires { ⌜
+        at + length (gather (settingsOf phase (now places) (now lines) (now bounds) (now kinds) (now slots)) (length (now lines)) 0)
+        ≤ length (now out) ⌝ }
+    ensures { λ r. ⌜
+        Put (gather
+        (settingsOf phase (now (places .entry)) (now (lines .entry)) (now (bounds .entry)) (now (kinds .entry)) (now (slots .entry)))
+        (length (now (lines .entry))) 0)
+        at r (now (out .entry)) (now (out .exit)) ⌝ }
+{
+    let mut w = at;
+    let mut j: usize = 0;
+    while j < lines.len() {
+        w = put_settings(phase, places, lines, bounds, kinds, slots, j, &mut *out, w);
+        j += 1;
+    }
+    w
+}
+
+// Writes the record of a draft of an expression, or of a store or derivative.
+fn put_step(kind: u8, arg: u64, line: u64, out: &mut [u8], w: usize) -> usize
+    requires { ⌜ w + length (stepBytes kind arg line) ≤ length (now out) ⌝ }
+    ensures { λ r. ⌜ Put (stepBytes kind arg line) w r (now (out .entry)) (now (out .exit)) ⌝ }
+{
+    if kind == 3 {
+        return put_record(3, 0, line, arg, out, w);
+    }
+    if kind == 17 {
+        return put_record(4, 0, line, 0, out, w);
+    }
+    if kind < 4 {
+        return w;
+    }
+    if 14 < kind {
+        return w;
+    }
+    put_record(kind, arg, line, 0, out, w)
+}
+
+// Writes the steps of a statement.
+fn put_steps(
+    lines: &[u16],
+    bounds: &[u16],
+    kinds: &[u8],
+    slots: &[u64],
+    j: usize,
+    out: &mut [u8],
+    at: usize,
+) -> usize
+    requires { ⌜ (j < 65536) × (at + length (stepsOf (now lines) (now bounds) (now kinds) (now slots) j) ≤ length (now out)) ⌝ }
+    ensures { λ r. ⌜
+        Put (stepsOf (now (lines .entry)) (now (bounds .entry)) (now (kinds .entry)) (now (slots .entry)) j)
+        at r (now (out .entry)) (now (out .exit)) ⌝ }
+{
+    let line = half_at(lines, j) as u64;
+    let end = half_at(bounds, j + 1);
+    let mut i = half_at(bounds, j);
+    let mut w = at;
+    while i < end {
+        w = put_step(byte_at(kinds, i), word_at(slots, i), line, &mut *out, w);
+        i += 1;
+    }
+    w
+}
+
+// Writes the ordered statements.
+fn put_ordered(
+    rows: &[u16],
+    lines: &[u16],
+    bounds: &[u16],
+    kinds: &[u8],
+    slots: &[u64],
+    order: &[u16],
+    out: &mut [u8],
+    at: usize,
+) -> usize
+    requires { ⌜ at + length (orderedSteps (now rows) (now lines) (now bounds) (now kinds) (now slots) (now order)) ≤ length (now out) ⌝ }
+    ensures { λ r. ⌜
+        Put (orderedSteps (now (rows .entry)) (now (lines .entry)) (now (bounds .entry)) (now (kinds .entry)) (now (slots .entry)) (now (order .entry)))
+        at r (now (out .entry)) (now (out .exit)) ⌝ }
+{
+    let mut w = at;
+    let mut q: usize = 0;
+    while q < order.len() {
+        let j = half_at(rows, half_at(order, q));
+        w = put_steps(lines, bounds, kinds, slots, j, &mut *out, w);
+        q += 1;
+    }
+    w
+}
+
+// Writes the program to the front of the lent bytes; how many bytes that is.
+pub fn put_program(
+    places: &[u16],
+    rows: &[u16],
+    lines: &[u16],
+    bounds: &[u16],
+    kinds: &[u8],
+    slots: &[u64],
+    order: &[u16],
+    out: &mut [u8],
+) -> usize
+    requires { ⌜ length (writtenProgram (now places) (now rows) (now lines) (now bounds) (now kinds) (now slots) (now order)) ≤ length (now out) ⌝ }
+    ensures { λ r. ⌜
+        (let p = writtenProgram (now (places .entry)) (now (rows .entry)) (now (lines .entry)) (now (bounds .entry)) (now (kinds .entry))
+        (now (slots .entry)) (now (order .entry)) in
+        (r ≡ length p) × (now (out .exit) ≡ sets (now (out .entry)) 0 p)) ⌝ }
+{
+    let a = put_all_settings(1, places, lines, bounds, kinds, slots, &mut *out, 0);
+    let b = put_all_settings(2, places, lines, bounds, kinds, slots, &mut *out, a);
+    put_ordered(rows, lines, bounds, kinds, slots, order, out, b)
+}

@@ -1,0 +1,58 @@
+-- What the parts of the program are in each case that code tells apart.
+use Prim.Native.Nat.{ℕ, suc, _+_, _≤_, _<_}
+use mathlib.Core.Path.{_≡_, refl, sym, ap, _∙_}
+use mathlib.Core.Bool.{Bool, true, false, cond}
+use mathlib.Core.List.{List, [], _∷_, _++_}
+use native.Mathlib.Numerals.{add-one}
+use native.Mathlib.Omega.{arith}
+use borrow.Author.Tests.{le-leb, lt-leb, eq-eqb, ne-eqb}
+use lib.ListN.{length, getD, drop}
+use lib.Seq.{drop-cons}
+use Rattle.laws.specs.Counts.{once}
+use Rattle.laws.specs.Places.{gather}
+use Rattle.laws.proofs.Gathers.{gather-shift}
+use Rattle.program.specs.Written.{fieldBytes, writes, recordCount, stepBytes, stepsOf, orderedSteps}
+
+-- ---- the record of a step, by its kind
+module _ (k x line : ℕ) where
+  -- a number is pushed
+  pub step-value : k ≡ 3 → stepBytes k x line ≡ fieldBytes 3 0 line x
+  step-value e = rw (eq-eqb k 3 e)
+
+  module _ (a : k ≡ 3 → ⊥) where
+    -- TIME is slot 0
+    pub step-clock : k ≡ 17 → stepBytes k x line ≡ fieldBytes 4 0 line 0
+    step-clock e = rw (ne-eqb k 3 a, eq-eqb k 17 e)
+
+    module _ (b : k ≡ 17 → ⊥) where
+      -- constants, initials and values write nothing here
+      pub step-below : k < 4 → stepBytes k x line ≡ []
+      step-below h = rw (ne-eqb k 3 a, ne-eqb k 17 b, lt-leb 4 k h)
+
+      -- nor does a kind that is no record's
+      pub step-above : 14 < k → stepBytes k x line ≡ []
+      step-above h = rw (ne-eqb k 3 a, ne-eqb k 17 b, le-leb 4 k (omega arith), lt-leb k 14 h)
+
+      -- all others are written as they are
+      pub step-plain : 4 ≤ k → k ≤ 14 → stepBytes k x line ≡ fieldBytes k x line 0
+      step-plain g h = rw (ne-eqb k 3 a, ne-eqb k 17 b, le-leb 4 k g, le-leb k 14 h)
+
+-- the steps of the ordered statements, gathered over the places of the order
+pub ordered-gather : (rows lines bounds kinds slots order : List ℕ)
+    → orderedSteps rows lines bounds kinds slots order ≡ gather (λ q. stepsOf lines bounds kinds slots (getD rows (getD order q 0) 0)) (length order) 0
+unfolding orderedSteps gather
+ordered-gather rows lines bounds kinds slots [] = refl
+ordered-gather rows lines bounds kinds slots (r ∷ order) =
+    ap (λ l. stepsOf lines bounds kinds slots (getD rows r 0) ++ l)
+    (ordered-gather rows lines bounds kinds slots order
+    ∙ sym (gather-shift (λ q. stepsOf lines bounds kinds slots (getD rows (getD (r ∷ order) q 0) 0)) (length order) 0))
+
+-- a count of records goes on by what a kind adds
+pub counted : (kinds : List ℕ) (i n more : ℕ) → i < length kinds → more ≡ once (writes (getD kinds i 0))
+    → n + more + recordCount (drop (i + 1) kinds) ≡ n + recordCount (drop i kinds)
+unfolding recordCount
+counted kinds i n more h e = rw (add-one i, drop-cons kinds i 0 h, e) (split (writes (getD kinds i 0)))
+  where
+    split : (t : Bool) → n + once t + recordCount (drop (suc i) kinds) ≡ n + cond t (suc (recordCount (drop (suc i) kinds))) (recordCount (drop (suc i) kinds))
+    split true = omega arith
+    split false = omega arith
