@@ -1,4 +1,4 @@
--- The parser accepts a row exactly if the grammar derives it, with the same tree; and what it writes is the postfix of that tree.
+-- The parser accepts a row exactly if the grammar derives it, with the same tree; and what it writes is the drafts of what it says.
 use Prim.Native.Nat.{ℕ, zero, suc, _+_, _*_, _<_}
 use mathlib.Core.Path.{_≡_, refl, sym, ap, subst, _∙_}
 use mathlib.Core.List.{List, [], _∷_, _++_, append-assoc, append-nil}
@@ -10,7 +10,7 @@ use lib.Ieee.{Float}
 use Rattle.limits.specs.Limits.{levels}
 use Rattle.tokens.specs.Symbol.{Symbol, mark, number}
 use Rattle.grammar.specs.Tree.{Tree, Constant, Initial, Says}
-use Rattle.grammar.specs.Items.{Item, itemsOf}
+use Rattle.grammar.specs.Drafts.{Draft, draftsOf}
 use Rattle.grammar.specs.Look.{next, rest, byteOf, shapeOf, Start, Constants, Integral, Named, Valued, Other, startOf}
 use Rattle.grammar.specs.Grammar.{expr, Der, unsigned, sign, Signed, unsigned-number, signed-number, Many, one, more}
 use Rattle.grammar.specs.Grammar.{Initially, of-number, of-name, Derives, of-constants, of-assignment, of-state}
@@ -85,18 +85,18 @@ entire-end : (f d : ℕ) (s : List Symbol) {x : Says} {t : List Symbol} → enti
 unfolding entire bind
 entire-end f d s {x} {t} = go (statement f d s .out) (statement f d s .end)
   where
-    go : (o : List Item) (u : End Says) → onward o u ended .end ≡ got x t → t ≡ []
+    go : (o : List Draft) (u : End Says) → onward o u ended .end ≡ got x t → t ≡ []
     go o (got y []) h = cc
     go o (got y (a ∷ u)) h = clash (cc)
     go o (bad c u) h = clash (cc)
 
--- a row that is read, taken apart: it is derived, and what is written are its items
-taken : (row : List Symbol) (x : Says) → readRow row ≡ read x → Derives levels row x × (entire (calls row) levels row .out ≡ itemsOf x)
+-- a row that is read, taken apart: it is derived, and what is written are its drafts
+taken : (row : List Symbol) (x : Says) → readRow row ≡ read x → Derives levels row x × (entire (calls row) levels row .out ≡ draftsOf x)
 unfolding readRow
 taken row x = go (entire (calls row) levels row .end) (entire-out (calls row) levels row .ends) refl
   where
     go : (t : End Says) → OutEnd (Stated levels) (StatedVia levels) row (entire (calls row) levels row .out) t → entire (calls row) levels row .end ≡ t
-        → answer (length row) t ≡ read x → Derives levels row x × (entire (calls row) levels row .out ≡ itemsOf x)
+        → answer (length row) t ≡ read x → Derives levels row x × (entire (calls row) levels row .out ≡ draftsOf x)
     go (got y t) r e h =
         let q : y ≡ x = cc in
         let z : row ≡ r .0 = r .1 ∙ ap (λ (u : List Symbol). r .0 ++ u) (entire-end (calls row) levels row e) ∙ append-nil (r .0) in
@@ -108,6 +108,6 @@ pub accepts : (row : List Symbol) (x : Says) → (readRow row ≡ read x) ↔ De
 unfolding readRow
 accepts row x = (λ h. taken row x h .0, λ a. ap (answer (length row)) (entire-complete a (calls row) (omega arith)))
 
--- for a row that is read, what is written is the postfix of its expression
-pub written : (row : List Symbol) (x : Says) → readRow row ≡ read x → entire (calls row) levels row .out ≡ itemsOf x
+-- for a row that is read, what is written are the drafts of what it says
+pub written : (row : List Symbol) (x : Says) → readRow row ≡ read x → entire (calls row) levels row .out ≡ draftsOf x
 written row x h = taken row x h .1

@@ -9,17 +9,13 @@ use lib.ListN.{length, length-append, getD, drop, length-drop}
 use lib.Seq.{drop-append-seam, drop-drop}
 use Rattle.tokens.specs.Symbol.{Symbol, mark}
 use Rattle.grammar.specs.Tree.{Tree, two}
-use Rattle.grammar.specs.Items.{apply-two, postfix}
+use Rattle.grammar.specs.Drafts.{draft, kindTwo, drafted}
 use Rattle.grammar.specs.Look.{next, rest, byteOf, addOp, mulOp, signed, Opening, group, give-to, shapeOf}
 use Rattle.grammar.specs.Grammar.{Mode, expr, term, factor, terms, factors, opened, list}
-use Rattle.grammar.specs.Parser.{give, stop, tell, bind, when, byOp, byShape, byGiven, need, behindSign, signItems, openItems, parse, rank}
+use Rattle.grammar.specs.Parser.{give, stop, tell, bind, when, byOp, byShape, byGiven, need, behindSign, signDrafts, openDrafts, step, parse, rank, reads}
 use Rattle.grammar.proofs.Outcome.{Out}
 use Rattle.grammar.proofs.Sound.{Done, Via, At, sound}
-use Rattle.grammar.proofs.Enough.{Reader, step, parse-step, step-cong, enough}
-
--- with calls enough for the tokens at hand
-unfoldable pub reads : Reader
-reads m d s = parse (suc (rank m + 5 * length s)) m d s
+use Rattle.grammar.proofs.Enough.{step-cong, enough}
 
 -- every count that suffices gives it
 pub to-reads : (f : ℕ) (m : Mode) (d : ℕ) (s : List Symbol) → At m s → rank m + 5 * length s < f → parse f m d s ≡ reads m d s
@@ -28,20 +24,18 @@ to-reads f m d s p b = enough f (suc (rank m + 5 * length s)) m d s p b (omega a
 
 -- it obeys the clauses of `parse`
 reads-step : (m : Mode) (d : ℕ) (s : List Symbol) → At m s → reads m d s ≡ step reads m d s
-unfolding reads
-reads-step m d s p =
-    let n = rank m + 5 * length s in
-    parse-step n m d s ∙ step-cong n reads m d s p λ k D u q l. to-reads n k D u q l
+unfolding reads parse
+reads-step m d s p = let n = rank m + 5 * length s in step-cong n reads m d s p λ k D u q l. to-reads n k D u q l
 
 module _ (d : ℕ) (s : List Symbol) where
   -- an expression: a sign or none, a term, and terms behind it
   pub reads-expr : reads expr d s
-      ≡ (let o = addOp (next s) in bind (reads term d (behindSign o s)) λ e t. tell (signItems o) (reads (terms (signed o e)) d t))
+      ≡ (let o = addOp (next s) in bind (reads term d (behindSign o s)) λ e t. tell (signDrafts o) (reads (terms (signed o e)) d t))
   reads-expr = reads-step expr d s tt
 
   -- terms behind the tree l
   pub reads-terms : (l : Tree) → reads (terms l) d s
-      ≡ byOp (addOp (next s)) (λ _. give l s) λ o. bind (reads term d (rest s)) λ e t. tell (apply-two o ∷ []) (reads (terms (two o l e)) d t)
+      ≡ byOp (addOp (next s)) (λ _. give l s) λ o. bind (reads term d (rest s)) λ e t. tell (draft (kindTwo o) 0 ∷ []) (reads (terms (two o l e)) d t)
   reads-terms l = reads-step (terms l) d s tt
 
   -- a term: a factor, and factors behind it
@@ -50,12 +44,12 @@ module _ (d : ℕ) (s : List Symbol) where
 
   -- factors behind the tree l
   pub reads-factors : (l : Tree) → reads (factors l) d s
-      ≡ byOp (mulOp (next s)) (λ _. give l s) λ o. bind (reads factor d (rest s)) λ e t. tell (apply-two o ∷ []) (reads (factors (two o l e)) d t)
+      ≡ byOp (mulOp (next s)) (λ _. give l s) λ o. bind (reads factor d (rest s)) λ e t. tell (draft (kindTwo o) 0 ∷ []) (reads (factors (two o l e)) d t)
   reads-factors l = reads-step (factors l) d s tt
 
   -- a factor, by what its token begins
   pub reads-factor : reads factor d s
-      ≡ byShape (shapeOf (next s)) (λ e. tell (postfix e) (give e (rest s))) (λ _. reads (opened group) d s)
+      ≡ byShape (shapeOf (next s)) (λ e. tell (drafted e) (give e (rest s))) (λ _. reads (opened group) d s)
       (λ p. when (eqb (byteOf (next (rest s))) 40) (λ _. reads (opened p) d (rest s)) (λ _. stop 18 (rest s))) (λ _. stop 18 s)
   reads-factor = reads-step factor d s tt
 
@@ -66,7 +60,7 @@ module _ (d : ℕ) (s : List Symbol) where
   -- an expression for the opening p, and what stands behind it
   pub reads-list : (p : Opening) → reads (list p) d s
       ≡ bind (reads expr d s) λ e t.
-      byGiven (give-to p e) (λ x. need 41 t λ u. tell (openItems p) (give x u)) (λ q. need 44 t (reads (list q) d))
+      byGiven (give-to p e) (λ x. need 41 t λ u. tell (openDrafts p) (give x u)) (λ q. need 44 t (reads (list q) d))
   reads-list p = reads-step (list p) d s tt
 
 -- an opening, with no level left

@@ -1,6 +1,6 @@
 -- A count of calls that suffices gives what every such count gives.
 use Prim.Native.Nat.{ℕ, zero, suc, _+_, _*_, _≤_, _<_}
-use mathlib.Core.Path.{_≡_, refl, sym, ap, _∙_}
+use mathlib.Core.Path.{_≡_, refl, ap, _∙_}
 use mathlib.Core.Bool.{Bool, true, false}
 use mathlib.Core.List.{List, [], _∷_, _++_}
 use native.Mathlib.Omega.{arith}
@@ -8,13 +8,13 @@ use lib.Dec.{eqb}
 use lib.ListN.{length, length-append}
 use Rattle.tokens.specs.Symbol.{Symbol, mark}
 use Rattle.grammar.specs.Tree.{Two, Tree, two}
-use Rattle.grammar.specs.Items.{Item, apply-two, postfix}
+use Rattle.grammar.specs.Drafts.{Draft, draft, kindTwo}
 use Rattle.grammar.specs.Look.{next, rest, byteOf, Op, none, op, addOp, mulOp, signed, Opening, group, Given, whole, wants, give-to}
 use Rattle.grammar.specs.Look.{Shape, Leaf, Paren, Call, NoFactor, shapeOf}
 use Rattle.grammar.specs.Grammar.{Mode, expr, term, factor, terms, factors, opened, list}
 use Rattle.grammar.specs.Grammar.{Der, unsigned, sign, no-terms, add, a-term, no-factors, mul, a-leaf, grouped, called, opening, last, comma}
-use Rattle.grammar.specs.Parser.{End, got, bad, Res, give, stop, tell, onward, bind, when, byOp, byShape, byGiven, need}
-use Rattle.grammar.specs.Parser.{behindSign, signItems, openItems, parse, rank}
+use Rattle.grammar.specs.Parser.{End, got, bad, Res, tell, onward, bind, when, byOp, byShape, byGiven, need}
+use Rattle.grammar.specs.Parser.{behindSign, signDrafts, step, parse, rank}
 use Rattle.grammar.proofs.Outcome.{OutEnd, here-mark, is-mark}
 use Rattle.grammar.proofs.Looks.{add-here, mul-here, call-here, as-shaped}
 use Rattle.grammar.proofs.Sound.{Done, Via, At, sound}
@@ -122,47 +122,13 @@ module _ {A : Type 0} where
 abbrev pub Reader : Type 0
 Reader = Mode → ℕ → List Symbol → Res Tree
 
--- the clauses of `parse`, with g in the place of its calls
-abbrev pub step : Reader → Reader
-step g expr d s =
-    let o = addOp (next s) in
-    bind (g term d (behindSign o s)) λ e t. tell (signItems o) (g (terms (signed o e)) d t)
-step g (terms l) d s =
-    byOp (addOp (next s)) (λ _. give l s) λ o. bind (g term d (rest s)) λ e t. tell (apply-two o ∷ []) (g (terms (two o l e)) d t)
-step g term d s = bind (g factor d s) λ e t. g (factors e) d t
-step g (factors l) d s =
-    byOp (mulOp (next s)) (λ _. give l s) λ o. bind (g factor d (rest s)) λ e t. tell (apply-two o ∷ []) (g (factors (two o l e)) d t)
-step g factor d s =
-    byShape (shapeOf (next s))
-    (λ e. tell (postfix e) (give e (rest s)))
-    (λ _. g (opened group) d s)
-    (λ p. when (eqb (byteOf (next (rest s))) 40) (λ _. g (opened p) d (rest s)) (λ _. stop 18 (rest s)))
-    (λ _. stop 18 s)
-step g (opened p) zero s = stop 19 s
-step g (opened p) (suc d) s = g (list p) d (rest s)
-step g (list p) d s =
-    bind (g expr d s) λ e t.
-    byGiven (give-to p e) (λ x. need 41 t λ u. tell (openItems p) (give x u)) (λ q. need 44 t (g (list q) d))
-
--- with one call more, `parse` takes such a step
-pub parse-step : (f : ℕ) (m : Mode) (d : ℕ) (s : List Symbol) → parse (suc f) m d s ≡ step (parse f) m d s
-unfolding parse
-parse-step f expr d s = refl
-parse-step f term d s = refl
-parse-step f factor d s = refl
-parse-step f (terms l) d s = refl
-parse-step f (factors l) d s = refl
-parse-step f (opened p) zero s = refl
-parse-step f (opened p) (suc d) s = refl
-parse-step f (list p) d s = refl
-
 -- two readers agree on what is less than n
 abbrev pub Agree : Reader → Reader → ℕ → Type 0
 Agree g g′ n = (m : Mode) (d : ℕ) (s : List Symbol) → At m s → rank m + 5 * length s < n → g m d s ≡ g′ m d s
 
 module _ (f : ℕ) (g : Reader) {n : ℕ} (same : Agree (parse f) g n) (d : ℕ) where
   -- a part, and what goes on from it
-  linked-cong : (part : Mode) (chain : Tree → Mode) (is : List Item) (u : List Symbol) → At part u → ((e : Tree) (t : List Symbol) → At (chain e) t)
+  linked-cong : (part : Mode) (chain : Tree → Mode) (is : List Draft) (u : List Symbol) → At part u → ((e : Tree) (t : List Symbol) → At (chain e) t)
       → rank part + 5 * length u < n → ((e : Tree) (t : List Symbol) → least part + length t ≤ length u → rank (chain e) + 5 * length t < n)
       → bind (parse f part d u) (λ e t. tell is (parse f (chain e) d t)) ≡ bind (g part d u) (λ e t. tell is (g (chain e) d t))
   linked-cong part chain is u p q l k =
@@ -175,7 +141,7 @@ pub step-cong : (f : ℕ) (g : Reader) (m : Mode) (d : ℕ) (s : List Symbol) �
 step-cong f g expr d s p same =
     let o = addOp (next s) in
     let l = behind-le o s in
-    linked-cong f g same d term (λ e. terms (signed o e)) (signItems o) (behindSign o s) tt (λ _ _. tt) (omega arith) λ e t k. omega arith
+    linked-cong f g same d term (λ e. terms (signed o e)) (signDrafts o) (behindSign o s) tt (λ _ _. tt) (omega arith) λ e t k. omega arith
 step-cong f g term d s p same = linked-cong f g same d factor factors [] s tt (λ _ _. tt) (omega arith) λ e t k. omega arith
 step-cong f g factor d s p same =
     shape-cong (shapeOf (next s)) _ _ _ _ _ _ (λ q. same (opened group) d s (as-shaped (next s) q) (omega arith)) λ p q.
@@ -184,11 +150,11 @@ step-cong f g factor d s p same =
 step-cong f g (terms l) d s p same =
     op-cong (addOp (next s)) _ _ _ λ o h.
     let n = shorter s (add-here s o h) in
-    linked-cong f g same d term (λ e. terms (two o l e)) (apply-two o ∷ []) (rest s) tt (λ _ _. tt) (omega arith) λ e t k. omega arith
+    linked-cong f g same d term (λ e. terms (two o l e)) (draft (kindTwo o) 0 ∷ []) (rest s) tt (λ _ _. tt) (omega arith) λ e t k. omega arith
 step-cong f g (factors l) d s p same =
     op-cong (mulOp (next s)) _ _ _ λ o h.
     let n = shorter s (mul-here s o h) in
-    linked-cong f g same d factor (λ e. factors (two o l e)) (apply-two o ∷ []) (rest s) tt (λ _ _. tt) (omega arith) λ e t k. omega arith
+    linked-cong f g same d factor (λ e. factors (two o l e)) (draft (kindTwo o) 0 ∷ []) (rest s) tt (λ _ _. tt) (omega arith) λ e t k. omega arith
 step-cong f g (opened p) zero s q same = refl
 step-cong f g (opened p) (suc d) s q same =
     let l = shorter s (here-mark s 39 q) in
@@ -201,9 +167,7 @@ step-cong f g (list p) d s q same =
 -- any two counts of calls that suffice give the same reading
 pub enough : (f f′ : ℕ) (m : Mode) (d : ℕ) (s : List Symbol) → At m s → rank m + 5 * length s < f → rank m + 5 * length s < f′
     → parse f m d s ≡ parse f′ m d s
+unfolding parse
 enough zero f′ m d s p b b′ = absurd (omega arith)
 enough (suc f) zero m d s p b b′ = absurd (omega arith)
-enough (suc f) (suc f′) m d s p b b′ =
-    parse-step f m d s
-    ∙ step-cong f (parse f′) m d s p (λ k D u q l. enough f f′ k D u q (omega arith) (omega arith))
-    ∙ sym (parse-step f′ m d s)
+enough (suc f) (suc f′) m d s p b b′ = step-cong f (parse f′) m d s p λ k D u q l. enough f f′ k D u q (omega arith) (omega arith)

@@ -11,7 +11,7 @@ use Rattle.laws.proofs.Tests.{lt-or-ge}
 use Rattle.limits.specs.Limits.{levels}
 use Rattle.tokens.specs.Symbol.{Symbol, mark}
 use Rattle.grammar.specs.Tree.{Says}
-use Rattle.grammar.specs.Items.{Item}
+use Rattle.grammar.specs.Drafts.{Draft}
 use Rattle.grammar.specs.Look.{next, Paren, Call, shapeOf}
 use Rattle.grammar.specs.Grammar.{Derives}
 use Rattle.grammar.specs.Parser.{End, got, bad, Res, entire, calls, Read, read, fault, answer, readRow}
@@ -111,7 +111,7 @@ answered : (row : List Symbol) → Answer row (readRow row)
 unfolding readRow
 answered row = go (entire (calls row) levels row .out) (ending levels row) (entire-out (calls row) levels row .ends) refl
   where
-    go : (o : List Item) (t : End Says) → OutEnd (Stated levels) (StatedVia levels) row o t → ending levels row ≡ t → Answer row (answer (length row) t)
+    go : (o : List Draft) (t : End Says) → OutEnd (Stated levels) (StatedVia levels) row o t → ending levels row ≡ t → Answer row (answer (length row) t)
     go o (got y t) r e = right (accepts row y .0 (ap (answer (length row)) e))
     go o (bad c t) r e =
         let l = length-append (r .0) t in

@@ -8,12 +8,12 @@ use native.Mathlib.Omega.{arith}
 use lib.Dec.{eqb}
 use Rattle.tokens.specs.Symbol.{Symbol, mark}
 use Rattle.grammar.specs.Tree.{Two, Tree, two}
-use Rattle.grammar.specs.Items.{Item, apply-two, postfix}
+use Rattle.grammar.specs.Drafts.{Draft, draft, kindTwo, drafted}
 use Rattle.grammar.specs.Look.{next, rest, byteOf, Op, none, op, addOp, mulOp, signed, Opening, group, Given, whole, wants, give-to}
 use Rattle.grammar.specs.Look.{Shape, Leaf, Paren, Call, NoFactor, shapeOf}
 use Rattle.grammar.specs.Grammar.{Mode, expr, term, factor, terms, factors, opened, list}
 use Rattle.grammar.specs.Parser.{End, got, bad, Res, give, stop, tell, onward, bind, when, byOp, byShape, byGiven, need}
-use Rattle.grammar.specs.Parser.{behindSign, signItems, openItems, parse}
+use Rattle.grammar.specs.Parser.{behindSign, signDrafts, openDrafts, parse}
 use Rattle.grammar.proofs.Outcome.{here-mark, is-mark}
 use Rattle.grammar.proofs.Looks.{add-here, mul-here, leaf-here, call-here, as-shaped}
 use Rattle.grammar.proofs.Sound.{At}
@@ -81,7 +81,7 @@ loc-bind {A} {B} d s g k h l = record { ends = go (g d s .out) (g d s .end) (h .
           rw append-assoc (bind-end (g d′ (w ++ (a .0 ++ u))) (k d′) first ∙ a .2 d′ u le n like),
     )
 
-    go : (o : List Item) (t : End A) → LocEnd d s g t → LocEnd d s (λ d′ u. bind (g d′ u) (k d′)) (onward o t (k d) .end)
+    go : (o : List Draft) (t : End A) → LocEnd d s g t → LocEnd d s (λ d′ u. bind (g d′ u) (k d′)) (onward o t (k d) .end)
     go o (got e t) a = then (a .0) t e (a .1) (a .2) (k d e t .end) (l e t .ends)
     go o (bad c t) a = (a .0, a .1, λ d′ u le n like. bind-bad (g d′ (a .0 ++ u)) (k d′) (a .2 d′ u le n like))
 
@@ -106,8 +106,8 @@ module _ {A : Type 0} (d : ℕ) (s : List Symbol) where
       go (got e t) r = (a ∷ r .0, q ∙ ap (λ (z : List Symbol). a ∷ z) (r .1), r .2)
       go (bad c t) r = (a ∷ r .0, q ∙ ap (λ (z : List Symbol). a ∷ z) (r .1), r .2)
 
-  -- behind items
-  pub loc-tell : (is : List Item) (g : Reading A) → Loc d s g → Loc d s (λ d′ u. tell is (g d′ u))
+  -- behind drafts
+  pub loc-tell : (is : List Draft) (g : Reading A) → Loc d s g → Loc d s (λ d′ u. tell is (g d′ u))
   loc-tell is g h = record { ends = go (g d s .end) (h .ends) }
     where
       go : (t : End A) → LocEnd d s g t → LocEnd d s (λ d′ u. tell is (g d′ u)) t
@@ -177,10 +177,10 @@ loc-suc {A} d s g h q l = record { ends = rw (q d s) (go (g d s .end) (l .ends))
 module _ (f d : ℕ) (ih : (m : Mode) (s : List Symbol) → At m s → Loc d s (parse f m)) where
   -- a factor, by what its token begins
   factor-loc : (s : List Symbol) (h : Shape) → shapeOf (next s) ≡ h
-      → Loc d s (λ d′ u. byShape h (λ e. tell (postfix e) (give e (rest u))) (λ _. parse f (opened group) d′ u)
+      → Loc d s (λ d′ u. byShape h (λ e. tell (drafted e) (give e (rest u))) (λ _. parse f (opened group) d′ u)
       (λ p. when (eqb (byteOf (next (rest u))) 40) (λ _. parse f (opened p) d′ (rest u)) (λ _. stop 18 (rest u))) (λ _. stop 18 u))
   factor-loc s (Leaf e) q =
-      loc-rest d s (λ _ u. tell (postfix e) (give e u)) (leaf-here s e q) (loc-tell d (rest s) (postfix e) (λ _. give e) (loc-give d (rest s) e))
+      loc-rest d s (λ _ u. tell (drafted e) (give e u)) (leaf-here s e q) (loc-tell d (rest s) (drafted e) (λ _. give e) (loc-give d (rest s) e))
   factor-loc s Paren q = ih (opened group) s (as-shaped (next s) q)
   factor-loc s (Call p) q =
       loc-rest d s (λ d′ u. when (eqb (byteOf (next u)) 40) (λ _. parse f (opened p) d′ u) (λ _. stop 18 u)) (call-here s p q)
@@ -189,9 +189,9 @@ module _ (f d : ℕ) (ih : (m : Mode) (s : List Symbol) → At m s → Loc d s (
 
   -- behind an expression of an opening
   given-loc : (p : Opening) (g : Given) (t : List Symbol)
-      → Loc d t (λ d′ u. byGiven g (λ x. need 41 u λ v. tell (openItems p) (give x v)) (λ q. need 44 u (parse f (list q) d′)))
+      → Loc d t (λ d′ u. byGiven g (λ x. need 41 u λ v. tell (openDrafts p) (give x v)) (λ q. need 44 u (parse f (list q) d′)))
   given-loc p (whole x) t =
-      loc-need d t 40 (λ _ v. tell (openItems p) (give x v)) λ m. loc-tell d (rest t) (openItems p) (λ _. give x) (loc-give d (rest t) x)
+      loc-need d t 40 (λ _ v. tell (openDrafts p) (give x v)) λ m. loc-tell d (rest t) (openDrafts p) (λ _. give x) (loc-give d (rest t) x)
   given-loc p (wants q) t = loc-need d t 43 (parse f (list q)) λ m. ih (list q) (rest t) tt
 
 -- in each mode, whatever the count of calls
@@ -200,29 +200,29 @@ unfolding parse
 local zero m d s p = loc-stop d s 18
 local (suc f) expr d s p =
     let o = addOp (next s) in
-    loc-seen d s addOp (λ o d′ u. bind (parse f term d′ (behindSign o u)) λ e t. tell (signItems o) (parse f (terms (signed o e)) d′ t))
+    loc-seen d s addOp (λ o d′ u. bind (parse f term d′ (behindSign o u)) λ e t. tell (signDrafts o) (parse f (terms (signed o e)) d′ t))
     (loc-bind d s (λ d′ u. parse f term d′ (behindSign o u)) _ (loc-behind d s (parse f term) o (add-here s) (λ s. local f term d s tt))
-    λ e t. loc-tell d t (signItems o) (parse f (terms (signed o e))) (local f (terms (signed o e)) d t tt))
+    λ e t. loc-tell d t (signDrafts o) (parse f (terms (signed o e))) (local f (terms (signed o e)) d t tt))
 local (suc f) term d s p = loc-bind d s (parse f factor) _ (local f factor d s tt) λ e t. local f (factors e) d t tt
 local (suc f) factor d s p =
     loc-seen d s shapeOf
-    (λ h d′ u. byShape h (λ e. tell (postfix e) (give e (rest u))) (λ _. parse f (opened group) d′ u)
+    (λ h d′ u. byShape h (λ e. tell (drafted e) (give e (rest u))) (λ _. parse f (opened group) d′ u)
     (λ p. when (eqb (byteOf (next (rest u))) 40) (λ _. parse f (opened p) d′ (rest u)) (λ _. stop 18 (rest u))) (λ _. stop 18 u))
     (factor-loc f d (λ m s p. local f m d s p) s (shapeOf (next s)) refl)
 local (suc f) (terms l) d s p =
     loc-seen d s addOp
-    (λ o d′ u. byOp o (λ _. give l u) λ n. bind (parse f term d′ (rest u)) λ e t. tell (apply-two n ∷ []) (parse f (terms (two n l e)) d′ t))
+    (λ o d′ u. byOp o (λ _. give l u) λ n. bind (parse f term d′ (rest u)) λ e t. tell (draft (kindTwo n) 0 ∷ []) (parse f (terms (two n l e)) d′ t))
     (chain-loc d s l (parse f term) _ (addOp (next s)) (add-here s) (λ s. local f term d s tt)
-    λ n e t. loc-tell d t (apply-two n ∷ []) (parse f (terms (two n l e))) (local f (terms (two n l e)) d t tt))
+    λ n e t. loc-tell d t (draft (kindTwo n) 0 ∷ []) (parse f (terms (two n l e))) (local f (terms (two n l e)) d t tt))
 local (suc f) (factors l) d s p =
     loc-seen d s mulOp
-    (λ o d′ u. byOp o (λ _. give l u) λ n. bind (parse f factor d′ (rest u)) λ e t. tell (apply-two n ∷ []) (parse f (factors (two n l e)) d′ t))
+    (λ o d′ u. byOp o (λ _. give l u) λ n. bind (parse f factor d′ (rest u)) λ e t. tell (draft (kindTwo n) 0 ∷ []) (parse f (factors (two n l e)) d′ t))
     (chain-loc d s l (parse f factor) _ (mulOp (next s)) (mul-here s) (λ s. local f factor d s tt)
-    λ n e t. loc-tell d t (apply-two n ∷ []) (parse f (factors (two n l e))) (local f (factors (two n l e)) d t tt))
+    λ n e t. loc-tell d t (draft (kindTwo n) 0 ∷ []) (parse f (factors (two n l e))) (local f (factors (two n l e)) d t tt))
 local (suc f) (opened p) zero s q = record { ends = ([], refl, λ d′ u le c like. rw (c refl)) }
 local (suc f) (opened p) (suc d) s q =
     loc-suc d s (λ d′ u. parse f (list p) d′ (rest u)) _ (λ d′ u. refl) (loc-rest d s (parse f (list p)) (here-mark s 39 q) (local f (list p) d (rest s) tt))
 local (suc f) (list p) d s q =
     loc-bind d s (parse f expr)
-    (λ d′ e t. byGiven (give-to p e) (λ x. need 41 t λ u. tell (openItems p) (give x u)) (λ q. need 44 t (parse f (list q) d′)))
+    (λ d′ e t. byGiven (give-to p e) (λ x. need 41 t λ u. tell (openDrafts p) (give x u)) (λ q. need 44 t (parse f (list q) d′)))
     (local f expr d s tt) λ e t. given-loc f d (λ m s p. local f m d s p) p (give-to p e) t

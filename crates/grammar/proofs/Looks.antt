@@ -9,11 +9,11 @@ use lib.Ieee.{Float}
 use Rattle.laws.proofs.Tests.{cond-ind}
 use Rattle.tokens.specs.Symbol.{CONST, PARAM, INCON, INTGRL, TIME, INSW, LIMIT, COMPAR, Symbol, mark, number, name, word}
 use Rattle.grammar.specs.Tree.{Two, plus, minus, times, over, compar, Three, Tree, value, named, time}
-use Rattle.grammar.specs.Items.{Item, postfix}
+use Rattle.grammar.specs.Drafts.{Draft, drafted}
 use Rattle.grammar.specs.Look.{next, rest, byteOf, Op, none, op, addOp, mulOp, signed}
 use Rattle.grammar.specs.Look.{Opening, group, pair, pair-of, triple, triple-of, triple-of-two, Given, whole, wants, give-to}
 use Rattle.grammar.specs.Look.{Shape, Leaf, Paren, Call, NoFactor, shapeOf, Start, Constants, Integral, Named, Valued, Other, startOf}
-use Rattle.grammar.specs.Parser.{signItems, openItems}
+use Rattle.grammar.specs.Parser.{signDrafts, openDrafts}
 use Rattle.grammar.proofs.Outcome.{clash, here, is-mark}
 
 -- what is seen of the next token is not what is seen past the end: it stands there
@@ -159,43 +159,43 @@ start-cases s P c i k v z = go (startOf (next s)) refl
 -- ---- signs and openings
 
 -- what a sign writes stands behind the first term
-pub sign-items : (o : Op) (e : Tree) → postfix e ++ signItems o ≡ postfix (signed o e)
-unfolding postfix
-sign-items none e = append-nil (postfix e)
-sign-items (op plus) e = append-nil (postfix e)
-sign-items (op minus) e = refl
-sign-items (op times) e = append-nil (postfix e)
-sign-items (op over) e = append-nil (postfix e)
-sign-items (op compar) e = append-nil (postfix e)
+pub sign-drafts : (o : Op) (e : Tree) → drafted e ++ signDrafts o ≡ drafted (signed o e)
+unfolding drafted
+sign-drafts none e = append-nil (drafted e)
+sign-drafts (op plus) e = append-nil (drafted e)
+sign-drafts (op minus) e = refl
+sign-drafts (op times) e = append-nil (drafted e)
+sign-drafts (op over) e = append-nil (drafted e)
+sign-drafts (op compar) e = append-nil (drafted e)
 
--- the items of the expressions that an opening has been given so far
-abbrev pub so-far : Opening → List Item
+-- the drafts of the expressions that an opening has been given so far
+abbrev pub so-far : Opening → List Draft
 so-far group = []
 so-far pair = []
-so-far (pair-of a) = postfix a
+so-far (pair-of a) = drafted a
 so-far (triple o) = []
-so-far (triple-of o a) = postfix a
-so-far (triple-of-two o a b) = postfix a ++ postfix b
+so-far (triple-of o a) = drafted a
+so-far (triple-of-two o a b) = drafted a ++ drafted b
 
 -- nothing is given yet, so there are none
-pub new-items : {p : Opening} → New p → so-far p ≡ []
-new-items new-pair = refl
-new-items new-triple = refl
+pub new-drafts : {p : Opening} → New p → so-far p ≡ []
+new-drafts new-pair = refl
+new-drafts new-triple = refl
 
 -- given one more: the whole has these, those of the expression, and the opening's own; what wants another has these and those of the expression
 abbrev pub Gave : Opening → Tree → Given → Type 0
-Gave p e (whole x) = so-far p ++ (postfix e ++ openItems p) ≡ postfix x
-Gave p e (wants q) = so-far q ≡ so-far p ++ postfix e
+Gave p e (whole x) = so-far p ++ (drafted e ++ openDrafts p) ≡ drafted x
+Gave p e (wants q) = so-far q ≡ so-far p ++ drafted e
 
 -- it is so for each opening
 gave : (p : Opening) (e : Tree) → Gave p e (give-to p e)
-unfolding give-to postfix
-gave group e = append-nil (postfix e)
+unfolding give-to drafted
+gave group e = append-nil (drafted e)
 gave pair e = refl
 gave (pair-of a) e = refl
 gave (triple o) e = refl
 gave (triple-of o a) e = refl
-gave (triple-of-two o a b) e = append-assoc (postfix a) (postfix b) _
+gave (triple-of-two o a b) e = append-assoc (drafted a) (drafted b) _
 
 -- so it is where what it makes is known
 pub as-gave : (p : Opening) (e : Tree) {g : Given} → give-to p e ≡ g → Gave p e g

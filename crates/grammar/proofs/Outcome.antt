@@ -7,7 +7,7 @@ use native.Mathlib.Omega.{arith}
 use borrow.Author.Tests.{eqb-true}
 use lib.Dec.{eqb}
 use Rattle.tokens.specs.Symbol.{Symbol, mark, number, name, word}
-use Rattle.grammar.specs.Items.{Item}
+use Rattle.grammar.specs.Drafts.{Draft}
 use Rattle.grammar.specs.Look.{next, rest, byteOf}
 use Rattle.grammar.specs.Parser.{End, got, bad, Res, give, stop, tell, onward, bind, when, need}
 use Rattle.grammar.specs.Meaning.{Calm}
@@ -18,7 +18,7 @@ clash h = absurd (omega arith)
 
 -- what is asked of a reading that is done: of what it wrote, of the tokens that it read, of what they are; and of a fault, and the tokens before it
 abbrev pub Asked : Type 0 → Type 1
-Asked A = List Item → List Symbol → A → Type 0
+Asked A = List Draft → List Symbol → A → Type 0
 
 abbrev pub Before : Type 1
 Before = ℕ → List Symbol → Type 0
@@ -29,7 +29,7 @@ pub data Code (t : List Symbol) : ℕ → Type 0 where
   for-depth : next t ≡ mark 40 → Code t 19
 
 -- each of them holds of the end that reading came to
-abbrev pub OutEnd : {A : Type 0} → Asked A → Before → List Symbol → List Item → End A → Type 0
+abbrev pub OutEnd : {A : Type 0} → Asked A → Before → List Symbol → List Draft → End A → Type 0
 OutEnd L F s o (got e t) = (w : List Symbol) × (s ≡ w ++ t) × L o w e
 OutEnd L F s o (bad c t) = (w : List Symbol) × (s ≡ w ++ t) × F c w × Code t c
 
@@ -40,15 +40,15 @@ pub record Out {A : Type 0} (L : Asked A) (F : Before) (s : List Symbol) (x : Re
 module _ {A : Type 0} (L : Asked A) (F : Before) where
   -- what asks less
   pub out-mono : {K : Asked A} {E : Before} (s : List Symbol) (x : Res A) → Out K E s x
-      → ((o : List Item) (w : List Symbol) (e : A) → K o w e → L o w e) → ((c : ℕ) (w : List Symbol) → E c w → F c w) → Out L F s x
+      → ((o : List Draft) (w : List Symbol) (e : A) → K o w e → L o w e) → ((c : ℕ) (w : List Symbol) → E c w → F c w) → Out L F s x
   out-mono {K} {E} s x h l p = record { ends = go (x .end) (h .ends) }
     where
       go : (t : End A) → OutEnd K E s (x .out) t → OutEnd L F s (x .out) t
       go (got e t) r = (r .0, r .1, l _ _ _ (r .2))
       go (bad c t) r = (r .0, r .1, p _ _ (r .2), r .3)
 
-  -- behind items
-  pub out-tell : (is : List Item) (s : List Symbol) (x : Res A) → Out (λ o. L (is ++ o)) F s x → Out L F s (tell is x)
+  -- behind drafts
+  pub out-tell : (is : List Draft) (s : List Symbol) (x : Res A) → Out (λ o. L (is ++ o)) F s x → Out L F s (tell is x)
   out-tell is s x h = record { ends = go (x .end) (h .ends) }
     where
       go : (t : End A) → OutEnd (λ o. L (is ++ o)) F s (x .out) t → OutEnd L F s (is ++ x .out) t
@@ -75,13 +75,13 @@ module _ {A : Type 0} (L : Asked A) (F : Before) where
 -- one after the other
 pub out-bind : {A B : Type 0} {K : Asked A} {E : Before} (L : Asked B) (F : Before) (s : List Symbol) (x : Res A) (k : A → List Symbol → Res B)
     → Out K E s x
-    → ((o : List Item) (w : List Symbol) (e : A) (t : List Symbol) → K o w e → Out (λ o′ v. L (o ++ o′) (w ++ v)) (λ c v. F c (w ++ v)) t (k e t))
+    → ((o : List Draft) (w : List Symbol) (e : A) (t : List Symbol) → K o w e → Out (λ o′ v. L (o ++ o′) (w ++ v)) (λ c v. F c (w ++ v)) t (k e t))
     → ((c : ℕ) (w : List Symbol) → E c w → F c w)
     → Out L F s (bind x k)
 unfolding bind
 out-bind {A} {B} {K} {E} L F s x k h g p = record { ends = go (x .end) (h .ends) }
   where
-    then : (w t : List Symbol) (o : List Item) (e : A) → s ≡ w ++ t → (y : End B)
+    then : (w t : List Symbol) (o : List Draft) (e : A) → s ≡ w ++ t → (y : End B)
         → OutEnd (λ o′ v. L (o ++ o′) (w ++ v)) (λ c v. F c (w ++ v)) t (k e t .out) y → OutEnd L F s (o ++ k e t .out) y
     then w t o e q (got z u) r = (w ++ r .0, q ∙ rw (append-assoc, r .1), r .2)
     then w t o e q (bad c u) r = (w ++ r .0, q ∙ rw (append-assoc, r .1), r .2, r .3)
@@ -93,7 +93,7 @@ out-bind {A} {B} {K} {E} L F s x k h g p = record { ends = go (x .end) (h .ends)
 -- and nothing read after it
 pub out-map : {A B : Type 0} {K : Asked A} {E : Before} (L : Asked B) (F : Before) (s : List Symbol) (x : Res A) (g : A → B)
     → Out K E s x
-    → ((o : List Item) (w : List Symbol) (e : A) → K o w e → L o w (g e))
+    → ((o : List Draft) (w : List Symbol) (e : A) → K o w e → L o w (g e))
     → ((c : ℕ) (w : List Symbol) → E c w → F c w)
     → Out L F s (bind x λ e t. give (g e) t)
 out-map {A} {B} L F s x g h l p =

@@ -1,22 +1,23 @@
 -- Statements: a count of calls that suffices, and what a reading hangs on.
 use Prim.Native.Nat.{ℕ, zero, suc, _+_, _*_, _≤_, _<_}
-use mathlib.Core.Path.{_≡_, refl}
+use mathlib.Core.Path.{_≡_, refl, ap}
 use mathlib.Core.List.{List, [], _∷_}
 use native.Mathlib.Omega.{arith}
 use lib.Ieee.{Float}
 use lib.ListN.{length, length-append}
 use Rattle.tokens.specs.Symbol.{INTGRL, Symbol, number, name, word}
 use Rattle.grammar.specs.Tree.{Constant, constantOf, plain, from, Says, constants, assignment, state}
+use Rattle.grammar.specs.Drafts.{draft, constantDrafts, initialDraft}
 use Rattle.grammar.specs.Look.{next, rest, Op, addOp, Start, Constants, Integral, Named, Valued, Other, startOf}
 use Rattle.grammar.specs.Grammar.{expr}
-use Rattle.grammar.specs.Parser.{got, Res, give, stop, bind, byStart, byName, byNumber, byIntegral, need, behindSign, parse}
+use Rattle.grammar.specs.Parser.{got, Res, give, stop, tell, bind, byStart, byName, byNumber, byIntegral, need, behindSign, parse}
 use Rattle.grammar.specs.Parser.{signedValue, aNumber, signedNumber, onMore, valued, many, initially}
 use Rattle.grammar.specs.Parser.{assigned, rated, started, integrated, equated, statement, ended, entire}
 use Rattle.grammar.proofs.Outcome.{Asked, Before, Out, OutEnd, here-mark}
 use Rattle.grammar.proofs.Looks.{add-here, start-cases}
 use Rattle.grammar.proofs.Whole.{signed-out, initially-out}
 use Rattle.grammar.proofs.Enough.{bind-cong, mark-cong, need-cong, shorter, rest-le, enough}
-use Rattle.grammar.proofs.Local.{Reading, Loc, loc-bind, loc-seen, loc-rest, loc-give, loc-stop, loc-mark, loc-need, loc-behind, local}
+use Rattle.grammar.proofs.Local.{Reading, Loc, loc-bind, loc-seen, loc-rest, loc-tell, loc-give, loc-stop, loc-mark, loc-need, loc-behind, local}
 
 -- ---- calls
 
@@ -51,9 +52,9 @@ many-enough (suc f) (suc f′) s b b′ =
     (λ k. need-cong 60 (rest s) (valued (many f) k) (valued (many f′) k) λ l.
     bind-cong (signedNumber (rest (rest s))) _ _ _ refl λ x t h.
     let n = out-left (rest (rest s)) _ (signed-out 0 (rest (rest s))) x t h in
-    mark-cong 43 t _ _ _ λ m.
+    ap (tell (constantDrafts (constantOf k x))) (mark-cong 43 t _ _ _ λ m.
     let z = shorter t (here-mark t 43 m) in
-    bind-cong (many f (rest t)) _ _ _ (many-enough f f′ (rest t) (omega arith) (omega arith)) λ e t h. refl)
+    bind-cong (many f (rest t)) _ _ _ (many-enough f f′ (rest t) (omega arith) (omega arith)) λ e t h. refl))
     (λ x. refl) refl
 
 module _ (f f′ d k : ℕ) where
@@ -69,8 +70,8 @@ module _ (f f′ d k : ℕ) where
       need-cong 39 s (started f d k) (started f′ d k) λ l.
       bind-cong (initially (rest s)) _ _ _ refl λ i t h.
       let n = out-left (rest s) _ (initially-out 0 (rest s)) i t h in
-      need-cong 43 t (rated f d k i) (rated f′ d k i) λ m.
-      bind-cong (parse f expr d (rest t)) _ _ _ (enough f f′ expr d (rest t) tt (omega arith) (omega arith)) λ e u h. refl
+      ap (tell (draft 2 k ∷ initialDraft i ∷ [])) (need-cong 43 t (rated f d k i) (rated f′ d k i) λ m.
+      bind-cong (parse f expr d (rest t)) _ _ _ (enough f f′ expr d (rest t) tt (omega arith) (omega arith)) λ e u h. refl)
 
   -- behind name =
   equated-enough : (s : List Symbol) → 3 + 5 * length s < f → 3 + 5 * length s < f′ → equated f d k s ≡ equated f′ d k s
@@ -139,8 +140,9 @@ many-loc (suc f) d s =
     loc-start d s (λ p _ u. byName p (λ k. need 61 (rest u) (valued (many f) k)) (λ _. stop 18 u)) (λ _. no) (λ _. no)
     (λ k q. loc-rest d s (λ _ u. need 61 u (valued (many f) k)) q
     (loc-need d (rest s) 60 (λ _. valued (many f) k) λ m.
-    loc-bind d (rest (rest s)) (λ _. signedNumber) (λ _ x t. onMore (many f) (constantOf k x) t) (signed-loc d (rest (rest s)))
-    λ x t. more-loc d (many f) (constantOf k x) (many-loc f d) t))
+    loc-bind d (rest (rest s)) (λ _. signedNumber) (λ _ x t. tell (constantDrafts (constantOf k x)) (onMore (many f) (constantOf k x) t))
+    (signed-loc d (rest (rest s)))
+    λ x t. loc-tell d t (constantDrafts (constantOf k x)) (λ _. onMore (many f) (constantOf k x)) (more-loc d (many f) (constantOf k x) (many-loc f d) t)))
     (λ _ _. no) no
 
 -- an initial
@@ -155,17 +157,22 @@ module _ (f d k : ℕ) where
   -- an expression behind name =
   assigned-loc : (s : List Symbol) → Loc d s (λ d′. assigned f d′ k)
   unfolding assigned
-  assigned-loc s = loc-bind d s (parse f expr) (λ _ e t. give (assignment k e) t) (local f expr d s tt) λ e t. loc-give d t (assignment k e)
+  assigned-loc s =
+      loc-bind d s (parse f expr) (λ _ e t. tell (draft 13 k ∷ []) (give (assignment k e) t)) (local f expr d s tt)
+      λ e t. loc-tell d t (draft 13 k ∷ []) (λ _. give (assignment k e)) (loc-give d t (assignment k e))
 
   -- behind name = INTGRL
   integrated-loc : (s : List Symbol) → Loc d s (λ d′. integrated f d′ k)
   unfolding integrated
   integrated-loc s =
       loc-need d s 39 (λ d′. started f d′ k) λ m.
-      loc-bind d (rest s) (λ _. initially) (λ d′ i t. need 44 t (rated f d′ k i)) (initially-loc d (rest s)) λ i t.
-      loc-need d t 43 (λ d′. rated f d′ k i) λ m.
-      loc-bind d (rest t) (parse f expr) (λ _ e u. need 41 u (give (state k i e))) (local f expr d (rest t) tt) λ e u.
-      loc-need d u 40 (λ _. give (state k i e)) λ m. loc-give d (rest u) (state k i e)
+      loc-bind d (rest s) (λ _. initially) (λ d′ i t. tell (draft 2 k ∷ initialDraft i ∷ []) (need 44 t (rated f d′ k i)))
+      (initially-loc d (rest s)) λ i t.
+      loc-tell d t (draft 2 k ∷ initialDraft i ∷ []) (λ d′ u. need 44 u (rated f d′ k i))
+      (loc-need d t 43 (λ d′. rated f d′ k i) λ m.
+      loc-bind d (rest t) (parse f expr) (λ _ e u. need 41 u λ v. tell (draft 14 k ∷ []) (give (state k i e) v)) (local f expr d (rest t) tt) λ e u.
+      loc-need d u 40 (λ _ v. tell (draft 14 k ∷ []) (give (state k i e) v)) λ m.
+      loc-tell d (rest u) (draft 14 k ∷ []) (λ _. give (state k i e)) (loc-give d (rest u) (state k i e)))
 
   -- behind name =
   equated-loc : (s : List Symbol) → Loc d s (λ d′. equated f d′ k)

@@ -1,4 +1,4 @@
--- What `parse` reads is derived, and what it writes is the tree's postfix; where it faults, what it has read is the front of something derived.
+-- What `parse` reads is derived, and what it writes is the drafts of the tree; where it faults, what it has read is the front of something derived.
 use Prim.Native.Nat.{ℕ, zero, suc, _≤_}
 use mathlib.Core.Path.{_≡_, refl}
 use mathlib.Core.Bool.{false}
@@ -9,17 +9,17 @@ use lib.Ieee.{Float, fin}
 use lib.IntN.{pos}
 use Rattle.tokens.specs.Symbol.{Symbol, mark, number}
 use Rattle.grammar.specs.Tree.{Two, Tree, value, two}
-use Rattle.grammar.specs.Items.{Item, apply-two, postfix}
+use Rattle.grammar.specs.Drafts.{Draft, draft, kindTwo, drafted}
 use Rattle.grammar.specs.Look.{next, rest, byteOf, Op, none, op, addOp, mulOp, signed}
 use Rattle.grammar.specs.Look.{Opening, group, pair, pair-of, triple, triple-of, triple-of-two, Given, whole, wants, give-to}
 use Rattle.grammar.specs.Look.{Shape, Leaf, Paren, Call, NoFactor, shapeOf}
 use Rattle.grammar.specs.Grammar.{Mode, expr, term, factor, terms, factors, opened, list}
 use Rattle.grammar.specs.Grammar.{Der, unsigned, sign, no-terms, add, a-term, no-factors, mul, a-leaf, grouped, called, opening, last, comma}
-use Rattle.grammar.specs.Parser.{give, stop, tell, bind, when, byOp, byShape, byGiven, need, behindSign, signItems, openItems, parse}
+use Rattle.grammar.specs.Parser.{give, stop, tell, bind, when, byOp, byShape, byGiven, need, behindSign, signDrafts, openDrafts, parse}
 use Rattle.grammar.specs.Meaning.{Calm}
 use Rattle.grammar.proofs.Outcome.{clash, Asked, Out, out-mono, out-tell, out-mark, out-give, out-stop, out-rest, out-bind, out-need}
 use Rattle.grammar.proofs.Outcome.{for-depth, here-mark, Begins, Fronts, calm-end, extend, behind, fresh}
-use Rattle.grammar.proofs.Looks.{add-here, mul-here, leaf-here, call-here, as-shaped, sign-items, so-far, new-items, as-gave}
+use Rattle.grammar.proofs.Looks.{add-here, mul-here, leaf-here, call-here, as-shaped, sign-drafts, so-far, new-drafts, as-gave}
 
 -- what is derived with d levels is derived with more
 pub der-le : {m : Mode} {d : ℕ} {w : List Symbol} {e : Tree} → Der m d w e → (D : ℕ) → d ≤ D → Der m D w e
@@ -77,19 +77,19 @@ end-list p {d} {w} {e} a = go (give-to p e) refl
 
 -- ---- what is asked of a reading in each mode
 
--- the items of what a mode goes on from: of the tree, or of the expressions that the opening has
-abbrev pub base : Mode → List Item
+-- the drafts of what a mode goes on from: of the tree, or of the expressions that the opening has
+abbrev pub base : Mode → List Draft
 base expr = []
 base term = []
 base factor = []
-base (terms l) = postfix l
-base (factors l) = postfix l
+base (terms l) = drafted l
+base (factors l) = drafted l
 base (opened p) = so-far p
 base (list p) = so-far p
 
--- done: the tokens are derived, and the items are those of the tree
+-- done: the tokens are derived, and the drafts are those of the tree
 abbrev pub Done : Mode → ℕ → Asked Tree
-Done m d o w e = Der m d w e × (base m ++ o ≡ postfix e)
+Done m d o w e = Der m d w e × (base m ++ o ≡ drafted e)
 
 -- at an opening: with one level more in any case; with the levels at hand once the mark is read
 pub record Half (p : Opening) (d c : ℕ) (w : List Symbol) : Type 0 where
@@ -154,42 +154,42 @@ called-front p d c t k w r =
 
 -- ---- one mode after the other, where the calls are known to do right
 
--- a rule: a part, and what goes on from the tree made of it, are an m behind the tokens p; the items `is` are written between the two
-record Link (m part : Mode) (chain : Tree → Mode) (p : List Symbol) (make : Tree → Tree) (is : List Item) : Type 0 where
+-- a rule: a part, and what goes on from the tree made of it, are an m behind the tokens p; the drafts `is` are written between the two
+record Link (m part : Mode) (chain : Tree → Mode) (p : List Symbol) (make : Tree → Tree) (is : List Draft) : Type 0 where
   join : {D : ℕ} {w v : List Symbol} {e x : Tree} → Der part D w e → Der (chain (make e)) D v x → Der m D (p ++ (w ++ v)) x
   alone : {D : ℕ} {l : Tree} → Der (chain l) D [] l
-  items : (e : Tree) → base m ++ (postfix e ++ is) ≡ postfix (make e)
+  drafts : (e : Tree) → base m ++ (drafted e ++ is) ≡ drafted (make e)
 
 -- an expression without a sign: a term, and terms behind it
 unsigned-link : Link expr term terms [] (λ e. e) []
-unsigned-link = record { join = unsigned; alone = no-terms; items = λ e. append-nil (postfix e) }
+unsigned-link = record { join = unsigned; alone = no-terms; drafts = λ e. append-nil (drafted e) }
 
 -- an expression behind its sign
-sign-link : {t : Symbol} {o : Two} → addOp t ≡ op o → Link expr term terms (t ∷ []) (signed (op o)) (signItems (op o))
-sign-link {o = o} h = record { join = sign h; alone = no-terms; items = sign-items (op o) }
+sign-link : {t : Symbol} {o : Two} → addOp t ≡ op o → Link expr term terms (t ∷ []) (signed (op o)) (signDrafts (op o))
+sign-link {o = o} h = record { join = sign h; alone = no-terms; drafts = sign-drafts (op o) }
 
 -- one term more, behind + or -
-add-link : {t : Symbol} {o : Two} (l : Tree) → addOp t ≡ op o → Link (terms l) term terms (t ∷ []) (two o l) (apply-two o ∷ [])
-unfolding postfix
-add-link l h = record { join = add h; alone = no-terms; items = λ e. refl }
+add-link : {t : Symbol} {o : Two} (l : Tree) → addOp t ≡ op o → Link (terms l) term terms (t ∷ []) (two o l) (draft (kindTwo o) 0 ∷ [])
+unfolding drafted
+add-link l h = record { join = add h; alone = no-terms; drafts = λ e. refl }
 
 -- a term: a factor, and factors behind it
 term-link : Link term factor factors [] (λ e. e) []
-term-link = record { join = a-term; alone = no-factors; items = λ e. append-nil (postfix e) }
+term-link = record { join = a-term; alone = no-factors; drafts = λ e. append-nil (drafted e) }
 
 -- one factor more, behind * or /
-mul-link : {t : Symbol} {o : Two} (l : Tree) → mulOp t ≡ op o → Link (factors l) factor factors (t ∷ []) (two o l) (apply-two o ∷ [])
-unfolding postfix
-mul-link l h = record { join = mul h; alone = no-factors; items = λ e. refl }
+mul-link : {t : Symbol} {o : Two} (l : Tree) → mulOp t ≡ op o → Link (factors l) factor factors (t ∷ []) (two o l) (draft (kindTwo o) 0 ∷ [])
+unfolding drafted
+mul-link l h = record { join = mul h; alone = no-factors; drafts = λ e. refl }
 
 -- the calls for a part and for what goes on from it do right
 record Known (f d : ℕ) (part : Mode) (chain : Tree → Mode) : Type 0 where
-  parts : (s : List Symbol) → Out (λ o w e. Der part d w e × (o ≡ postfix e)) (Fronts (Der part) d) s (parse f part d s)
+  parts : (s : List Symbol) → Out (λ o w e. Der part d w e × (o ≡ drafted e)) (Fronts (Der part) d) s (parse f part d s)
   chains : (l : Tree) (s : List Symbol)
-      → Out (λ o w e. Der (chain l) d w e × (postfix l ++ o ≡ postfix e)) (Fronts (Der (chain l)) d) s (parse f (chain l) d s)
+      → Out (λ o w e. Der (chain l) d w e × (drafted l ++ o ≡ drafted e)) (Fronts (Der (chain l)) d) s (parse f (chain l) d s)
 
 -- so the two after each other do
-linked-out : {f d : ℕ} {m part : Mode} {chain : Tree → Mode} {p : List Symbol} {make : Tree → Tree} {is : List Item}
+linked-out : {f d : ℕ} {m part : Mode} {chain : Tree → Mode} {p : List Symbol} {make : Tree → Tree} {is : List Draft}
     → Known f d part chain → Link m part chain p make is → (s : List Symbol)
     → Out (λ o w. Done m d o (p ++ w)) (λ c w. Fronts (Der m) d c (p ++ w)) s
     (bind (parse f part d s) λ e t. tell is (parse f (chain (make e)) d t))
@@ -201,8 +201,8 @@ linked-out {f} {d} {m} {part} {chain} {p} {make} {is} known k s =
     λ c v r. rw append-assoc at (behind {H = Der m} (p ++ w) (λ D v x le r. (x, rw append-assoc (k .join (der-le (q .0) D le) r))) v r)))
     λ c. extend p λ D w e le r. ([], make e, k .join r (k .alone))
   where
-    written : (o o′ : List Item) (e x : Tree) → o ≡ postfix e → postfix (make e) ++ o′ ≡ postfix x → base m ++ (o ++ (is ++ o′)) ≡ postfix x
-    written o o′ e x q r = rw (q, ← append-assoc (postfix e), ← append-assoc (base m), k .items e) r
+    written : (o o′ : List Draft) (e x : Tree) → o ≡ drafted e → drafted (make e) ++ o′ ≡ drafted x → base m ++ (o ++ (is ++ o′)) ≡ drafted x
+    written o o′ e x q r = rw (q, ← append-assoc (drafted e), ← append-assoc (base m), k .drafts e) r
 
 module _ (f d : ℕ) (ih : (m : Mode) (d : ℕ) (s : List Symbol) → At m s → Out (Done m d) (Via m d) s (parse f m d s)) where
   -- a term and the terms behind it do right
@@ -215,50 +215,50 @@ module _ (f d : ℕ) (ih : (m : Mode) (d : ℕ) (s : List Symbol) → At m s →
 
   -- an expression
   expr-out : (s : List Symbol) (o : Op) → addOp (next s) ≡ o
-      → Out (Done expr d) (Via expr d) s (bind (parse f term d (behindSign o s)) λ e t. tell (signItems o) (parse f (terms (signed o e)) d t))
+      → Out (Done expr d) (Via expr d) s (bind (parse f term d (behindSign o s)) λ e t. tell (signDrafts o) (parse f (terms (signed o e)) d t))
   expr-out s none h = linked-out known-terms unsigned-link s
   expr-out s (op o) h = out-rest _ _ s _ (add-here s o h) (linked-out known-terms (sign-link h) (rest s))
 
   -- terms behind a tree
   terms-out : (l : Tree) (s : List Symbol) (o : Op) → addOp (next s) ≡ o
       → Out (Done (terms l) d) (Via (terms l) d) s
-      (byOp o (λ _. give l s) λ o. bind (parse f term d (rest s)) λ e t. tell (apply-two o ∷ []) (parse f (terms (two o l e)) d t))
-  terms-out l s none h = out-give _ _ s l (no-terms, append-nil (postfix l))
+      (byOp o (λ _. give l s) λ o. bind (parse f term d (rest s)) λ e t. tell (draft (kindTwo o) 0 ∷ []) (parse f (terms (two o l e)) d t))
+  terms-out l s none h = out-give _ _ s l (no-terms, append-nil (drafted l))
   terms-out l s (op o) h = out-rest _ _ s _ (add-here s o h) (linked-out known-terms (add-link l h) (rest s))
 
   -- factors behind a tree
   factors-out : (l : Tree) (s : List Symbol) (o : Op) → mulOp (next s) ≡ o
       → Out (Done (factors l) d) (Via (factors l) d) s
-      (byOp o (λ _. give l s) λ o. bind (parse f factor d (rest s)) λ e t. tell (apply-two o ∷ []) (parse f (factors (two o l e)) d t))
-  factors-out l s none h = out-give _ _ s l (no-factors, append-nil (postfix l))
+      (byOp o (λ _. give l s) λ o. bind (parse f factor d (rest s)) λ e t. tell (draft (kindTwo o) 0 ∷ []) (parse f (factors (two o l e)) d t))
+  factors-out l s none h = out-give _ _ s l (no-factors, append-nil (drafted l))
   factors-out l s (op o) h = out-rest _ _ s _ (mul-here s o h) (linked-out known-factors (mul-link l h) (rest s))
 
   -- a factor, by what its token begins
   factor-out : (s : List Symbol) (h : Shape) → shapeOf (next s) ≡ h
       → Out (Done factor d) (Via factor d) s
-      (byShape h (λ e. tell (postfix e) (give e (rest s))) (λ _. parse f (opened group) d s)
+      (byShape h (λ e. tell (drafted e) (give e (rest s))) (λ _. parse f (opened group) d s)
       (λ p. when (eqb (byteOf (next (rest s))) 40) (λ _. parse f (opened p) d (rest s)) (λ _. stop 18 (rest s))) (λ _. stop 18 s))
   factor-out s (Leaf e) h =
-      out-rest _ _ s _ (leaf-here s e h) (out-tell _ _ (postfix e) (rest s) _ (out-give _ _ (rest s) e (a-leaf h, append-nil (postfix e))))
+      out-rest _ _ s _ (leaf-here s e h) (out-tell _ _ (drafted e) (rest s) _ (out-give _ _ (rest s) e (a-leaf h, append-nil (drafted e))))
   factor-out s Paren h =
       out-mono _ _ s _ (ih (opened group) d s (as-shaped (next s) h)) (λ o w e r. (grouped (r .0), r .1)) λ c w. grouped-front d c w
   factor-out s (Call p) h =
       out-rest _ _ s _ (call-here s p h)
       (out-mark _ _ 39 (rest s) _ _
       (λ m. out-mono _ _ (rest s) _ (ih (opened p) d (rest s) m)
-      (λ o w e r. (called h (r .0), rw (new-items (as-shaped (next s) h)) at (r .1))) λ c w. called-front p d c (next s) h w)
+      (λ o w e r. (called h (r .0), rw (new-drafts (as-shaped (next s) h)) at (r .1))) λ c w. called-front p d c (next s) h w)
       (out-stop _ _ (rest s) (called-front p d 18 (next s) h [] (zero-half p d 18))))
   factor-out s NoFactor h = out-stop _ _ s (fresh [] λ D le. (_, _, zero-factor))
 
   -- behind an expression of an opening
-  given-out : (p : Opening) (w : List Symbol) (o : List Item) (e : Tree) (t : List Symbol) (g : Given) → give-to p e ≡ g → Done expr d o w e
+  given-out : (p : Opening) (w : List Symbol) (o : List Draft) (e : Tree) (t : List Symbol) (g : Given) → give-to p e ≡ g → Done expr d o w e
       → Fronts (Der (list p)) d 18 (w ++ [])
       → Out (λ o′ v. Done (list p) d (o ++ o′) (w ++ v)) (λ c v. Fronts (Der (list p)) d c (w ++ v)) t
-      (byGiven g (λ x. need 41 t λ u. tell (openItems p) (give x u)) (λ q. need 44 t (parse f (list q) d)))
+      (byGiven g (λ x. need 41 t λ u. tell (openDrafts p) (give x u)) (λ q. need 44 t (parse f (list q) d)))
   given-out p w o e t (whole x) h r early =
-      let items : so-far p ++ (o ++ (openItems p ++ [])) ≡ postfix x = rw (append-nil, r .1) (as-gave p e h) in
-      out-need _ _ 40 t (λ u. tell (openItems p) (give x u))
-      (λ m. out-tell _ _ (openItems p) (rest t) _ (out-give _ _ (rest t) x (last h (r .0), items))) early
+      let drafts : so-far p ++ (o ++ (openDrafts p ++ [])) ≡ drafted x = rw (append-nil, r .1) (as-gave p e h) in
+      out-need _ _ 40 t (λ u. tell (openDrafts p) (give x u))
+      (λ m. out-tell _ _ (openDrafts p) (rest t) _ (out-give _ _ (rest t) x (last h (r .0), drafts))) early
   given-out p w o e t (wants q) h r early =
       out-need _ _ 43 t (parse f (list q) d)
       (λ m. out-mono _ _ (rest t) _ (ih (list q) d (rest t) tt)

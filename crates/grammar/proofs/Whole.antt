@@ -1,20 +1,22 @@
--- Statements: what is read is derived; where a fault is, what stands before it is the front of a statement.
+-- Statements: what is read is derived, and what is written are its drafts; where a fault is, what stands before it is the front of a statement.
 use Prim.Native.Nat.{ℕ, zero, suc, _≤_}
 use mathlib.Core.Path.{_≡_, refl}
 use mathlib.Core.List.{List, [], _∷_, _++_, append-assoc, append-nil}
 use lib.Ieee.{Float}
+use Rattle.laws.specs.Lists.{concat-map}
 use Rattle.tokens.specs.Symbol.{INTGRL, Symbol, mark, number, name, word}
 use Rattle.grammar.specs.Tree.{value, Constant, constantOf, Initial, plain, from, Says, constants, assignment, state}
-use Rattle.grammar.specs.Items.{Item, itemsOf}
+use Rattle.grammar.specs.Drafts.{Draft, draft, constantDrafts, initialDraft, draftsOf}
 use Rattle.grammar.specs.Look.{next, rest, Op, none, op, addOp, startOf}
 use Rattle.grammar.specs.Grammar.{expr, Signed, unsigned-number, signed-number, Many, one, more, Initially, of-number, of-name}
 use Rattle.grammar.specs.Grammar.{Derives, of-constants, of-assignment, of-state}
-use Rattle.grammar.specs.Parser.{Res, give, stop, bind, byStart, byName, byNumber, byIntegral, need, behindSign, parse}
+use Rattle.grammar.specs.Parser.{Res, give, stop, tell, bind, byStart, byName, byNumber, byIntegral, need, behindSign, parse}
 use Rattle.grammar.specs.Parser.{signedValue, aNumber, signedNumber, onMore, valued, many, initially}
 use Rattle.grammar.specs.Parser.{assigned, rated, started, integrated, equated, statement, ended, entire}
-use Rattle.grammar.proofs.Outcome.{Asked, Before, Out, out-mark, out-give, out-stop, out-rest, out-bind, out-map, out-need}
+use Rattle.grammar.proofs.Outcome.{Asked, Before, Out, out-mark, out-tell, out-give, out-stop, out-rest, out-bind, out-map, out-need}
 use Rattle.grammar.proofs.Outcome.{here-mark, Fronts, extend, behind, fresh}
 use Rattle.grammar.proofs.Looks.{add-here, start-cases}
+use Rattle.grammar.proofs.Drafts.{drafted-items}
 use Rattle.grammar.proofs.Sound.{der-le, nought, zero-expr, sound}
 
 module _ {A : Type 0} (L : Asked A) (F : Before) where
@@ -56,9 +58,9 @@ signed-out d s = go (addOp (next s)) refl
 
 -- ---- constants
 
--- what is asked of them: nothing is written
+-- what is asked of them: the drafts of each are written
 abbrev pub Consts : Asked (List Constant)
-Consts o w cs = Many w cs × (o ≡ [])
+Consts o w cs = Many w cs × (o ≡ concat-map constantDrafts cs)
 
 -- and at a fault
 abbrev pub ConstsVia : ℕ → Before
@@ -70,15 +72,18 @@ zero-many d = fresh [] λ D le. (_, _, one {k = 0} (unsigned-number {x = nought}
 
 -- behind a constant's value: a comma and more, or nothing
 more-out : (d : ℕ) (go : List Symbol → Res (List Constant)) → ((s : List Symbol) → Out Consts (ConstsVia d) s (go s))
-    → (k : ℕ) (w : List Symbol) (o : List Item) (x : Float) (t : List Symbol) → Number o w x
-    → Out (λ o′ v. Consts (o ++ o′) (name k ∷ mark 61 ∷ (w ++ v))) (λ c v. ConstsVia d c (name k ∷ mark 61 ∷ (w ++ v))) t (onMore go (constantOf k x) t)
+    → (k : ℕ) (w : List Symbol) (o : List Draft) (x : Float) (t : List Symbol) → Number o w x
+    → Out (λ o′ v. Consts (o ++ o′) (name k ∷ mark 61 ∷ (w ++ v))) (λ c v. ConstsVia d c (name k ∷ mark 61 ∷ (w ++ v))) t
+    (tell (constantDrafts (constantOf k x)) (onMore go (constantOf k x) t))
+unfolding concat-map
 more-out d go ih k w o x t r =
-    out-mark _ _ 43 t _ _
+    out-tell _ _ (constantDrafts (constantOf k x)) t _
+    (out-mark _ _ 43 t _ _
     (λ m. out-rest _ _ t _ (here-mark t 43 m)
     (out-map _ _ (rest t) (go (rest t)) (λ cs. constantOf k x ∷ cs) (ih (rest t)) (λ o′ v cs z. (more (r .0) (z .0), rw (r .1, z .1)))
     λ c v z. rw append-assoc at (behind {H = λ D. Many} (name k ∷ mark 61 ∷ (w ++ mark 44 ∷ []))
     (λ D u cs le a. (constantOf k x ∷ cs, rw append-assoc (more (r .0) a))) v z)))
-    (out-give _ _ t (constantOf k x ∷ []) (rw (append-nil w, append-nil o) (one (r .0), r .1)))
+    (out-give _ _ t (constantOf k x ∷ []) (rw (append-nil w) (one (r .0), rw (r .1)))))
 
 -- constants, whatever the count of calls
 pub many-out : (f d : ℕ) (s : List Symbol) → Out Consts (ConstsVia d) s (many f s)
@@ -113,9 +118,9 @@ initially-out d s =
 
 -- ---- statements
 
--- what is asked of one: the items are those of its expression
+-- what is asked of one: its drafts are written
 abbrev pub Stated : ℕ → Asked Says
-Stated d o w x = Derives d w x × (o ≡ itemsOf x)
+Stated d o w x = Derives d w x × (o ≡ draftsOf x)
 
 -- and at a fault
 abbrev pub StatedVia : ℕ → Before
@@ -138,16 +143,20 @@ module _ (f d k : ℕ) where
   assigned-out : (s : List Symbol) → Out (λ o w. Stated d o (assigns k w)) (λ c w. StatedVia d c (assigns k w)) s (assigned f d k s)
   unfolding assigned
   assigned-out s =
-      out-map _ _ s (parse f expr d s) (assignment k) (sound f expr d s tt) (λ o w e r. (of-assignment (r .0), r .1))
+      out-bind _ _ s (parse f expr d s) _ (sound f expr d s tt)
+      (λ o w e t r. out-tell _ _ (draft 13 k ∷ []) t _
+      (out-give _ _ t (assignment k e) (rw (append-nil w) (of-assignment (r .0), rw (r .1, drafted-items e)))))
       λ c. behind (assigns k []) λ D w e le r. (assignment k e, of-assignment r)
 
-  -- behind the initial w
-  rated-out : (w : List Symbol) (o : List Item) (i : Initial) (s : List Symbol) → Init o w i
-      → Out (λ o′ v. Stated d (o ++ o′) (integral k (w ++ mark 44 ∷ v))) (λ c v. StatedVia d c (integral k (w ++ mark 44 ∷ v))) s (rated f d k i s)
+  -- behind the initial w, whose drafts are written
+  rated-out : (w : List Symbol) (o : List Draft) (i : Initial) (s : List Symbol) → Init o w i
+      → Out (λ o′ v. Stated d (o ++ (draft 2 k ∷ initialDraft i ∷ o′)) (integral k (w ++ mark 44 ∷ v)))
+      (λ c v. StatedVia d c (integral k (w ++ mark 44 ∷ v))) s (rated f d k i s)
   rated-out w o i s r =
       out-bind _ _ s (parse f expr d s) _ (sound f expr d s tt)
-      (λ o′ v e t z. out-need _ _ 40 t (give (state k i e))
-      (λ m. out-give _ _ (rest t) (state k i e) (of-state (r .0) (z .0), rw (r .1, append-nil) (z .1)))
+      (λ o′ v e t z. out-need _ _ 40 t (λ u. tell (draft 14 k ∷ []) (give (state k i e) u))
+      (λ m. out-tell _ _ (draft 14 k ∷ []) (rest t) _
+      (out-give _ _ (rest t) (state k i e) (of-state (r .0) (z .0), rw (r .1, z .1, drafted-items e))))
       (rw (append-nil v) (fresh (integral k (w ++ mark 44 ∷ v)) λ D le. (mark 41 ∷ [], state k i e, rw append-assoc (of-state (r .0) (der-le (z .0) D le))))))
       λ c v z. rw append-assoc at (extend {H = Derives} (integral k (w ++ mark 44 ∷ []))
       (λ D v e le a. (mark 41 ∷ [], state k i e, rw append-assoc (of-state (r .0) a))) v z)
@@ -159,8 +168,9 @@ module _ (f d k : ℕ) where
   integrated-out s =
       out-need _ _ 39 s (started f d k)
       (λ m. out-bind _ _ (rest s) (initially (rest s)) _ (initially-out d (rest s))
-      (λ o w i t r. out-need _ _ 43 t (rated f d k i) (λ m. rated-out w o i (rest t) r)
-      (rw (append-nil w) (fresh (integral k w) λ D le. (_, _, zero-state k (r .0)))))
+      (λ o w i t r. out-tell _ _ (draft 2 k ∷ initialDraft i ∷ []) t _
+      (out-need _ _ 43 t (rated f d k i) (λ m. rated-out w o i (rest t) r)
+      (rw (append-nil w) (fresh (integral k w) λ D le. (_, _, zero-state k (r .0))))))
       λ c. extend (integral k []) λ D w i le r. (_, _, zero-state k r))
       (fresh (name k ∷ mark 61 ∷ word INTGRL ∷ []) λ D le. (_, _, zero-state k {w = number nought ∷ []} (of-number unsigned-number)))
 
@@ -202,7 +212,7 @@ pub entire-out : (f d : ℕ) (s : List Symbol) → Out (Stated d) (StatedVia d) 
 unfolding entire
 entire-out f d s = out-bind _ _ s (statement f d s) ended (statement-out f d s) end λ c w r. r
   where
-    end : (o : List Item) (w : List Symbol) (x : Says) (t : List Symbol) → Stated d o w x
+    end : (o : List Draft) (w : List Symbol) (x : Says) (t : List Symbol) → Stated d o w x
         → Out (λ o′ v. Stated d (o ++ o′) (w ++ v)) (λ c v. StatedVia d c (w ++ v)) t (ended x t)
     end o w x [] q = out-give _ _ [] x (rw (append-nil o, append-nil w) q)
     end o w x (t ∷ s) q = out-stop _ _ (t ∷ s) (rw (append-nil w) (fresh w λ D le. ([], x, rw (append-nil w) (stated-le (q .0) D le))))

@@ -6,6 +6,7 @@ use mathlib.Core.List.{List, [], _∷_, _++_, map}
 use lib.Ieee.{Float, binary64, toBits}
 use Rattle.laws.specs.Lists.{concat-map}
 use Rattle.grammar.specs.Tree.{Two, plus, minus, times, over, compar, Three, insw, limit}
+use Rattle.grammar.specs.Tree.{Tree, value, named, time, negated, two, three}
 use Rattle.grammar.specs.Tree.{Constant, Initial, plain, from, Says, constants, assignment, state}
 use Rattle.grammar.specs.Items.{Item, push, fetch, clock, negate, apply-two, apply-three, postfix}
 
@@ -34,6 +35,15 @@ draftItem clock = draft 17 0
 draftItem negate = draft 9 0
 draftItem (apply-two o) = draft (kindTwo o) 0
 draftItem (apply-three o) = draft (kindThree o) 0
+
+-- an expression's drafts, in postfix (law `drafted-items`: they are those of its items)
+unfoldable pub drafted : Tree → List Draft
+drafted (value x) = draft 3 (toBits binary64 x) ∷ []
+drafted (named k) = draft 4 k ∷ []
+drafted time = draft 17 0 ∷ []
+drafted (negated a) = drafted a ++ (draft 9 0 ∷ [])
+drafted (two o a b) = drafted a ++ (drafted b ++ (draft (kindTwo o) 0 ∷ []))
+drafted (three o a b c) = drafted a ++ (drafted b ++ (drafted c ++ (draft (kindThree o) 0 ∷ [])))
 
 -- a constant, and an initial: the name and the value behind it
 abbrev pub constantDrafts : Constant → List Draft

@@ -4,4 +4,6 @@ pub mod Drafts
 pub mod Look
 pub mod Grammar
 pub mod Parser
+pub mod Codes
+pub mod Contract
 pub mod Meaning

@@ -8,7 +8,7 @@ use lib.Ieee.{Float, neg}
 use Rattle.limits.specs.Limits.{levels}
 use Rattle.tokens.specs.Symbol.{Symbol, mark}
 use Rattle.grammar.specs.Tree.{Two, Three, Tree, two, Constant, constantOf, Initial, plain, from, Says, constants, assignment, state, compar}
-use Rattle.grammar.specs.Items.{Item, push, fetch, clock, negate, apply-two, apply-three, postfix}
+use Rattle.grammar.specs.Drafts.{Draft, draft, kindTwo, kindThree, drafted, constantDrafts, initialDraft}
 use Rattle.grammar.specs.Look.{next, rest, byteOf, Op, none, op, addOp, mulOp, isMinus, signed, Given, whole, wants, give-to}
 use Rattle.grammar.specs.Look.{Opening, group, pair, pair-of, triple, triple-of, triple-of-two}
 use Rattle.grammar.specs.Look.{Shape, Leaf, Paren, Call, NoFactor, shapeOf, Start, Constants, Integral, Named, Valued, Other, startOf}
@@ -21,7 +21,7 @@ pub data End (A : Type 0) : Type 0 where
 
 -- what reading writes, and how it ends
 pub record Res (A : Type 0) : Type 0 where
-  pub out : List Item
+  pub out : List Draft
   pub end : End A
 
 abbrev pub give : {A : Type 0} → A → List Symbol → Res A
@@ -30,11 +30,11 @@ give e s = record { out = []; end = got e s }
 abbrev pub stop : {A : Type 0} → ℕ → List Symbol → Res A
 stop c s = record { out = []; end = bad c s }
 
--- these items first
-abbrev pub tell : {A : Type 0} → List Item → Res A → Res A
+-- these drafts first
+abbrev pub tell : {A : Type 0} → List Draft → Res A → Res A
 tell is x = record { out = is ++ x .out; end = x .end }
 
-abbrev pub onward : {A B : Type 0} → List Item → End A → (A → List Symbol → Res B) → Res B
+abbrev pub onward : {A B : Type 0} → List Draft → End A → (A → List Symbol → Res B) → Res B
 onward {A} {B} o (got e t) k = let y : Res B = k e t in record { out = o ++ y .out; end = y .end }
 onward o (bad c t) k = record { out = o; end = bad c t }
 
@@ -71,41 +71,45 @@ behindSign none s = s
 behindSign (op o) s = rest s
 
 -- what a sign writes behind the first term
-abbrev pub signItems : Op → List Item
-signItems none = []
-signItems (op o) = cond (isMinus o) (negate ∷ []) []
+abbrev pub signDrafts : Op → List Draft
+signDrafts none = []
+signDrafts (op o) = cond (isMinus o) (draft 9 0 ∷ []) []
 
 -- what an opening writes behind its expressions
-abbrev pub openItems : Opening → List Item
-openItems group = []
-openItems pair = apply-two compar ∷ []
-openItems (pair-of a) = apply-two compar ∷ []
-openItems (triple o) = apply-three o ∷ []
-openItems (triple-of o a) = apply-three o ∷ []
-openItems (triple-of-two o a b) = apply-three o ∷ []
+abbrev pub openDrafts : Opening → List Draft
+openDrafts group = []
+openDrafts pair = draft (kindTwo compar) 0 ∷ []
+openDrafts (pair-of a) = draft (kindTwo compar) 0 ∷ []
+openDrafts (triple o) = draft (kindThree o) 0 ∷ []
+openDrafts (triple-of o a) = draft (kindThree o) 0 ∷ []
+openDrafts (triple-of-two o a b) = draft (kindThree o) 0 ∷ []
 
--- f bounds the calls, d is the count of levels that may still be opened
+-- one call, where `call` reads what it calls; d is the count of levels that may still be opened
+abbrev pub step : (Mode → ℕ → List Symbol → Res Tree) → Mode → ℕ → List Symbol → Res Tree
+step call expr d s =
+    let o = addOp (next s) in
+    bind (call term d (behindSign o s)) λ e t. tell (signDrafts o) (call (terms (signed o e)) d t)
+step call (terms l) d s =
+    byOp (addOp (next s)) (λ _. give l s) λ o. bind (call term d (rest s)) λ e t. tell (draft (kindTwo o) 0 ∷ []) (call (terms (two o l e)) d t)
+step call term d s = bind (call factor d s) λ e t. call (factors e) d t
+step call (factors l) d s =
+    byOp (mulOp (next s)) (λ _. give l s) λ o. bind (call factor d (rest s)) λ e t. tell (draft (kindTwo o) 0 ∷ []) (call (factors (two o l e)) d t)
+step call factor d s =
+    byShape (shapeOf (next s))
+    (λ e. tell (drafted e) (give e (rest s)))
+    (λ _. call (opened group) d s)
+    (λ p. when (eqb (byteOf (next (rest s))) 40) (λ _. call (opened p) d (rest s)) (λ _. stop 18 (rest s)))
+    (λ _. stop 18 s)
+step call (opened p) zero s = stop 19 s
+step call (opened p) (suc d) s = call (list p) d (rest s)
+step call (list p) d s =
+    bind (call expr d s) λ e t.
+    byGiven (give-to p e) (λ x. need 41 t λ u. tell (openDrafts p) (give x u)) (λ q. need 44 t (call (list q) d))
+
+-- with at most f calls inside one another
 unfoldable pub parse : ℕ → Mode → ℕ → List Symbol → Res Tree
 parse zero m d s = stop 18 s
-parse (suc f) expr d s =
-    let o = addOp (next s) in
-    bind (parse f term d (behindSign o s)) λ e t. tell (signItems o) (parse f (terms (signed o e)) d t)
-parse (suc f) (terms l) d s =
-    byOp (addOp (next s)) (λ _. give l s) λ o. bind (parse f term d (rest s)) λ e t. tell (apply-two o ∷ []) (parse f (terms (two o l e)) d t)
-parse (suc f) term d s = bind (parse f factor d s) λ e t. parse f (factors e) d t
-parse (suc f) (factors l) d s =
-    byOp (mulOp (next s)) (λ _. give l s) λ o. bind (parse f factor d (rest s)) λ e t. tell (apply-two o ∷ []) (parse f (factors (two o l e)) d t)
-parse (suc f) factor d s =
-    byShape (shapeOf (next s))
-    (λ e. tell (postfix e) (give e (rest s)))
-    (λ _. parse f (opened group) d s)
-    (λ p. when (eqb (byteOf (next (rest s))) 40) (λ _. parse f (opened p) d (rest s)) (λ _. stop 18 (rest s)))
-    (λ _. stop 18 s)
-parse (suc f) (opened p) zero s = stop 19 s
-parse (suc f) (opened p) (suc d) s = parse f (list p) d (rest s)
-parse (suc f) (list p) d s =
-    bind (parse f expr d s) λ e t.
-    byGiven (give-to p e) (λ x. need 41 t λ u. tell (openItems p) (give x u)) (λ q. need 44 t (parse f (list q) d))
+parse (suc f) m d s = step (parse f) m d s
 
 -- every call reads a token or is followed, within four, by one that does: `rank` and five for each token bound the calls
 abbrev pub rank : Mode → ℕ
@@ -116,6 +120,10 @@ rank (opened p) = 0
 rank (terms l) = 0
 rank (factors l) = 0
 rank (list p) = 4
+
+-- with calls enough for the tokens at hand: it obeys the clauses of `step` (laws `reads-expr`, ..), and needs no count
+unfoldable pub reads : Mode → ℕ → List Symbol → Res Tree
+reads m d s = parse (suc (rank m + 5 * length s)) m d s
 
 abbrev pub byStart : {A : Type 0} → Start → (Unit {0} → Res A) → (Unit {0} → Res A) → (ℕ → Res A) → (Float → Res A)
     → (Unit {0} → Res A) → Res A
@@ -151,7 +159,7 @@ abbrev pub onMore : (List Symbol → Res (List Constant)) → Constant → List 
 onMore go c s = when (eqb (byteOf (next s)) 44) (λ _. bind (go (rest s)) λ cs t. give (c ∷ cs) t) (λ _. give (c ∷ []) s)
 
 abbrev pub valued : (List Symbol → Res (List Constant)) → ℕ → List Symbol → Res (List Constant)
-valued go k s = bind (signedNumber s) λ x t. onMore go (constantOf k x) t
+valued go k s = bind (signedNumber s) λ x t. tell (constantDrafts (constantOf k x)) (onMore go (constantOf k x) t)
 
 unfoldable pub many : ℕ → List Symbol → Res (List Constant)
 many zero s = stop 18 s
@@ -163,13 +171,13 @@ initially s = byName (startOf (next s)) (λ k. give (from k) (rest s)) (λ _. bi
 
 -- behind name =: an expression; behind INTGRL: an initial, and the expression of the rate
 unfoldable pub assigned : ℕ → ℕ → ℕ → List Symbol → Res Says
-assigned f d k s = bind (parse f expr d s) λ e t. give (assignment k e) t
+assigned f d k s = bind (parse f expr d s) λ e t. tell (draft 13 k ∷ []) (give (assignment k e) t)
 
 abbrev pub rated : ℕ → ℕ → ℕ → Initial → List Symbol → Res Says
-rated f d k i s = bind (parse f expr d s) λ e t. need 41 t (give (state k i e))
+rated f d k i s = bind (parse f expr d s) λ e t. need 41 t λ u. tell (draft 14 k ∷ []) (give (state k i e) u)
 
 abbrev pub started : ℕ → ℕ → ℕ → List Symbol → Res Says
-started f d k s = bind (initially s) λ i t. need 44 t (rated f d k i)
+started f d k s = bind (initially s) λ i t. tell (draft 2 k ∷ initialDraft i ∷ []) (need 44 t (rated f d k i))
 
 unfoldable pub integrated : ℕ → ℕ → ℕ → List Symbol → Res Says
 integrated f d k s = need 40 s (started f d k)

@@ -10,3 +10,4 @@ pub mod Sound
 pub mod Rows
 mod Steps
 pub mod Answers
+pub mod Holding

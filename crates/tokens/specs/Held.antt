@@ -1,6 +1,10 @@
 -- A token as code holds it: two numbers, its kind and its argument.
 use Prim.Native.Nat.{ℕ}
-use lib.Ieee.{binary64, toBits}
+use mathlib.Core.Bool.{cond}
+use mathlib.Core.List.{List, [], _∷_}
+use lib.Dec.{ltb}
+use lib.ListN.{getD}
+use lib.Ieee.{binary64, toBits, ofBits}
 use Rattle.tokens.specs.Symbol.{Word, CONST, PARAM, INCON, INTGRL, TIME, INSW, LIMIT, COMPAR, Symbol, mark, number, name, word}
 
 -- the reserved words in the paper's order
@@ -27,3 +31,30 @@ argOf (mark b) = 0
 argOf (number x) = toBits binary64 x
 argOf (name k) = k
 argOf (word w) = 0
+
+-- ---- and back: the token of a kind and an argument. Every two numbers are one
+
+-- the kinds up to 10, by the argument
+abbrev pub lowSymbols : ℕ → List Symbol
+lowSymbols a =
+    mark 0
+    ∷ number (ofBits binary64 a)
+    ∷ name a
+    ∷ word CONST
+    ∷ word PARAM
+    ∷ word INCON
+    ∷ word INTGRL
+    ∷ word TIME
+    ∷ word INSW
+    ∷ word LIMIT
+    ∷ word COMPAR
+    ∷ []
+
+abbrev pub symbolOf : ℕ → ℕ → Symbol
+symbolOf k a = cond (ltb 10 k) (mark k) (getD (lowSymbols a) k (mark 0))
+
+-- the row that kinds and arguments hold
+unfoldable pub heldRow : List ℕ → List ℕ → List Symbol
+heldRow [] args = []
+heldRow (k ∷ kinds) [] = []
+heldRow (k ∷ kinds) (a ∷ args) = symbolOf k a ∷ heldRow kinds args

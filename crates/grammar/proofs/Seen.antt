@@ -1,0 +1,208 @@
+-- The code's look at a kind is the grammar's look at the token.
+use Prim.Native.Nat.{ℕ, zero, suc, _≤_, _<_}
+use mathlib.Core.Path.{_≡_, refl, sym, subst, _∙_}
+use mathlib.Core.Bool.{Bool, true, false, cond}
+use mathlib.Core.List.{List, [], _∷_}
+use mathlib.Core.Logic.{⊎-elim}
+use native.Mathlib.Omega.{arith}
+use borrow.Author.Tests.{lt-ltb, eqb-true, ne-eqb}
+use lib.Dec.{eqb}
+use lib.Ieee.{Float, binary64, ofBits}
+use lib.ListN.{length, getD, drop, List·getD-eq-default}
+use Rattle.laws.proofs.Tests.{lt-or-ge}
+use Rattle.tokens.specs.Symbol.{mark}
+use Rattle.tokens.specs.Held.{symbolOf, heldRow}
+use Rattle.tokens.proofs.Holding.{held-at}
+use Rattle.grammar.specs.declared.Face.{Face}
+use Rattle.grammar.specs.declared.Face.the-variants.{One, Group, Function, Nothing}
+use Rattle.grammar.specs.Tree.{Tree}
+use Rattle.grammar.specs.Drafts.{draft, drafted}
+use Rattle.grammar.specs.Look.{next, byteOf, addOp, mulOp, Shape, Leaf, Paren, Call, NoFactor, shapeOf}
+use Rattle.grammar.specs.Look.{Start, Constants, Integral, Named, Valued, Other, startOf}
+use Rattle.grammar.specs.Parser.{Res, byStart, byName, byNumber, byIntegral}
+use Rattle.grammar.specs.Codes.{leafKind, leafArg, faceOf}
+use Rattle.grammar.proofs.Clauses.{next-at}
+
+-- the token at place i
+pub token-at : (ks us : List ℕ) (i : ℕ) → length us ≡ length ks → next (drop i (heldRow ks us)) ≡ symbolOf (getD ks i 0) (getD us i 0)
+token-at ks us i h = next-at (heldRow ks us) i ∙ held-at ks us i h
+
+-- a kind that is not 0 stands before the end
+pub stands : (ks : List ℕ) (i : ℕ) → (getD ks i 0 ≡ 0 → ⊥) → i < length ks
+stands ks i h = ⊎-elim (λ l. l) (λ g. absurd (h (List·getD-eq-default ks 0 g))) (lt-or-ge i (length ks))
+
+-- what holds of the eleven low kinds, and of those above, holds of each
+pub by-kind : (P : ℕ → Type 0) → P 0 → P 1 → P 2 → P 3 → P 4 → P 5 → P 6 → P 7 → P 8 → P 9 → P 10 → ((k : ℕ) → 10 < k → P k) → (k : ℕ) → P k
+by-kind P a b c d e f g h i j l m zero = a
+by-kind P a b c d e f g h i j l m (suc zero) = b
+by-kind P a b c d e f g h i j l m (suc (suc zero)) = c
+by-kind P a b c d e f g h i j l m (suc (suc (suc zero))) = d
+by-kind P a b c d e f g h i j l m (suc (suc (suc (suc zero)))) = e
+by-kind P a b c d e f g h i j l m (suc (suc (suc (suc (suc zero))))) = f
+by-kind P a b c d e f g h i j l m (suc (suc (suc (suc (suc (suc zero)))))) = g
+by-kind P a b c d e f g h i j l m (suc (suc (suc (suc (suc (suc (suc zero))))))) = h
+by-kind P a b c d e f g h i j l m (suc (suc (suc (suc (suc (suc (suc (suc zero)))))))) = i
+by-kind P a b c d e f g h i j l m (suc (suc (suc (suc (suc (suc (suc (suc (suc zero))))))))) = j
+by-kind P a b c d e f g h i j l m (suc (suc (suc (suc (suc (suc (suc (suc (suc (suc zero)))))))))) = l
+by-kind P a b c d e f g h i j l m (suc (suc (suc (suc (suc (suc (suc (suc (suc (suc (suc k))))))))))) = m _ (omega arith)
+
+-- above them stands the mark
+high : (k a : ℕ) → 10 < k → symbolOf k a ≡ mark k
+high k a h = rw (lt-ltb 10 k h)
+
+-- a test of a mark is a test of its kind
+pub mark-test : (k a b : ℕ) → 10 < b → eqb (byteOf (symbolOf k a)) b ≡ eqb k b
+unfolding byteOf
+mark-test k a b lt =
+    by-kind (λ k. eqb (byteOf (symbolOf k a)) b ≡ eqb k b) refl (low 1 (omega arith)) (low 2 (omega arith)) (low 3 (omega arith))
+    (low 4 (omega arith)) (low 5 (omega arith)) (low 6 (omega arith)) (low 7 (omega arith)) (low 8 (omega arith)) (low 9 (omega arith))
+    (low 10 (omega arith)) (λ k h. rw (high k a h)) k
+  where
+    low : (n : ℕ) → n ≤ 10 → eqb 0 b ≡ eqb n b
+    low n h = ne-eqb 0 b (λ z. omega arith) ∙ sym (ne-eqb n b (λ z. omega arith))
+
+-- operators
+pub add-seen : (k a : ℕ) → addOp (symbolOf k a) ≡ addOp (mark k)
+unfolding byteOf
+add-seen k a = rw (mark-test k a 43 (omega arith), mark-test k a 45 (omega arith))
+
+pub mul-seen : (k a : ℕ) → mulOp (symbolOf k a) ≡ mulOp (mark k)
+unfolding byteOf
+mul-seen k a = rw (mark-test k a 42 (omega arith), mark-test k a 47 (omega arith))
+
+-- what a token's shape tells of its numbers: one that is a whole factor has one draft
+abbrev Told : ℕ → Shape → Type 0
+Told a (Leaf e) = drafted e ≡ draft (leafKind e) (leafArg (leafKind e) a) ∷ []
+Told a Paren = Unit {0}
+Told a (Call p) = Unit {0}
+Told a NoFactor = Unit {0}
+
+told : (k a : ℕ) → Told a (shapeOf (symbolOf k a))
+unfolding shapeOf drafted
+told k a = by-kind (λ k. Told a (shapeOf (symbolOf k a))) tt refl refl tt tt tt tt refl tt tt tt (λ k h. rw (high k a h) (go (eqb k 40))) k
+  where
+    go : (t : Bool) → Told a (cond t Paren NoFactor)
+    go true = tt
+    go false = tt
+
+-- so it does where the shape is known
+pub leaf-told : (k a : ℕ) {e : Tree} → shapeOf (symbolOf k a) ≡ Leaf e → drafted e ≡ draft (leafKind e) (leafArg (leafKind e) a) ∷ []
+leaf-told k a q = subst (λ (h : Shape). Told a h) q (told k a)
+
+-- and of one that opens parentheses its kind
+abbrev Faced : ℕ → Face → Type 0
+Faced k (One n) = (k ≡ 0 → ⊥)
+Faced k Group = k ≡ 40
+Faced k (Function n c) = (k ≡ 0 → ⊥)
+Faced k Nothing = Unit {0}
+
+faced : (k a : ℕ) → Faced k (faceOf (shapeOf (symbolOf k a)))
+unfolding shapeOf
+faced k a =
+    by-kind (λ k. Faced k (faceOf (shapeOf (symbolOf k a)))) tt (some 0) (some 1) tt tt tt tt (some 6) (some 7) (some 8) (some 9)
+    (λ k h. rw (high k a h) (go k (eqb k 40) refl)) k
+  where
+    some : (n : ℕ) → suc n ≡ 0 → ⊥
+    some n z = omega arith
+
+    go : (k : ℕ) (t : Bool) → eqb k 40 ≡ t → Faced k (faceOf (cond t Paren NoFactor))
+    go k true e = eqb-true k 40 e
+    go k false e = tt
+
+-- so it does where the face is known
+pub face-told : (k a : ℕ) {f : Face} → f ≡ faceOf (shapeOf (symbolOf k a)) → Faced k f
+face-told k a q = subst (λ (f : Face). Faced k f) (sym q) (faced k a)
+
+-- and every other kind begins none
+pub no-face : (k a : ℕ) → (k ≡ 1 → ⊥) → (k ≡ 2 → ⊥) → (k ≡ 7 → ⊥) → (k ≡ 40 → ⊥) → (k ≡ 8 → ⊥) → (k ≡ 9 → ⊥) → (k ≡ 10 → ⊥)
+    → Nothing ≡ faceOf (shapeOf (symbolOf k a))
+unfolding shapeOf
+no-face k a =
+    by-kind
+    (λ k. (k ≡ 1 → ⊥) → (k ≡ 2 → ⊥) → (k ≡ 7 → ⊥) → (k ≡ 40 → ⊥) → (k ≡ 8 → ⊥) → (k ≡ 9 → ⊥) → (k ≡ 10 → ⊥)
+    → Nothing ≡ faceOf (shapeOf (symbolOf k a)))
+    (λ n₁ n₂ n₇ n₄₀ n₈ n₉ n. refl) (λ n₁ n₂ n₇ n₄₀ n₈ n₉ n. absurd (n₁ refl)) (λ n₁ n₂ n₇ n₄₀ n₈ n₉ n. absurd (n₂ refl))
+    (λ n₁ n₂ n₇ n₄₀ n₈ n₉ n. refl) (λ n₁ n₂ n₇ n₄₀ n₈ n₉ n. refl) (λ n₁ n₂ n₇ n₄₀ n₈ n₉ n. refl) (λ n₁ n₂ n₇ n₄₀ n₈ n₉ n. refl)
+    (λ n₁ n₂ n₇ n₄₀ n₈ n₉ n. absurd (n₇ refl)) (λ n₁ n₂ n₇ n₄₀ n₈ n₉ n. absurd (n₈ refl)) (λ n₁ n₂ n₇ n₄₀ n₈ n₉ n. absurd (n₉ refl))
+    (λ n₁ n₂ n₇ n₄₀ n₈ n₉ n. absurd (n refl)) (λ k h n₁ n₂ n₇ n₄₀ n₈ n₉ n. rw (high k a h, ne-eqb k 40 n₄₀)) k
+
+-- what a start tells of the two numbers
+abbrev Started : ℕ → ℕ → Start → Type 0
+Started k a Constants = (3 ≤ k) × (k ≤ 5)
+Started k a Integral = k ≡ 6
+Started k a (Named n) = (k ≡ 2) × (n ≡ a)
+Started k a (Valued x) = (k ≡ 1) × (x ≡ ofBits binary64 a)
+Started k a Other = Unit {0}
+
+started : (k a : ℕ) → Started k a (startOf (symbolOf k a))
+unfolding startOf
+started k a =
+    by-kind (λ k. Started k a (startOf (symbolOf k a))) tt (refl, refl) (refl, refl) (omega arith, omega arith) (omega arith, omega arith)
+    (omega arith, omega arith) refl tt tt tt tt (λ k h. rw (high k a h) tt) k
+
+-- a name, a number and INTGRL are known by their kinds
+module _ {A : Type 0} (k a : ℕ) where
+  pub is-name : (x : ℕ → Res A) (y : Unit {0} → Res A) → k ≡ 2 → byName (startOf (symbolOf k a)) x y ≡ x a
+  unfolding startOf
+  is-name x y e = rw e
+
+  pub no-name : (x : ℕ → Res A) (y : Unit {0} → Res A) → (k ≡ 2 → ⊥) → byName (startOf (symbolOf k a)) x y ≡ y tt
+  no-name x y n = go (startOf (symbolOf k a)) (started k a)
+    where
+      go : (p : Start) → Started k a p → byName p x y ≡ y tt
+      go Constants h = refl
+      go Integral h = refl
+      go (Named c) h = absurd (n (h .0))
+      go (Valued v) h = refl
+      go Other h = refl
+
+  pub is-number : (x : Float → Res A) (y : Unit {0} → Res A) → k ≡ 1 → byNumber (startOf (symbolOf k a)) x y ≡ x (ofBits binary64 a)
+  unfolding startOf
+  is-number x y e = rw e
+
+  pub no-number : (x : Float → Res A) (y : Unit {0} → Res A) → (k ≡ 1 → ⊥) → byNumber (startOf (symbolOf k a)) x y ≡ y tt
+  no-number x y n = go (startOf (symbolOf k a)) (started k a)
+    where
+      go : (p : Start) → Started k a p → byNumber p x y ≡ y tt
+      go Constants h = refl
+      go Integral h = refl
+      go (Named c) h = refl
+      go (Valued v) h = absurd (n (h .0))
+      go Other h = refl
+
+  pub is-integral : (x y : Unit {0} → Res A) → k ≡ 6 → byIntegral (startOf (symbolOf k a)) x y ≡ x tt
+  unfolding startOf
+  is-integral x y e = rw e
+
+  pub no-integral : (x y : Unit {0} → Res A) → (k ≡ 6 → ⊥) → byIntegral (startOf (symbolOf k a)) x y ≡ y tt
+  no-integral x y n = go (startOf (symbolOf k a)) (started k a)
+    where
+      go : (p : Start) → Started k a p → byIntegral p x y ≡ y tt
+      go Constants h = refl
+      go Integral h = absurd (n h)
+      go (Named c) h = refl
+      go (Valued v) h = refl
+      go Other h = refl
+
+-- what begins a statement: a name, one of the three words before constants, or nothing
+pub start-name : (k a : ℕ) → k ≡ 2 → startOf (symbolOf k a) ≡ Named a
+unfolding startOf
+start-name k a e = rw e
+
+pub start-words : (k a : ℕ) → 3 ≤ k → k ≤ 5 → startOf (symbolOf k a) ≡ Constants
+unfolding startOf
+start-words k a =
+    by-kind (λ k. 3 ≤ k → k ≤ 5 → startOf (symbolOf k a) ≡ Constants) (λ p q. absurd (omega arith)) (λ p q. absurd (omega arith))
+    (λ p q. absurd (omega arith)) (λ p q. refl) (λ p q. refl) (λ p q. refl) (λ p q. absurd (omega arith)) (λ p q. absurd (omega arith))
+    (λ p q. absurd (omega arith)) (λ p q. absurd (omega arith)) (λ p q. absurd (omega arith)) (λ k h p q. absurd (omega arith)) k
+
+pub start-none : {A : Type 0} (k a : ℕ) (c : Unit {0} → Res A) (n : ℕ → Res A) (z : Res A) → (k ≡ 2 → ⊥) → (3 ≤ k → k ≤ 5 → ⊥)
+    → byStart (startOf (symbolOf k a)) c (λ _. z) n (λ _. z) (λ _. z) ≡ z
+start-none k a c n z p q = go (startOf (symbolOf k a)) (started k a)
+  where
+    go : (s : Start) → Started k a s → byStart s c (λ _. z) n (λ _. z) (λ _. z) ≡ z
+    go Constants h = absurd (q (h .0) (h .1))
+    go Integral h = refl
+    go (Named m) h = absurd (p (h .0))
+    go (Valued v) h = refl
+    go Other h = refl
