@@ -40,6 +40,12 @@ any-none f (suc k) i e j a b = go (f i) refl e (λ e. any-none f k (suc i) e j)
     go true p q r = absurd (not-both refl q)
     go false p q r = ⊎-elim (λ (z : i ≡ j). ap f (sym z) ∙ p) (λ z. r q (omega arith) (omega arith)) (eq-or-ne i j)
 
+-- where it does not hold at each place, it holds at no place
+pub none-any : (f : ℕ → Bool) (k i : ℕ) → ((j : ℕ) → i ≤ j → j < i + k → f j ≡ false) → anyIn f k i ≡ false
+unfolding anyIn
+none-any f zero i h = refl
+none-any f (suc k) i h = rw (h i (omega arith) (omega arith)) (none-any f k (suc i) (λ j a b. h j (omega arith) (omega arith)))
+
 -- ---- what the places from i on, before n, give
 module _ {A : Type 0} (f : ℕ → List A) where
   pub gather-step : (n i : ℕ) → i < n → gather f (n - i) i ≡ f i ++ gather f (n - (i + 1)) (i + 1)
@@ -58,6 +64,12 @@ module _ {A : Type 0} (f : ℕ → List A) where
       let p : suc a + b ≡ suc (a + b) = omega arith in
       let q : i + suc a ≡ suc i + a = omega arith in
       rw (p, q, gather-add a b (suc i), append-assoc (f i))
+
+  -- nothing, where each place gives nothing
+  pub gather-none : (k i : ℕ) → ((j : ℕ) → i ≤ j → j < i + k → f j ≡ []) → gather f k i ≡ []
+  unfolding gather
+  gather-none zero i h = refl
+  gather-none (suc k) i h = rw (h i (omega arith) (omega arith)) (gather-none k (suc i) (λ j a b. h j (omega arith) (omega arith)))
 
   -- a row of at most one at each place
   pub gather-short : ((i : ℕ) → length (f i) ≤ 1) → (k i : ℕ) → length (gather f k i) ≤ k

@@ -20,7 +20,7 @@ use Rattle.model.specs.Definitions.{Def, definitions, keys, equationAt, 
 use Rattle.model.specs.Faults.{faults21, constantKeys, within, nameFault, nameFaultOf, nameFaults, usesIn, fault24, faults24, orElse, modelFaults}
 use Rattle.model.specs.Faults.{GoodOrder, orderOf}
 use Rattle.model.proofs.Slots.{no-fault}
-use Rattle.model.proofs.Doubles.{definedIn}
+use Rattle.model.proofs.Doubled.{definedIn}
 
 -- nothing in either list
 or-else-none : (f g : List Fault) → orElse f g ≡ [] → (f ≡ []) × (g ≡ [])

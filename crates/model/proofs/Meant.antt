@@ -16,8 +16,8 @@ use Rattle.model.specs.Places.{keysIn, placesIn, doubles, resolved, name
 use Rattle.model.proofs.Drafts.{Home, kindOfWhat, homeOfWhat, homeOfDef}
 use Rattle.model.proofs.Walk.{sheetLines, sheetSlots, sheetPlaces, kind-at, arg-at}
 use Rattle.model.proofs.Slots.{noDef, keys-once}
-use Rattle.model.proofs.Doubles.{homeAt, homes-of, keys-of, places-length, doubles-of}
-use Rattle.model.proofs.Names.{names-of}
+use Rattle.model.proofs.Doubled.{homeAt, homes-of, keys-of, places-length, doubles-of}
+use Rattle.model.proofs.Asked.{names-of}
 use Rattle.model.proofs.Rows.{row-lines, rows-length, row-at}
 use Rattle.model.proofs.Table.{usedOf}
 use Rattle.model.proofs.Uses.{uses-of, order-of, loops-of}

@@ -21,7 +21,7 @@ use Rattle.model.proofs.Lines.{no-equations}
 use Rattle.model.proofs.Drafts.{expressionDrafts, expression-names}
 use Rattle.model.proofs.Walk.{sheetKinds, sheetLines, sheetBounds, sheetKeys, sheetSlots, sheetRows, slotOf, kind-at, slot-at, draftsBy, begins-at}
 use Rattle.model.proofs.Walk.{ends-at, line-at, in-statement, last-at}
-use Rattle.model.proofs.Doubles.{definedIn}
+use Rattle.model.proofs.Doubled.{definedIn}
 
 -- the equation of an assignment (held is false) or of a state statement
 abbrev pub equation : ℕ → ℕ → Bool → Tree → Equation

@@ -1,3 +1,5 @@
 pub mod Definitions
 pub mod Faults
 pub mod Places
+pub mod Working
+pub mod Plan

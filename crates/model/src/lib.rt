@@ -1,1 +1,34 @@
-// Model faults, definitions and slots: definitions and theorems.
+// The model of a sheet: what its statements define, the faults 21 to 24, and the order of its equations.
+ghost use Rattle.model.specs.Plan.{Plans};
+
+pub mod answer;
+mod collect;
+mod doubles;
+mod equations;
+mod fitting;
+mod hints;
+mod lists;
+mod loops;
+mod names;
+mod report;
+mod stages;
+
+use answer::Plan;
+
+// Plans a sheet of which lines and bounds are the statements, kinds and args the drafts. The table of uses is written to used, model
+// faults to the list; the names of args are resolved, unless one is defined twice.
+pub fn plan(
+    lines: &[u16],
+    bounds: &[u16],
+    kinds: &[u8],
+    args: &mut [u64],
+    used: &mut [u16],
+    faults: &mut [u8],
+) -> Plan
+    ensures { λ r. ⌜ Plans (now (lines .entry)) (now (bounds .entry)) (now (kinds .entry)) (now (args .entry)) (now (used .entry)) (now (faults .entry)) r (now (args .exit)) (now (used .exit)) (now (faults .exit)) ⌝ }
+{
+    if fitting::fits(lines, bounds, kinds, args.len(), used.len(), faults.len()) {
+        return stages::define(lines, bounds, kinds, args, used, faults);
+    }
+    stages::refusal(9, 0)
+}

@@ -23,7 +23,7 @@ use Rattle.model.specs.Definitions.{Def, definedBy, definitions, slotIn, Equati
 use Rattle.model.specs.Faults.{usesIn}
 use Rattle.model.proofs.Drafts.{expressionDrafts}
 use Rattle.model.proofs.Walk.{kindsOf, sheetKinds, draftsBy}
-use Rattle.model.proofs.Doubles.{definedIn}
+use Rattle.model.proofs.Doubled.{definedIn}
 use Rattle.model.proofs.Rows.{equation}
 use Rattle.program.specs.Program.{instrItem, constantRecs, initialRecs, lastInstr, code, equationRecs, program}
 use Rattle.program.specs.Written.{writes, recordCount}

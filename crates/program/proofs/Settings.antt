@@ -31,8 +31,8 @@ use Rattle.model.proofs.Drafts.{noDraft, Plain, along-expression, Home, homeOfW
 use Rattle.model.proofs.Walk.{sheetKinds, sheetLines, sheetBounds, sheetKeys, sheetSlots, sheetPlaces, slotOf, kind-at, slot-at, draftsBy, line-at}
 use Rattle.model.proofs.Walk.{along-statement}
 use Rattle.model.proofs.Slots.{Once, isConstant, definitionOf, definition-first, definition-later, constant-at}
-use Rattle.model.proofs.Doubles.{definedIn, homeAt}
-use Rattle.model.proofs.Names.{home-of}
+use Rattle.model.proofs.Doubled.{definedIn, homeAt}
+use Rattle.model.proofs.Asked.{home-of}
 use Rattle.model.proofs.Clean.{initial-known}
 use Rattle.program.specs.Program.{constantValue, valueIn, initialValue, constantRecs, initialRecs}
 use Rattle.program.specs.Written.{fieldBytes, settingAt, settingsOf}

@@ -1,1 +1,203 @@
-// The verdict on a text: definitions.
+// The translator: from a text to a verdict, with the fault list or the program.
+ghost use mathlib.Core.Path.{_≡_};
+ghost use mathlib.Core.Bool.{Bool};
+ghost use mathlib.Core.List.{List};
+ghost use Prim.Native.Nat.{_+_, _*_, _<_, _≤_};
+ghost use lib.ListN.{length};
+ghost use lib.Seq.{sets};
+ghost use Rattle.tokens.specs.Held.{heldRow};
+ghost use Rattle.tokens.specs.Row.{Placed, symbols, rowOf};
+ghost use Rattle.grammar.specs.Parser.{readRow};
+ghost use Rattle.deck.specs.Codes.{joinedRoom};
+ghost use Rattle.deck.specs.Next.{cardsAt};
+ghost use Rattle.sheet.specs.Reader.{parsed, tokened, told};
+ghost use Rattle.translator.specs.Working.{Tells, RowRoom, Size, Before, entryOf, Able, Adds, Room, Read};
+use deck::Cursor;
+use deck::Found;
+use grammar::Parsed;
+use tokens::RowEnd;
+
+// The verdict: refused with its number; faulty with its number and the count of faults; translated into so many records.
+pub enum Verdict {
+    Refused(u8),
+    Faulty(u8, usize),
+    Translated(usize),
+}
+
+// What reading one statement gives: the place behind its drafts, or its fault.
+enum Told {
+    Says(usize),
+    Faulty(u8),
+}
+
+// How many statements without fault, drafts and faults there are so far.
+struct Tally {
+    statements: usize,
+    drafts: usize,
+    faults: usize,
+}
+
+// ---- one statement
+
+// What a row of tokens, given by their kinds and their arguments, says, or its fault.
+fn parse(row: &[u8], values: &[u64], kinds: &mut [u8], args: &mut [u64], place: usize) -> Told
+    requires { ⌜ RowRoom (now row) (now values) place (now kinds) (now args) ⌝ }
+    ensures { λ r. ⌜ ((ps : List Placed) → heldRow (now (row .entry)) (now (values .entry)) ≡ symbols ps
+        → Tells (parsed ps (readRow (symbols ps))) place (now (kinds .entry)) (now (args .entry)) r (now (kinds .exit)) (now (args .exit))) ⌝ }
+{
+    let r = grammar::parse_row(row, values, kinds, args, place);
+    match r {
+        Parsed::Done { next } => Told::Says(next),
+        Parsed::Fault { code, at: _ } => Told::Faulty(code),
+        Parsed::NoRoom => Told::Faulty(0),
+    }
+}
+
+// What a joined text says, or its fault.
+fn read_joined(body: &[u8], kinds: &mut [u8], args: &mut [u64], place: usize) -> Told
+    requires { ⌜ (length (now body) ≤ joinedRoom) × (place + length (now body) ≤ length (now kinds)) × (place + length (now body) ≤ length (now args)) ⌝ }
+    ensures { λ r. ⌜ Tells (tokened (rowOf (now (body .entry)))) place (now (kinds .entry)) (now (args .entry))
+        r (now (kinds .exit)) (now (args .exit)) ⌝ }
+{
+    let mut row_kinds = [0u8; deck::JOINED_BYTES];
+    let mut row_args = [0u64; deck::JOINED_BYTES];
+    let end = tokens::row(body, &mut row_kinds, &mut row_args);
+    match end {
+        RowEnd::NoRoom => Told::Faulty(0),
+        RowEnd::Fault {
+            code,
+            count: _,
+            at: _,
+        } => Told::Faulty(code),
+        RowEnd::Tokens(n) => parse(&row_kinds[..n], &row_args[..n], kinds, args, place),
+    }
+}
+
+// What the statement of so many lines from a place on says, or its fault; code is its fault for size.
+fn read_statement(
+    text: &[u8],
+    start: usize,
+    cards: usize,
+    code: u8,
+    kinds: &mut [u8],
+    args: &mut [u64],
+    place: usize,
+) -> Told
+    requires { ⌜ Before (cardsAt (now text) start cards) code place (now kinds) (now args) ⌝ }
+    ensures { λ r. ⌜ ((closed : Bool) → Size (cardsAt (now (text .entry)) start cards) closed code
+        → Tells (told (cardsAt (now (text .entry)) start cards) closed) place (now (kinds .entry)) (now (args .entry))
+        r (now (kinds .exit)) (now (args .exit))) ⌝ }
+{
+    if code != 0 {
+        return Told::Faulty(code);
+    }
+    let mut body = [0u8; deck::JOINED_BYTES];
+    let n = deck::join(text, start, cards, &mut body);
+    read_joined(&body[..n], kinds, args, place)
+}
+
+// Writes a fault to the list, behind so many others.
+fn put_fault(list: &mut [u8], count: usize, line: usize, code: u8)
+    requires { ⌜ (line < 65536) × (count < 65536) ⌝ }
+    ensures { λ _. ⌜ now (list .exit) ≡ sets (now (list .entry)) (count * 4) (entryOf line code) ⌝ }
+{
+    bits::put_low(list, count * 4, 4, line as u64 + 65536 * code as u64);
+}
+
+// ---- all statements
+
+// One statement more: its drafts, its number and where its drafts end; or its fault.
+fn read_one(
+    text: &[u8],
+    first: usize,
+    start: usize,
+    cards: usize,
+    closed: bool,
+    long: bool,
+    n: Tally,
+    kinds: &mut [u8],
+    args: &mut [u64],
+    lines: &mut [u16],
+    bounds: &mut [u16],
+    list: &mut [u8],
+) -> Tally
+    requires { ⌜ Able (now text) first start cards closed long n (now kinds) (now args) (now lines) (now bounds) ⌝ }
+    ensures { λ r. ⌜ Adds (told (cardsAt (now (text .entry)) start cards) closed) first n
+        (now (kinds .entry)) (now (args .entry)) (now (lines .entry)) (now (bounds .entry)) (now (list .entry))
+        r (now (kinds .exit)) (now (args .exit)) (now (lines .exit)) (now (bounds .exit)) (now (list .exit)) ⌝ }
+{
+    let code = deck::size_code(cards, closed, long);
+    let s = n.statements;
+    let f = n.faults;
+    let d = n.drafts;
+    let r = read_statement(text, start, cards, code, kinds, args, d);
+    match r {
+        Told::Says(end) => {
+            lines[s] = first as u16;
+            bounds[s + 1] = end as u16;
+            Tally {
+                statements: s + 1,
+                drafts: end,
+                faults: f,
+            }
+        }
+        Told::Faulty(fault) => {
+            put_fault(list, f, first, fault);
+            Tally {
+                statements: s,
+                drafts: d,
+                faults: f + 1,
+            }
+        }
+    }
+}
+
+// Reads all statements of a text.
+fn read_all(
+    text: &[u8],
+    kinds: &mut [u8],
+    args: &mut [u64],
+    lines: &mut [u16],
+    bounds: &mut [u16],
+    list: &mut [u8],
+) -> Tally
+    requires { ⌜ Room (now text) (now kinds) (now args) (now lines) (now bounds) (now list) ⌝ }
+    ensures { λ r. ⌜ Read (now (text .entry)) (now (list .entry)) r
+        (now (kinds .exit)) (now (args .exit)) (now (lines .exit)) (now (bounds .exit)) (now (list .exit)) ⌝ }
+{
+    let mut n = Tally {
+        statements: 0,
+        drafts: 0,
+        faults: 0,
+    };
+    let mut c = Cursor { at: 0, line: 1 };
+    loop {
+        let found = deck::next_statement(text, c);
+        let Found::Statement {
+            first,
+            start,
+            cards,
+            closed,
+            long,
+            next,
+        } = found
+        else {
+            return n;
+        };
+        n = read_one(
+            text,
+            first,
+            start,
+            cards,
+            closed,
+            long,
+            n,
+            &mut *kinds,
+            &mut *args,
+            &mut *lines,
+            &mut *bounds,
+            &mut *list,
+        );
+        c = next;
+    }
+}

@@ -25,7 +25,7 @@ use Rattle.model.proofs.Drafts.{noDraft, expressionDrafts, expression-n
 use Rattle.model.proofs.Walk.{sheetKinds, sheetLines, sheetBounds, sheetKeys, sheetSlots, sheetPlaces, slotOf, kind-at, slot-at, line-at}
 use Rattle.model.proofs.Walk.{any-statement}
 use Rattle.model.proofs.Slots.{Once, place-in, slot-past, noDef, definitionOf, constant-at}
-use Rattle.model.proofs.Doubles.{definedIn, homeAt, homes-of, places-length}
+use Rattle.model.proofs.Doubled.{definedIn, homeAt, homes-of, places-length}
 
 -- the names of a statement's expression
 abbrev spoken : Says → List ℕ

@@ -1,0 +1,74 @@
+-- The definitions collected: a turn of the loop, and its end.
+use Prim.Native.Nat.{ℕ, _+_, _≤_, _<_}
+use mathlib.Core.Path.{_≡_, refl, sym, ap, _∙_}
+use mathlib.Core.Bool.{Bool, true, false}
+use mathlib.Core.List.{List, [], _∷_}
+use native.Mathlib.Omega.{arith}
+use lib.ListN.{length, getD, set}
+use Rattle.laws.specs.Places.{gather, onlyIf}
+use Rattle.laws.proofs.Tests.{not-both}
+use Rattle.laws.proofs.Gathers.{Writes, writes-first, writes-next, whole-count, whole-all}
+use Rattle.model.specs.Places.{defines, definedAt, keysIn, placesIn}
+use Rattle.model.specs.Working.{Put, Noted, Collected}
+
+abbrev placeAt : List ℕ → ℕ → List ℕ
+placeAt kinds i = onlyIf (defines (getD kinds i 0)) i
+
+-- one value, or none
+pub only-length : {A : Type 0} (b : Bool) (x : A) → length (onlyIf b x) ≤ 1
+only-length true x = omega arith
+only-length false x = omega arith
+
+-- one value written, or none
+pub put-one : (b : Bool) (x d : ℕ) {l l′ : List ℕ} → b ≡ true → l′ ≡ set l d x → Put (onlyIf b x) d (d + 1) l l′
+put-one true x d t e = record { behind = refl; content = e }
+put-one false x d t e = absurd (not-both t refl)
+
+pub put-none : (b : Bool) (x d : ℕ) (l : List ℕ) → b ≡ false → Put (onlyIf b x) d d l l
+put-none true x d l t = absurd (not-both refl t)
+put-none false x d l t = record { behind = omega arith; content = refl }
+
+-- a definition, and a draft that is none
+pub noted : (kind key place d : ℕ) {keys keys′ places places′ : List ℕ} → defines kind ≡ true → keys′ ≡ set keys d key → places′ ≡ set places d place
+    → Noted kind key place d (d + 1) keys keys′ places places′
+noted kind key place d t k p = record { named = put-one (defines kind) key d t k; placed = put-one (defines kind) place d t p }
+
+pub not-noted : (kind key place d : ℕ) (keys places : List ℕ) → defines kind ≡ false → Noted kind key place d d keys keys places places
+not-noted kind key place d keys places t = record { named = put-none (defines kind) key d keys t; placed = put-none (defines kind) place d places t }
+
+-- the loop stands at draft i, with d definitions before it
+pub record Collecting (kinds args keys₀ places₀ : List ℕ) (d i : ℕ) (keys places : List ℕ) : Type 0 where
+  pub within : i ≤ length kinds
+  pub few : d ≤ i
+  pub named : Writes (definedAt kinds args) (length kinds) 0 i 0 d keys₀ keys
+  pub placed : Writes (placeAt kinds) (length kinds) 0 i 0 d places₀ places
+
+pub collecting-first : (kinds args keys places : List ℕ) → Collecting kinds args keys places 0 0 keys places
+collecting-first kinds args keys places =
+    record {
+      within = omega arith;
+      few = omega arith;
+      named = writes-first (definedAt kinds args) (length kinds) 0 0 keys;
+      placed = writes-first (placeAt kinds) (length kinds) 0 0 places;
+    }
+
+module _ {kinds args keys₀ places₀ : List ℕ} {d i : ℕ} {keys places : List ℕ} (v : Collecting kinds args keys₀ places₀ d i keys places) where
+  pub collecting-next : {key r : ℕ} {keys′ places′ : List ℕ} → i < length kinds → key ≡ getD args i 0
+      → Noted (getD kinds i 0) key i d r keys keys′ places places′ → Collecting kinds args keys₀ places₀ r (i + 1) keys′ places′
+  collecting-next {key} {r} {keys′} {places′} h e n =
+      let same : onlyIf (defines (getD kinds i 0)) key ≡ definedAt kinds args i = ap (onlyIf (defines (getD kinds i 0))) e in
+      let named : Put (definedAt kinds args i) d r keys keys′ = rw same at (n .named) in
+      record {
+        within = omega arith;
+        few = omega (arith, v .few, named .behind, only-length (defines (getD kinds i 0)) (getD args i 0));
+        named = writes-next (v .named) h r keys′ (named .behind) (named .content);
+        placed = writes-next (v .placed) h r places′ (n .placed .behind) (n .placed .content);
+      }
+
+  pub collecting-last : length kinds ≤ i → Collected kinds args d keys₀ keys places₀ places
+  unfolding keysIn placesIn
+  collecting-last h =
+      record {
+        named = record { behind = omega (arith, whole-count (v .named) h); content = whole-all (v .named) h };
+        placed = record { behind = omega (arith, whole-count (v .placed) h); content = whole-all (v .placed) h };
+      }

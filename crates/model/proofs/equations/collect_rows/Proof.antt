@@ -1,0 +1,66 @@
+-- The equations before statement j are stored.
+use Prim.Native.Nat.{_-_, _≤_}
+use mathlib.Core.Path.{ap, _∙_}
+use native.Mathlib.Omega.{arith}
+use borrow.Author.Needs.{needs}
+use Rattle.laws.specs.Places.{onlyIf}
+use Rattle.laws.proofs.Gathers.{Writes, writes-first, writes-next, whole-count, whole-all}
+use Rattle.model.specs.Places.{isEquation, equationRows}
+use Rattle.model.proofs.Rowing.{Listing, listing-first, listing-next, listing-last}
+use Rattle.model.proofs.equations.collect_rows.Statement.{statement}
+use Rattle.model.proofs.equations.collect_rows.Tie as tie
+
+abbrev Inv-loop : tie.InvT-loop
+Inv-loop n bounds kinds rows₀ count₀ j₀ rows count j = Listing (isEquation bounds kinds) n j count rows₀ rows
+
+abbrev μ-loop : tie.MeasureT-loop
+μ-loop n bounds kinds rows₀ count₀ j₀ rows count j = n - j
+
+loop-holds : tie.Need-loop-holds Inv-loop μ-loop
+loop-holds c =
+    let s = c .before .before .before .args in
+    listing-first (isEquation (s .bounds .now) (s .kinds .now)) (s .n) (s .rows .now)
+
+is-equation-requires : tie.Need-is-equation-requires Inv-loop μ-loop
+is-equation-requires c κs = search needs
+
+put-if-requires : tie.Need-put-if-requires Inv-loop μ-loop
+put-if-requires c κs =
+    let at = c .before .before .before in
+    let s = at .before .before .before .before in
+    (omega (arith, s .pre), omega (arith, s .pre, at .loop .inv .few))
+
+add-j : tie.Need-add-j Inv-loop μ-loop
+add-j c = search needs
+
+loop-less : tie.Need-loop-less Inv-loop μ-loop
+loop-less c = search needs
+
+loop-again : tie.Need-loop-again Inv-loop μ-loop
+loop-again c =
+    let put = c .before .before in
+    let found = put .before .before in
+    let at = found .before .before in
+    listing-next (at .loop .inv) (found .before .loop-test .taken) (found .is-equation .ensures) (put .put-if .ensures)
+
+same-length : tie.Need-same-length Inv-loop μ-loop
+same-length c = c .before .loop .inv .written .long
+
+returns : tie.Need-returns Inv-loop μ-loop
+unfolding equationRows
+returns c = listing-last (c .before .loop .inv) (c .loop-test .left)
+
+pub collect-rows-spec : {M : Type 1} → statement M
+collect-rows-spec =
+    tie.close
+    (tie.spec
+    Inv-loop
+    μ-loop
+    loop-holds
+    is-equation-requires
+    put-if-requires
+    add-j
+    loop-less
+    loop-again
+    same-length
+    returns)

@@ -1,0 +1,56 @@
+-- A statement with drafts is one by its last kind.
+use borrow.Author.Needs.{needs}
+use Rattle.model.proofs.Rowing.{last-kind, equation-empty, equation-store, equation-other}
+use Rattle.model.proofs.equations.is_equation.Statement.{statement}
+use Rattle.model.proofs.equations.is_equation.Tie as tie
+
+add-short-at : tie.Need-add-short-at
+add-short-at c = search needs
+
+short-at-requires : tie.Need-short-at-requires
+short-at-requires c κs = search needs
+
+short-at-requires-2 : tie.Need-short-at-requires-2
+short-at-requires-2 c κs = search needs
+
+returns : tie.Need-returns
+returns c =
+    let s = c .before .before .before .before .before .args in
+    equation-empty (s .bounds .now) (s .kinds .now) (s .j) (c .before .short-at2 .ensures .0) (c .before .before .short-at .ensures .0) (c .if1 .taken)
+
+last-of-requires : tie.Need-last-of-requires
+last-of-requires c κs = search needs
+
+byte-at-requires : tie.Need-byte-at-requires
+byte-at-requires c κs = search needs
+
+returns-2 : tie.Need-returns-2
+returns-2 c =
+    let kind = c .before in
+    let test = kind .before .before in
+    let s = test .before .before .before .before .before .args in
+    let last = last-kind (s .bounds .now) (s .kinds .now) (s .j) (kind .byte-at .ensures) (kind .before .last-of .ensures) in
+    equation-store (s .bounds .now) (s .kinds .now) (s .j) (test .before .short-at2 .ensures .0) (test .before .before .short-at .ensures .0)
+    (test .if1 .left) last (c .if2 .taken)
+
+returns-3 : tie.Need-returns-3
+returns-3 c =
+    let kind = c .before in
+    let test = kind .before .before in
+    let s = test .before .before .before .before .before .args in
+    let last = last-kind (s .bounds .now) (s .kinds .now) (s .j) (kind .byte-at .ensures) (kind .before .last-of .ensures) in
+    equation-other (s .bounds .now) (s .kinds .now) (s .j) (test .before .short-at2 .ensures .0) (test .before .before .short-at .ensures .0)
+    (test .if1 .left) last (c .if2 .left)
+
+pub is-equation-spec : {M : Type 1} → statement M
+is-equation-spec =
+    tie.close
+    (tie.spec
+    add-short-at
+    short-at-requires
+    short-at-requires-2
+    returns
+    last-of-requires
+    byte-at-requires
+    returns-2
+    returns-3)

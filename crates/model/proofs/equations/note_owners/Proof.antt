@@ -1,0 +1,76 @@
+-- The owners of the slots that the equations from the last down to the present one assign are noted.
+use Prim.Native.Nat.{_-_}
+use native.Mathlib.Omega.{arith}
+use borrow.Author.Needs.{needs}
+use lib.ListN.{length, length-map}
+use Rattle.model.specs.Places.{assignedSlot, assignedSlots}
+use Rattle.model.proofs.Owning.{Owning, owning-start, assigned-at, owning-next, owning-last}
+use Rattle.model.proofs.equations.note_owners.Statement.{statement}
+use Rattle.model.proofs.equations.note_owners.Tie as tie
+
+abbrev Inv-loop : tie.InvT-loop
+Inv-loop rows bounds kinds slots owners₀ r₀ owners r = Owning (assignedSlots rows bounds kinds slots) r owners
+
+abbrev μ-loop : tie.MeasureT-loop
+μ-loop rows bounds kinds slots owners₀ r₀ owners r = r
+
+loop-holds : tie.Need-loop-holds Inv-loop μ-loop
+loop-holds c =
+    let s = c .before .before .before .before .before in
+    owning-start (s .args .rows .now) (s .args .bounds .now) (s .args .kinds .now) (s .args .slots .now) (s .pre .1)
+
+sub-short-at : tie.Need-sub-short-at Inv-loop μ-loop
+sub-short-at c = search needs
+
+short-at-requires : tie.Need-short-at-requires Inv-loop μ-loop
+short-at-requires c κs = search needs
+
+assigned-slot-requires : tie.Need-assigned-slot-requires Inv-loop μ-loop
+assigned-slot-requires c κs = search needs
+
+put-short-requires : tie.Need-put-short-requires Inv-loop μ-loop
+put-short-requires c κs =
+    let at = c .before .before .before .before in
+    let s = at .before .before .before .before .before .before in
+    omega (arith, s .pre .0, at .loop .inv .within, length-map (s .args .rows .now) (assignedSlot (s .args .bounds .now) (s .args .kinds .now) (s .args .slots .now)))
+
+sub-r : tie.Need-sub-r Inv-loop μ-loop
+sub-r c = search needs
+
+loop-less : tie.Need-loop-less Inv-loop μ-loop
+loop-less c = search needs
+
+loop-again : tie.Need-loop-again Inv-loop μ-loop
+loop-again c =
+    let slot = c .before .before .before .before in
+    let test = slot .before .before in
+    let at = test .before in
+    let s = at .before .before .before .before .before .before .args in
+    let as-many = length-map (s .rows .now) (assignedSlot (s .bounds .now) (s .kinds .now) (s .slots .now)) in
+    let assigned =
+    assigned-at (s .rows .now) (s .bounds .now) (s .kinds .now) (s .slots .now) (at .loop .r - 1)
+    (omega (arith, at .loop .inv .within, test .loop-test .taken, as-many)) (slot .assigned-slot .ensures) (slot .before .short-at .ensures .0) in
+    owning-next (at .loop .inv) (test .loop-test .taken) assigned (c .before .before .put-short .ensures)
+
+same-length : tie.Need-same-length Inv-loop μ-loop
+same-length c = search needs
+
+returns : tie.Need-returns Inv-loop μ-loop
+returns c = owning-last (c .before .loop .inv) (c .loop-test .left)
+
+pub note-owners-spec : {M : Type 1} → statement M
+note-owners-spec =
+    tie.close
+    (tie.spec
+    Inv-loop
+    μ-loop
+    loop-holds
+    sub-short-at
+    short-at-requires
+    assigned-slot-requires
+    put-short-requires
+    sub-r
+    loop-less
+    loop-again
+    same-length
+    returns)

@@ -1,0 +1,27 @@
+-- A number that is stored, or none.
+use borrow.Author.Needs.{needs}
+use Rattle.model.proofs.Collecting.{put-one, put-none}
+use Rattle.model.proofs.equations.put_if.Statement.{statement}
+use Rattle.model.proofs.equations.put_if.Tie as tie
+
+put-short-requires : tie.Need-put-short-requires
+put-short-requires c κs = search needs
+
+add-result : tie.Need-add-result
+add-result c = search needs
+
+same-length : tie.Need-same-length
+same-length c = search needs
+
+returns : tie.Need-returns
+returns c =
+    let s = c .before .before .before .before .before .before .args in
+    put-one (s .stands) (s .v) (s .w) (c .before .before .before .before .if1 .taken) (c .before .before .put-short .ensures)
+
+returns-2 : tie.Need-returns-2
+returns-2 c =
+    let s = c .before .before .args in
+    put-none (s .stands) (s .v) (s .w) (s .buf .now) (c .if1 .left)
+
+pub put-if-spec : {M : Type 1} → statement M
+put-if-spec = tie.close (tie.spec put-short-requires add-result same-length returns returns-2)

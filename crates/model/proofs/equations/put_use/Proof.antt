@@ -1,0 +1,52 @@
+-- A name in an expression uses the equation that owns its slot.
+use borrow.Author.Needs.{needs}
+use Rattle.model.proofs.Rowing.{use-other, use-none, use-one}
+use Rattle.model.proofs.equations.put_use.Statement.{statement}
+use Rattle.model.proofs.equations.put_use.Tie as tie
+
+returns : tie.Need-returns
+returns c =
+    let s = c .before .before .before .args in
+    use-other (s .owners .now) (s .kind) (s .slot) (s .w) (s .used .now) (c .if1 .taken)
+
+short-at-requires : tie.Need-short-at-requires
+short-at-requires c κs = search needs
+
+returns-2 : tie.Need-returns-2
+returns-2 c =
+    let test = c .before .before in
+    let s = test .before .before .before .args in
+    use-none (s .owners .now) (s .kind) (s .slot) (s .w) (test .if1 .left) (c .before .short-at .ensures .0) (s .used .now) (c .if2 .taken)
+
+sub-put-short : tie.Need-sub-put-short
+sub-put-short c = search needs
+
+put-short-requires : tie.Need-put-short-requires
+put-short-requires c κs = search needs
+
+add-result : tie.Need-add-result
+add-result c = search needs
+
+same-length : tie.Need-same-length
+same-length c = search needs
+
+returns-3 : tie.Need-returns-3
+returns-3 c =
+    let owner = c .before .before .before .before in
+    let test = owner .before .before in
+    let s = test .before .before .before .args in
+    use-one (s .owners .now) (s .kind) (s .slot) (s .w) (test .if1 .left) (owner .before .short-at .ensures .0) (owner .if2 .left)
+    (c .before .before .put-short .ensures)
+
+pub put-use-spec : {M : Type 1} → statement M
+put-use-spec =
+    tie.close
+    (tie.spec
+    returns
+    short-at-requires
+    returns-2
+    sub-put-short
+    put-short-requires
+    add-result
+    same-length
+    returns-3)

@@ -1,0 +1,82 @@
+-- The tests one after the other.
+use native.Mathlib.Omega.{arith}
+use borrow.Author.Tests.{le-leb, lt-leb, eq-eqb, ne-eqb}
+use Rattle.model.specs.Plan.{fit}
+use Rattle.model.proofs.fitting.fits.Statement.{statement}
+use Rattle.model.proofs.fitting.fits.Tie as tie
+
+returns : tie.Need-returns
+unfolding fit
+returns c = rw (lt-leb _ _ (c .if1 .taken))
+
+add-if2 : tie.Need-add-if2
+add-if2 c = omega arith
+
+returns-2 : tie.Need-returns-2
+unfolding fit
+returns-2 c = rw (le-leb _ _ (c .before .if1 .left), ne-eqb _ _ (c .if2 .taken))
+
+returns-3 : tie.Need-returns-3
+unfolding fit
+returns-3 c = rw (le-leb _ _ (c .before .before .if1 .left), eq-eqb _ _ (c .before .if2 .left), lt-leb _ _ (c .if3 .taken))
+
+returns-4 : tie.Need-returns-4
+unfolding fit
+returns-4 c =
+    rw (le-leb _ _ (c .before .before .before .if1 .left), eq-eqb _ _ (c .before .before .if2 .left), le-leb _ _ (c .before .if3 .left), lt-leb _ _ (c .if4 .taken))
+
+returns-5 : tie.Need-returns-5
+unfolding fit
+returns-5 c =
+    rw (
+      le-leb _ _ (c .before .before .before .before .if1 .left),
+      eq-eqb _ _ (c .before .before .before .if2 .left),
+      le-leb _ _ (c .before .before .if3 .left),
+      le-leb _ _ (c .before .if4 .left),
+      lt-leb _ _ (c .if5 .taken),
+    )
+
+mul-if6 : tie.Need-mul-if6
+mul-if6 c = omega arith
+
+returns-6 : tie.Need-returns-6
+unfolding fit
+returns-6 c =
+    rw (
+      le-leb _ _ (c .before .before .before .before .before .if1 .left),
+      eq-eqb _ _ (c .before .before .before .before .if2 .left),
+      le-leb _ _ (c .before .before .before .if3 .left),
+      le-leb _ _ (c .before .before .if4 .left),
+      le-leb _ _ (c .before .if5 .left),
+      lt-leb _ _ (c .if6 .taken),
+    )
+
+is-in-turn-requires : tie.Need-is-in-turn-requires
+is-in-turn-requires c κs = omega arith
+
+returns-7 : tie.Need-returns-7
+unfolding fit
+returns-7 c =
+    rw (
+      le-leb _ _ (c .before .before .before .before .before .before .if1 .left),
+      eq-eqb _ _ (c .before .before .before .before .before .if2 .left),
+      le-leb _ _ (c .before .before .before .before .if3 .left),
+      le-leb _ _ (c .before .before .before .if4 .left),
+      le-leb _ _ (c .before .before .if5 .left),
+      le-leb _ _ (c .before .if6 .left),
+    ) (c .is-in-turn .ensures)
+
+pub fits-spec : {M : Type 1} → statement M
+fits-spec =
+    tie.close
+    (tie.spec
+    returns
+    add-if2
+    returns-2
+    returns-3
+    returns-4
+    returns-5
+    mul-if6
+    returns-6
+    is-in-turn-requires
+    returns-7)

@@ -1,0 +1,78 @@
+-- The faults of the equations before r are written.
+use Prim.Native.Nat.{_-_}
+use native.Mathlib.Omega.{arith}
+use borrow.Author.Needs.{needs}
+use lib.ListN.{length}
+use Rattle.model.specs.Working.{unmarkedAt}
+use Rattle.model.proofs.Looping.{unmarked-single, unmarked-found}
+use Rattle.model.proofs.Reporting.{Reports, reports-first, reports-next, reports-last}
+use Rattle.model.proofs.loops.report_unmarked.Statement.{statement}
+use Rattle.model.proofs.loops.report_unmarked.Tie as tie
+
+abbrev Inv-loop : tie.InvT-loop
+Inv-loop marks rows lines faults₀ count₀ r₀ faults count r = Reports (unmarkedAt marks rows lines) (length rows) r count faults₀ faults
+
+abbrev μ-loop : tie.MeasureT-loop
+μ-loop marks rows lines faults₀ count₀ r₀ faults count r = length rows - r
+
+loop-holds : tie.Need-loop-holds Inv-loop μ-loop
+loop-holds c =
+    let s = c .before .before .before .before .args in
+    reports-first (unmarkedAt (s .marks .now) (s .rows .now) (s .lines .now)) (length (s .rows .now)) (s .faults .now)
+    (unmarked-single (s .marks .now) (s .rows .now) (s .lines .now))
+
+short-at-requires : tie.Need-short-at-requires Inv-loop μ-loop
+short-at-requires c κs = search needs
+
+short-at-requires-2 : tie.Need-short-at-requires-2 Inv-loop μ-loop
+short-at-requires-2 c κs = search needs
+
+byte-at-requires : tie.Need-byte-at-requires Inv-loop μ-loop
+byte-at-requires c κs = search needs
+
+put-fault-requires : tie.Need-put-fault-requires Inv-loop μ-loop
+put-fault-requires c κs =
+    let at = c .before .before .before .before .before in
+    let s = at .before .before .before .before .before in
+    (c .before .before .short-at2 .ensures .1, omega (arith, at .loop .inv .few, at .loop .inv .within, s .pre))
+
+add-r : tie.Need-add-r Inv-loop μ-loop
+add-r c = search needs
+
+loop-less : tie.Need-loop-less Inv-loop μ-loop
+loop-less c = search needs
+
+loop-again : tie.Need-loop-again Inv-loop μ-loop
+loop-again c =
+    let put = c .before .before in
+    let mark = put .before .before in
+    let line = mark .before in
+    let test = line .before .before in
+    let at = test .before in
+    let s = at .before .before .before .before .before .args in
+    let found = unmarked-found (s .marks .now) (s .rows .now) (s .lines .now) (at .loop .r) (mark .byte-at .ensures)
+    (line .before .short-at .ensures .0) (line .short-at2 .ensures .0) in
+    reports-next (at .loop .inv) (test .loop-test .taken) found (put .put-fault .ensures)
+
+same-length : tie.Need-same-length Inv-loop μ-loop
+same-length c = c .before .loop .inv .long
+
+returns : tie.Need-returns Inv-loop μ-loop
+returns c = reports-last (c .before .loop .inv) (c .loop-test .left)
+
+pub report-unmarked-spec : {M : Type 1} → statement M
+report-unmarked-spec =
+    tie.close
+    (tie.spec
+    Inv-loop
+    μ-loop
+    loop-holds
+    short-at-requires
+    short-at-requires-2
+    byte-at-requires
+    put-fault-requires
+    add-r
+    loop-less
+    loop-again
+    same-length
+    returns)

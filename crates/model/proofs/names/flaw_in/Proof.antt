@@ -1,0 +1,79 @@
+-- The names before the present draft are defined, and the worst of the initials before it is noted.
+use Prim.Native.Nat.{_-_}
+use mathlib.Core.Path.{_≡_, refl, sym, _∙_}
+use mathlib.Core.Bool.{true, false}
+use mathlib.Core.Logic.{⊎-elim}
+use native.Mathlib.Omega.{arith}
+use borrow.Author.Needs.{needs}
+use lib.ListN.{length}
+use Rattle.model.specs.Places.{undefinedAt, unfitAt}
+use Rattle.model.proofs.Naming.{undefined-read, unfit-read, Seeking, seeking-first, seeking-found, seeking-unfit, seeking-pass, seeking-last}
+use Rattle.model.proofs.names.flaw_in.Statement.{statement}
+use Rattle.model.proofs.names.flaw_in.Tie as tie
+
+abbrev Inv-loop : tie.InvT-loop
+Inv-loop places kinds slots from end flaw₀ i₀ flaw i =
+    Seeking (undefinedAt (length places) kinds slots) (unfitAt places kinds slots) end from i flaw
+
+abbrev μ-loop : tie.MeasureT-loop
+μ-loop places kinds slots from end flaw₀ i₀ flaw i = end - i
+
+loop-holds : tie.Need-loop-holds Inv-loop μ-loop
+loop-holds c = seeking-first _ _ _ _
+
+byte-at-requires : tie.Need-byte-at-requires Inv-loop μ-loop
+byte-at-requires c κs = search needs
+
+word-at-requires : tie.Need-word-at-requires Inv-loop μ-loop
+word-at-requires c κs = search needs
+
+is-undefined-requires : tie.Need-is-undefined-requires Inv-loop μ-loop
+is-undefined-requires c κs = search needs
+
+returns : tie.Need-returns Inv-loop μ-loop
+returns c =
+    let read = c .before .before in
+    let test = read .before .before in
+    let s = test .before .before .before .before .before in
+    let undefined = sym (undefined-read (length (s .args .places .now)) (read .before .byte-at .ensures) (read .word-at .ensures)) in
+    seeking-found (test .before .loop .inv) (test .loop-test .taken) (undefined ∙ sym (c .before .is-undefined .ensures) ∙ c .if1 .taken)
+
+is-unfit-requires : tie.Need-is-unfit-requires Inv-loop μ-loop
+is-unfit-requires c κs = search needs
+
+add-i : tie.Need-add-i Inv-loop μ-loop
+add-i c = search needs
+
+loop-less : tie.Need-loop-less Inv-loop μ-loop
+loop-less c = search needs
+
+loop-again : tie.Need-loop-again Inv-loop μ-loop
+loop-again c =
+    let read = c .before .before .before .before in
+    let test = read .before .before in
+    let s = test .before .before .before .before .before in
+    let undefined = sym (undefined-read (length (s .args .places .now)) (read .before .byte-at .ensures) (read .word-at .ensures)) in
+    let unfit = sym (unfit-read (s .args .places .now) (s .args .kinds .now) (read .before .byte-at .ensures) (read .word-at .ensures)) in
+    let named = undefined ∙ sym (c .before .before .before .is-undefined .ensures) ∙ c .before .before .if1 .left in
+    ⊎-elim (λ w. seeking-unfit (test .before .loop .inv) (test .loop-test .taken) named (unfit ∙ sym (c .before .is-unfit .ensures) ∙ w .0 .taken) (w .1))
+    (λ w. seeking-pass (test .before .loop .inv) (test .loop-test .taken) named (unfit ∙ sym (c .before .is-unfit .ensures) ∙ w .0 .left) (w .1)) (c .if2 .came)
+
+returns-2 : tie.Need-returns-2 Inv-loop μ-loop
+returns-2 c = seeking-last (c .before .loop .inv) (c .loop-test .left)
+
+pub flaw-in-spec : {M : Type 1} → statement M
+flaw-in-spec =
+    tie.close
+    (tie.spec
+    Inv-loop
+    μ-loop
+    loop-holds
+    byte-at-requires
+    word-at-requires
+    is-undefined-requires
+    returns
+    is-unfit-requires
+    add-i
+    loop-less
+    loop-again
+    returns-2)

@@ -1,0 +1,16 @@
+-- Only a name in an expression and a name as initial ask.
+use borrow.Author.Tests.{eq-eqb, ne-eqb}
+use Rattle.model.proofs.names.is_undefined.Statement.{statement}
+use Rattle.model.proofs.names.is_undefined.Tie as tie
+
+returns : tie.Need-returns
+returns c = rw (eq-eqb _ 4 (c .if1 .taken))
+
+returns-2 : tie.Need-returns-2
+returns-2 c = rw (ne-eqb _ 4 (c .before .if1 .left), eq-eqb _ 16 (c .if2 .taken))
+
+returns-3 : tie.Need-returns-3
+returns-3 c = rw (ne-eqb _ 4 (c .before .if1 .left), ne-eqb _ 16 (c .if2 .left))
+
+pub is-undefined-spec : {M : Type 1} → statement M
+is-undefined-spec = tie.close (tie.spec returns returns-2 returns-3)

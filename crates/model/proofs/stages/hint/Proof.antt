@@ -1,0 +1,50 @@
+-- There are fewer than 256 keys, so that a hint is a byte.
+use Prim.Native.Nat.{ℕ}
+use native.Mathlib.Omega.{arith}
+use borrow.Author.Needs.{needs}
+use lib.ListN.{length-replicate}
+use Rattle.model.specs.Working.{buckets}
+use Rattle.model.proofs.Staging.{keyed-count}
+use Rattle.model.proofs.stages.hint.Statement.{statement}
+use Rattle.model.proofs.stages.hint.Tie as tie
+
+slice-aggregate-note-hints : tie.Need-slice-aggregate-note-hints
+slice-aggregate-note-hints c = search needs
+
+note-hints-requires : tie.Need-note-hints-requires
+note-hints-requires c κs =
+    let s = c .before .before .before .before .before .before .before .before .pre in
+    (omega (arith, keyed-count s, s .few), length-replicate {A = ℕ} buckets 0)
+
+slice-aggregate-check-doubles : tie.Need-slice-aggregate-check-doubles
+slice-aggregate-check-doubles c = search needs
+
+check-doubles-requires : tie.Need-check-doubles-requires
+check-doubles-requires c κs =
+    let noted = c .before .before .before .before .before in
+    (noted .before .before .before .before .before .before .before .before .before .pre, noted .note-hints .ensures)
+
+same-length : tie.Need-same-length
+same-length c = search needs
+
+same-length-2 : tie.Need-same-length-2
+same-length-2 c = search needs
+
+same-length-3 : tie.Need-same-length-3
+same-length-3 c = search needs
+
+returns : tie.Need-returns
+returns c = c .before .before .before .before .before .before .check-doubles .ensures
+
+pub hint-spec : {M : Type 1} → statement M
+hint-spec =
+    tie.close
+    (tie.spec
+    slice-aggregate-note-hints
+    note-hints-requires
+    slice-aggregate-check-doubles
+    check-doubles-requires
+    same-length
+    same-length-2
+    same-length-3
+    returns)

@@ -1,0 +1,158 @@
+-- What the passes of the code keep and leave: tables by which a name's definition and a slot's equation are found without a search, and
+-- rows that are written to the front of an array.
+use Prim.Native.Nat.{ℕ, suc, _+_, _-_, _*_, _%_, _≤_, _<_}
+use mathlib.Core.Path.{_≡_}
+use mathlib.Core.Bool.{Bool, not, cond, _&&_, _||_}
+use mathlib.Core.List.{List, [], _∷_}
+use lib.Dec.{eqb, ltb}
+use lib.ListN.{length, getD, take}
+use lib.Seq.{sets, slice}
+use Rattle.limits.specs.Limits.{mostStatements, mostDefinitions, textBytes, faultBytes}
+use Rattle.laws.specs.Places.{gather, anyIn, onlyIf}
+use Rattle.laws.specs.Counts.{has}
+use Rattle.sheet.specs.Sheet.{Fault, faultList}
+use Rattle.model.specs.Definitions.{placeIn}
+use Rattle.model.specs.Faults.{again, faultIf}
+use Rattle.model.specs.Plan.{held}
+use Rattle.model.specs.Places.{defines, asks, begins, ends, keysIn, placesIn, resolved, homeOf, assignedSlots, usedIn, startsFrom}
+
+-- ---- rows that are written
+
+-- vs is written from place w on, and r is the place behind
+pub record Put (vs : List ℕ) (w r : ℕ) (buf buf′ : List ℕ) : Type 0 where
+  pub behind : r ≡ w + length vs
+  pub content : buf′ ≡ sets buf w vs
+
+-- the faults are written behind the c that stand there, and there are r now
+pub record Reported (fs : List Fault) (c r : ℕ) (list list′ : List ℕ) : Type 0 where
+  pub behind : r ≡ c + length fs
+  pub content : list′ ≡ sets list (faultBytes * c) (faultList fs)
+
+-- ---- a sheet that fits
+
+-- none of the n statements ends before it begins
+pub record Rises (bounds : List ℕ) (n : ℕ) : Type 0 where
+  pub rise : (j : ℕ) → j < n → begins bounds j ≤ ends bounds j
+
+-- the statements follow each other up to the last draft, and there is room for all that they use
+pub record Sound (lines bounds kinds used : List ℕ) : Type 0 where
+  pub few : length lines ≤ mostStatements
+  pub small : length kinds ≤ textBytes
+  pub room : length kinds ≤ length used
+  pub rises : Rises bounds (length lines)
+  pub whole : begins bounds (length lines) ≡ length kinds
+
+-- an array holds a row of n numbers at its front, zeros behind
+pub record Holds (array : List ℕ) (n : ℕ) (row : List ℕ) : Type 0 where
+  pub long : n ≡ length row
+  pub within : n ≤ mostStatements
+  pub same : array ≡ held row
+
+-- ---- definitions: the keys and the places of all, as many as there is room for; r is how many there are
+pub record Collected (kinds args : List ℕ) (r : ℕ) (keys keys′ places places′ : List ℕ) : Type 0 where
+  pub named : Put (keysIn kinds args) 0 r keys keys′
+  pub placed : Put (placesIn kinds) 0 r places places′
+
+-- the keys and places of a sheet that fits are at hand
+pub record Keyed (lines bounds kinds args used keys places : List ℕ) (n : ℕ) : Type 0 where
+  pub sound : Sound lines bounds kinds used
+  pub wide : length kinds ≤ length args
+  pub few : n ≤ mostDefinitions
+  pub named : keys ≡ keysIn kinds args
+  pub placed : Holds places n (placesIn kinds)
+
+-- a draft of a kind noted as a definition, if it is one
+pub record Noted (kind key place d r : ℕ) (keys keys′ places places′ : List ℕ) : Type 0 where
+  pub named : Put (onlyIf (defines kind) key) d r keys keys′
+  pub placed : Put (onlyIf (defines kind) place) d r places places′
+
+-- ---- a name is found by a hint: the first place of a key with the same remainder, and one more; 0 where no key has it
+abbrev pub buckets : ℕ
+buckets = 4093
+
+abbrev pub hintOf : List ℕ → ℕ → ℕ
+hintOf hints key = getD hints (key % buckets) 0
+
+pub record Hinted (keys hints : List ℕ) : Type 0 where
+  pub some : (d : ℕ) → d < length keys → 0 < hintOf hints (getD keys d 0)
+  pub first : (d : ℕ) → d < length keys → hintOf hints (getD keys d 0) ≤ d + 1
+
+-- ---- 21 by the keys and places of the definitions
+
+-- how many places in front are below e
+unfoldable pub before : ℕ → List ℕ → ℕ
+before e [] = 0
+before e (p ∷ ps) =
+    let r = suc (before e ps) in
+    cond (ltb p e) r 0
+
+-- a key from place a on, before b, stands in an earlier place
+abbrev pub repeats : List ℕ → ℕ → ℕ → Bool
+repeats keys a b = again (take a keys) (slice a b keys)
+
+abbrev pub repeatAt : List ℕ → List ℕ → List ℕ → List ℕ → ℕ → List Fault
+repeatAt lines bounds keys places j =
+    faultIf (repeats keys (before (begins bounds j) places) (before (ends bounds j) places)) (getD lines j 0) 21
+
+abbrev pub repeated : List ℕ → List ℕ → List ℕ → List ℕ → List Fault
+repeated lines bounds keys places = gather (repeatAt lines bounds keys places) (length lines) 0
+
+-- ---- names resolved, and whether one is undefined or, as an initial, unfit
+abbrev pub flawedBy : List ℕ → List ℕ → ℕ → ℕ → Bool
+flawedBy places kinds kind slot =
+    (asks kind && ltb (length places) slot) || (eqb kind 16 && not (eqb (getD kinds (homeOf places slot) 0) 1))
+
+abbrev pub flawedAt : List ℕ → List ℕ → List ℕ → ℕ → Bool
+flawedAt places kinds slots i = flawedBy places kinds (getD kinds i 0) (getD slots i 0)
+
+pub record Resolved (keys kinds places args args′ : List ℕ) (flawed : Bool) : Type 0 where
+  pub same : args′ ≡ resolved keys kinds args
+  pub found : flawed ≡ anyIn (flawedAt places kinds args′) (length kinds) 0
+
+-- ---- 22 or 23, 0 for neither: by whether a name is undefined and whether an initial is unfit
+abbrev pub flawOf : Bool → Bool → ℕ
+flawOf undefined unfit = cond undefined 22 (cond unfit 23 0)
+
+-- ---- a slot's equation: the place among the assigned slots and one more, 0 where none assigns it
+abbrev pub ownerIn : List ℕ → ℕ → ℕ
+ownerIn assigned s = cond (ltb (placeIn s assigned) (length assigned)) (placeIn s assigned + 1) 0
+
+pub record Owned (assigned owners : List ℕ) : Type 0 where
+  pub long : length owners ≡ mostStatements + 1
+  pub owner : (s : ℕ) → s < length owners → getD owners s 0 ≡ ownerIn assigned s
+
+-- what place i uses, by the owners
+abbrev pub usedOwner : List ℕ → ℕ → List ℕ
+usedOwner owners s = onlyIf (ltb 0 (getD owners s 0)) (getD owners s 0 - 1)
+
+abbrev pub usedHere : List ℕ → ℕ → ℕ → List ℕ
+usedHere owners kind s = cond (eqb kind 4) (usedOwner owners s) []
+
+abbrev pub usedFrom : List ℕ → List ℕ → List ℕ → ℕ → List ℕ
+usedFrom owners kinds slots i = usedHere owners (getD kinds i 0) (getD slots i 0)
+
+-- a name in an expression has a slot
+pub record Slotted (kinds slots : List ℕ) : Type 0 where
+  pub slot : (i : ℕ) → getD kinds i 0 ≡ 4 → getD slots i 0 < mostStatements + 1
+
+-- the owners serve for what these equations use, which are not too many
+pub record Usable (rows bounds kinds slots owners : List ℕ) : Type 0 where
+  pub owned : Owned (assignedSlots rows bounds kinds slots) owners
+  pub small : (i : ℕ) → getD kinds i 0 ≡ 4 → getD slots i 0 < length owners
+  pub few : length (usedIn (assignedSlots rows bounds kinds slots) bounds kinds slots rows) < 65536
+
+-- the table of uses is written; r is how much is used
+pub record Tabled (rows bounds kinds slots : List ℕ) (r : ℕ) (starts starts′ used used′ : List ℕ) : Type 0 where
+  pub uses : Put (usedIn (assignedSlots rows bounds kinds slots) bounds kinds slots rows) 0 r used used′
+  pub begun : starts′ ≡ sets starts 0 (startsFrom 0 (assignedSlots rows bounds kinds slots) bounds kinds slots rows)
+
+-- ---- 24: a mark for each equation that is placed
+pub record Marked (placed marks : List ℕ) : Type 0 where
+  pub long : length marks ≡ mostStatements
+  pub mark : (r : ℕ) → r < length marks → eqb (getD marks r 0) 0 ≡ not (has r placed)
+
+abbrev pub unmarkedAt : List ℕ → List ℕ → List ℕ → ℕ → List Fault
+unmarkedAt marks rows lines r = faultIf (eqb (getD marks r 0) 0) (getD lines (getD rows r 0) 0) 24
+
+abbrev pub unmarked : List ℕ → List ℕ → List ℕ → List Fault
+unmarked marks rows lines = gather (unmarkedAt marks rows lines) (length rows) 0

@@ -1,0 +1,50 @@
+// The definitions of a sheet: the keys of their names, and their places.
+ghost use mathlib.Core.Path.{_≡_};
+ghost use Prim.Native.Nat.{_≤_, _<_};
+ghost use lib.ListN.{length};
+ghost use Rattle.limits.specs.Limits.{textBytes};
+ghost use Rattle.model.specs.Places.{defines};
+ghost use Rattle.model.specs.Working.{Noted, Collected};
+use super::lists::put_short;
+use super::lists::put_word;
+use super::lists::word_at;
+
+// Whether a draft of this kind defines its name: constant, initial, store.
+pub(crate) fn is_defining(kind: u8) -> bool
+    ensures { λ r. ⌜ r ≡ defines kind ⌝ }
+{
+    if kind == 1 {
+        return true;
+    }
+    if kind == 2 {
+        return true;
+    }
+    kind == 13
+}
+
+// Stores the key and the place of a draft behind the d definitions before it, if it is one; how many there are then.
+fn note(kind: u8, key: u64, place: usize, keys: &mut [u64], places: &mut [u16], d: usize) -> usize
+    requires { ⌜ (place < 65536) × (d ≤ place) ⌝ }
+    ensures { λ r. ⌜ Noted kind key place d r (now (keys .entry)) (now (keys .exit)) (now (places .entry)) (now (places .exit)) ⌝ }
+{
+    if is_defining(kind) {
+        put_word(keys, d, key);
+        put_short(places, d, place);
+        return d + 1;
+    }
+    d
+}
+
+// Stores the keys of all definitions and their places; how many there are, doubles counted.
+pub(crate) fn collect(kinds: &[u8], args: &[u64], keys: &mut [u64], places: &mut [u16]) -> usize
+    requires { ⌜ length (now kinds) ≤ textBytes ⌝ }
+    ensures { λ r. ⌜ Collected (now (kinds .entry)) (now (args .entry)) r (now (keys .entry)) (now (keys .exit)) (now (places .entry)) (now (places .exit)) ⌝ }
+{
+    let mut d: usize = 0;
+    let mut i = 0;
+    while i < kinds.len() {
+        d = note(kinds[i], word_at(args, i), i, &mut *keys, &mut *places, d);
+        i += 1;
+    }
+    d
+}

@@ -1,0 +1,73 @@
+// Whether the arrays are those of a sheet, with enough room.
+ghost use mathlib.Core.Path.{_≡_};
+ghost use mathlib.Core.Bool.{not};
+ghost use Prim.Native.Nat.{_≤_};
+ghost use lib.ListN.{length};
+ghost use Rattle.limits.specs.Limits.{mostStatements};
+ghost use Rattle.laws.specs.Places.{anyIn};
+ghost use Rattle.model.specs.Plan.{falls, inTurn, fit};
+use super::lists::short_at;
+use limits::FAULT_BYTES;
+use limits::STATEMENTS;
+use limits::TEXT_BYTES;
+
+// Whether none of n statements ends before it begins.
+fn is_rising(bounds: &[u16], n: usize) -> bool
+    requires { ⌜ n ≤ mostStatements ⌝ }
+    ensures { λ r. ⌜ r ≡ not (anyIn (falls (now (bounds .entry))) n 0) ⌝ }
+{
+    let mut j = 0;
+    while j < n {
+        if short_at(bounds, j + 1) < short_at(bounds, j) {
+            return false;
+        }
+        j += 1;
+    }
+    true
+}
+
+// Whether n statements follow each other from draft 0 to the last.
+fn is_in_turn(bounds: &[u16], n: usize, size: usize) -> bool
+    requires { ⌜ n ≤ mostStatements ⌝ }
+    ensures { λ r. ⌜ r ≡ inTurn (now (bounds .entry)) n size ⌝ }
+{
+    if short_at(bounds, 0) != 0 {
+        return false;
+    }
+    if short_at(bounds, n) != size {
+        return false;
+    }
+    is_rising(bounds, n)
+}
+
+// Whether the arrays fit; the last three are the lengths of the arguments, the table of uses and the fault list.
+pub(crate) fn fits(
+    lines: &[u16],
+    bounds: &[u16],
+    kinds: &[u8],
+    args: usize,
+    used: usize,
+    faults: usize,
+) -> bool
+    ensures { λ r. ⌜ r ≡ fit (now (lines .entry)) (now (bounds .entry)) (now (kinds .entry)) args used faults ⌝ }
+{
+    if STATEMENTS < lines.len() {
+        return false;
+    }
+    if bounds.len() != lines.len() + 1 {
+        return false;
+    }
+    if TEXT_BYTES < kinds.len() {
+        return false;
+    }
+    if args < kinds.len() {
+        return false;
+    }
+    if used < kinds.len() {
+        return false;
+    }
+    if faults < FAULT_BYTES * lines.len() {
+        return false;
+    }
+    is_in_turn(bounds, lines.len(), kinds.len())
+}

@@ -1,0 +1,158 @@
+// Names resolved to slots, and the faults 22 and 23.
+ghost use mathlib.Core.Path.{_≡_};
+ghost use mathlib.Core.Bool.{not, _&&_};
+ghost use Prim.Native.Nat.{_-_, _≤_, _<_};
+ghost use lib.Dec.{eqb, ltb};
+ghost use lib.ListN.{length, getD};
+ghost use Rattle.limits.specs.Limits.{mostStatements};
+ghost use Rattle.laws.specs.Places.{anyIn};
+ghost use Rattle.model.specs.Places.{isNamed, asks, resolvedAt, homeOf, undefinedAt, unfitAt, nameless};
+ghost use Rattle.model.specs.Working.{Reported, Hinted, flawedBy, Resolved, flawOf};
+use super::collect::is_defining;
+use super::hints::find;
+use super::lists::byte_at;
+use super::lists::short_at;
+use super::lists::word_at;
+use super::report::put_fault;
+
+// Whether the argument of a draft of this kind is a name's key.
+fn is_named(kind: u8) -> bool
+    ensures { λ r. ⌜ r ≡ isNamed kind ⌝ }
+{
+    if is_defining(kind) {
+        return true;
+    }
+    if kind == 4 {
+        return true;
+    }
+    if kind == 14 {
+        return true;
+    }
+    kind == 16
+}
+
+// A draft's argument, with a name's slot in the place of its key.
+fn slot_of(kind: u8, arg: u64, keys: &[u64], hints: &[u8]) -> u64
+    requires { ⌜ Hinted (now keys) (now hints) × (length (now keys) < 256) ⌝ }
+    ensures { λ r. ⌜ r ≡ resolvedAt (now (keys .entry)) kind arg ⌝ }
+{
+    if is_named(kind) {
+        return find(keys, hints, arg) as u64 + 1;
+    }
+    arg
+}
+
+// Whether a draft asks for a name that nothing defines; n is the count of definitions.
+fn is_undefined(n: usize, kind: u8, slot: u64) -> bool
+    ensures { λ r. ⌜ r ≡ (asks kind && ltb n slot) ⌝ }
+{
+    if kind == 4 {
+        return (n as u64) < slot;
+    }
+    if kind == 16 {
+        return (n as u64) < slot;
+    }
+    false
+}
+
+// Where the definition of a slot stands.
+fn home_of(places: &[u16], slot: u64) -> usize
+    ensures { λ r. ⌜ r ≡ homeOf (now (places .entry)) slot ⌝ }
+{
+    if slot == 0 {
+        return short_at(places, 0);
+    }
+    short_at(places, (slot - 1) as usize)
+}
+
+// Whether a draft is an initial's name that is no constant.
+fn is_unfit(places: &[u16], kinds: &[u8], kind: u8, slot: u64) -> bool
+    ensures { λ r. ⌜ r ≡ (eqb kind 16 && not (eqb (getD (now (kinds .entry)) (homeOf (now (places .entry)) slot) 0) 1)) ⌝ }
+{
+    if kind == 16 {
+        return byte_at(kinds, home_of(places, slot)) != 1;
+    }
+    false
+}
+
+// Whether one of the two holds of a draft.
+fn is_flawed(places: &[u16], kinds: &[u8], kind: u8, slot: u64) -> bool
+    ensures { λ r. ⌜ r ≡ flawedBy (now (places .entry)) (now (kinds .entry)) kind slot ⌝ }
+{
+    if is_undefined(places.len(), kind, slot) {
+        return true;
+    }
+    is_unfit(places, kinds, kind, slot)
+}
+
+// Resolves the names of all drafts; whether one of them is flawed.
+pub(crate) fn resolve(
+    kinds: &[u8],
+    keys: &[u64],
+    hints: &[u8],
+    places: &[u16],
+    args: &mut [u64],
+) -> bool
+    requires { ⌜ Hinted (now keys) (now hints) × (length (now keys) < 256) × (length (now kinds) ≤ length (now args)) ⌝ }
+    ensures { λ r. ⌜ Resolved (now (keys .entry)) (now (kinds .entry)) (now (places .entry)) (now (args .entry)) (now (args .exit)) r ⌝ }
+{
+    let mut flawed = false;
+    let mut i = 0;
+    while i < kinds.len() {
+        let slot = slot_of(kinds[i], args[i], keys, hints);
+        args[i] = slot;
+        if is_flawed(places, kinds, kinds[i], slot) {
+            flawed = true;
+        }
+        i += 1;
+    }
+    flawed
+}
+
+// 22 if a name of the drafts from a place on, before an end, is undefined, else 23 if an initial is unfit, else 0.
+fn flaw_in(places: &[u16], kinds: &[u8], slots: &[u64], from: usize, end: usize) -> u8
+    ensures { λ r. ⌜ r ≡ flawOf (anyIn (undefinedAt (length (now (places .entry))) (now (kinds .entry)) (now (slots .entry))) (end - from) from) (anyIn (unfitAt (now (places .entry)) (now (kinds .entry)) (now (slots .entry))) (end - from) from) ⌝ }
+{
+    let mut flaw: u8 = 0;
+    let mut i = from;
+    while i < end {
+        let kind = byte_at(kinds, i);
+        let slot = word_at(slots, i);
+        if is_undefined(places.len(), kind, slot) {
+            return 22;
+        }
+        if is_unfit(places, kinds, kind, slot) {
+            flaw = 23;
+        }
+        i += 1;
+    }
+    flaw
+}
+
+// Writes the faults 22 and 23 to the front of the list; how many there are.
+pub(crate) fn report_nameless(
+    lines: &[u16],
+    bounds: &[u16],
+    places: &[u16],
+    kinds: &[u8],
+    slots: &[u64],
+    faults: &mut [u8],
+) -> usize
+    requires { ⌜ length (now lines) ≤ mostStatements ⌝ }
+    ensures { λ r. ⌜ Reported (nameless (now (places .entry)) (now (lines .entry)) (now (bounds .entry)) (now (kinds .entry)) (now (slots .entry))) 0 r (now (faults .entry)) (now (faults .exit)) ⌝ }
+{
+    let mut count: usize = 0;
+    let mut j = 0;
+    while j < lines.len() {
+        let flaw = flaw_in(
+            places,
+            kinds,
+            slots,
+            short_at(bounds, j),
+            short_at(bounds, j + 1),
+        );
+        count = put_fault(0 < flaw, short_at(lines, j), flaw, &mut *faults, count);
+        j += 1;
+    }
+    count
+}

@@ -1,0 +1,272 @@
+// The stages of a plan: each goes on where the tests before it are passed.
+ghost use mathlib.Core.Path.{_≡_};
+ghost use mathlib.Core.List.{List};
+ghost use Prim.Native.Nat.{ℕ, _≤_};
+ghost use lib.ListN.{length, take};
+ghost use Rattle.order.specs.Greedy.{order};
+ghost use Rattle.order.specs.Table.{Fit, usesIn};
+ghost use Rattle.model.specs.Places.{keysIn, placesIn, resolved, equationRows};
+ghost use Rattle.model.specs.Plan.{refused, outcome, closed, ordered, named, distinct, sheeted};
+ghost use Rattle.model.specs.Working.{Sound, Holds, Hinted, Keyed, Slotted};
+use super::answer::Plan;
+use super::collect::collect;
+use super::doubles::report_doubles;
+use super::equations::collect_rows;
+use super::equations::table;
+use super::hints::BUCKETS;
+use super::hints::note_hints;
+use super::loops::report_loops;
+use super::names::report_nameless;
+use super::names::resolve;
+use limits::DEFINITIONS;
+use limits::STATEMENTS;
+use order::Sorted;
+
+// A refusal with its count of faults.
+pub(crate) fn refusal(number: u8, count: usize) -> Plan
+    ensures { λ r. ⌜ r ≡ refused number count ⌝ }
+{
+    let none = [0u16; STATEMENTS];
+    Plan {
+        number,
+        count,
+        definitions: 0,
+        equations: 0,
+        places: none,
+        rows: none,
+        order: none,
+    }
+}
+
+// 24: the m equations of rows are ordered by what they use; n definitions stand at places.
+fn close(
+    starts: &[u16],
+    used: &[u16],
+    places: [u16; STATEMENTS],
+    n: usize,
+    rows: [u16; STATEMENTS],
+    m: usize,
+    lines: &[u16],
+    faults: &mut [u8],
+) -> Plan
+    requires { ⌜ Fit m (now starts) (now used) × Holds places n (take n places) × Holds rows m (take m rows) ⌝ }
+    ensures { λ r. ⌜ ((slots filled : List ℕ) → outcome r slots filled (now (faults .exit)) ≡ closed (order m (usesIn (now (starts .entry)) (now (used .entry)))) (take n places) (take m rows) (now (lines .entry)) slots filled (now (faults .entry))) ⌝ }
+{
+    let mut placed = [0u16; STATEMENTS];
+    let sorted = order::sort(m, starts, used, &mut placed);
+    let Sorted::Placed(k) = sorted else {
+        return refusal(9, 0);
+    };
+    if k < m {
+        let count = report_loops(&placed[..k], &rows[..m], lines, faults);
+        return refusal(7, count);
+    }
+    Plan {
+        number: 0,
+        count: 0,
+        definitions: n,
+        equations: m,
+        places,
+        rows,
+        order: placed,
+    }
+}
+
+// The table of what the m equations of rows use.
+fn weigh(
+    lines: &[u16],
+    bounds: &[u16],
+    kinds: &[u8],
+    slots: &[u64],
+    used: &mut [u16],
+    faults: &mut [u8],
+    places: [u16; STATEMENTS],
+    n: usize,
+    rows: [u16; STATEMENTS],
+    m: usize,
+) -> Plan
+    requires { ⌜ Sound (now lines) (now bounds) (now kinds) (now used) × Slotted (now kinds) (now slots) × Holds places n (placesIn (now kinds)) × Holds rows m (equationRows (length (now lines)) (now bounds) (now kinds)) ⌝ }
+    ensures { λ r. ⌜ outcome r (now (slots .entry)) (now (used .exit)) (now (faults .exit)) ≡ ordered (placesIn (now (kinds .entry))) (now (lines .entry)) (now (bounds .entry)) (now (kinds .entry)) (now (slots .entry)) (now (used .entry)) (now (faults .entry)) ⌝ }
+{
+    let mut starts = [0u16; STATEMENTS + 1];
+    let w = table(&rows[..m], bounds, kinds, slots, &mut starts, &mut *used);
+    close(
+        &starts[..m + 1],
+        &used[..w],
+        places,
+        n,
+        rows,
+        m,
+        lines,
+        faults,
+    )
+}
+
+// The equations.
+fn arrange(
+    lines: &[u16],
+    bounds: &[u16],
+    kinds: &[u8],
+    slots: &[u64],
+    used: &mut [u16],
+    faults: &mut [u8],
+    places: [u16; STATEMENTS],
+    n: usize,
+) -> Plan
+    requires { ⌜ Sound (now lines) (now bounds) (now kinds) (now used) × Slotted (now kinds) (now slots) × Holds places n (placesIn (now kinds)) ⌝ }
+    ensures { λ r. ⌜ outcome r (now (slots .entry)) (now (used .exit)) (now (faults .exit)) ≡ ordered (placesIn (now (kinds .entry))) (now (lines .entry)) (now (bounds .entry)) (now (kinds .entry)) (now (slots .entry)) (now (used .entry)) (now (faults .entry)) ⌝ }
+{
+    let mut rows = [0u16; STATEMENTS];
+    let m = collect_rows(lines.len(), bounds, kinds, &mut rows);
+    weigh(
+        lines,
+        bounds,
+        kinds,
+        slots,
+        used,
+        faults,
+        places,
+        n,
+        rows,
+        m,
+    )
+}
+
+// 22 and 23.
+fn check_names(
+    lines: &[u16],
+    bounds: &[u16],
+    kinds: &[u8],
+    slots: &[u64],
+    used: &mut [u16],
+    faults: &mut [u8],
+    places: [u16; STATEMENTS],
+    n: usize,
+) -> Plan
+    requires { ⌜ Sound (now lines) (now bounds) (now kinds) (now used) × Slotted (now kinds) (now slots) × Holds places n (placesIn (now kinds)) ⌝ }
+    ensures { λ r. ⌜ outcome r (now (slots .entry)) (now (used .exit)) (now (faults .exit)) ≡ named (placesIn (now (kinds .entry))) (now (lines .entry)) (now (bounds .entry)) (now (kinds .entry)) (now (slots .entry)) (now (used .entry)) (now (faults .entry)) ⌝ }
+{
+    let count = report_nameless(lines, bounds, &places[..n], kinds, slots, &mut *faults);
+    if 0 < count {
+        return refusal(7, count);
+    }
+    arrange(lines, bounds, kinds, slots, used, faults, places, n)
+}
+
+// The names are resolved. Where none is flawed, no statement is.
+fn settle(
+    lines: &[u16],
+    bounds: &[u16],
+    kinds: &[u8],
+    args: &mut [u64],
+    used: &mut [u16],
+    faults: &mut [u8],
+    keys: &[u64],
+    hints: &[u8],
+    places: [u16; STATEMENTS],
+    n: usize,
+) -> Plan
+    requires { ⌜ Keyed (now lines) (now bounds) (now kinds) (now args) (now used) (now keys) places n × Hinted (now keys) (now hints) ⌝ }
+    ensures { λ r. ⌜ outcome r (now (args .exit)) (now (used .exit)) (now (faults .exit)) ≡ named (placesIn (now (kinds .entry))) (now (lines .entry)) (now (bounds .entry)) (now (kinds .entry)) (resolved (keysIn (now (kinds .entry)) (now (args .entry))) (now (kinds .entry)) (now (args .entry))) (now (used .entry)) (now (faults .entry)) ⌝ }
+{
+    if resolve(kinds, keys, hints, &places[..n], &mut *args) {
+        return check_names(lines, bounds, kinds, args, used, faults, places, n);
+    }
+    arrange(lines, bounds, kinds, args, used, faults, places, n)
+}
+
+// 21.
+fn check_doubles(
+    lines: &[u16],
+    bounds: &[u16],
+    kinds: &[u8],
+    args: &mut [u64],
+    used: &mut [u16],
+    faults: &mut [u8],
+    keys: &[u64],
+    hints: &[u8],
+    places: [u16; STATEMENTS],
+    n: usize,
+) -> Plan
+    requires { ⌜ Keyed (now lines) (now bounds) (now kinds) (now args) (now used) (now keys) places n × Hinted (now keys) (now hints) ⌝ }
+    ensures { λ r. ⌜ outcome r (now (args .exit)) (now (used .exit)) (now (faults .exit)) ≡ distinct (now (lines .entry)) (now (bounds .entry)) (now (kinds .entry)) (now (args .entry)) (now (used .entry)) (now (faults .entry)) ⌝ }
+{
+    let count = report_doubles(lines, bounds, keys, hints, &places[..n], &mut *faults);
+    if 0 < count {
+        return refusal(7, count);
+    }
+    settle(
+        lines,
+        bounds,
+        kinds,
+        args,
+        used,
+        faults,
+        keys,
+        hints,
+        places,
+        n,
+    )
+}
+
+// The hints by which names are found.
+fn hint(
+    lines: &[u16],
+    bounds: &[u16],
+    kinds: &[u8],
+    args: &mut [u64],
+    used: &mut [u16],
+    faults: &mut [u8],
+    keys: &[u64],
+    places: [u16; STATEMENTS],
+    n: usize,
+) -> Plan
+    requires { ⌜ Keyed (now lines) (now bounds) (now kinds) (now args) (now used) (now keys) places n ⌝ }
+    ensures { λ r. ⌜ outcome r (now (args .exit)) (now (used .exit)) (now (faults .exit)) ≡ distinct (now (lines .entry)) (now (bounds .entry)) (now (kinds .entry)) (now (args .entry)) (now (used .entry)) (now (faults .entry)) ⌝ }
+{
+    let mut hints = [0u8; BUCKETS];
+    note_hints(keys, &mut hints);
+    check_doubles(
+        lines,
+        bounds,
+        kinds,
+        args,
+        used,
+        faults,
+        keys,
+        &hints,
+        places,
+        n,
+    )
+}
+
+// The definitions, and 6.
+pub(crate) fn define(
+    lines: &[u16],
+    bounds: &[u16],
+    kinds: &[u8],
+    args: &mut [u64],
+    used: &mut [u16],
+    faults: &mut [u8],
+) -> Plan
+    requires { ⌜ Sound (now lines) (now bounds) (now kinds) (now used) × (length (now kinds) ≤ length (now args)) ⌝ }
+    ensures { λ r. ⌜ outcome r (now (args .exit)) (now (used .exit)) (now (faults .exit)) ≡ sheeted (now (lines .entry)) (now (bounds .entry)) (now (kinds .entry)) (now (args .entry)) (now (used .entry)) (now (faults .entry)) ⌝ }
+{
+    let mut keys = [0u64; STATEMENTS];
+    let mut places = [0u16; STATEMENTS];
+    let n = collect(kinds, args, &mut keys, &mut places);
+    if DEFINITIONS < n {
+        return refusal(6, 0);
+    }
+    hint(
+        lines,
+        bounds,
+        kinds,
+        args,
+        used,
+        faults,
+        &keys[..n],
+        places,
+        n,
+    )
+}

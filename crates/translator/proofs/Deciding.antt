@@ -1,0 +1,111 @@
+-- From a plan to the verdict: what each answer of the code stands for.
+use Prim.Native.Nat.{ℕ, suc, _+_, _*_, _/_, _<_, _≤_}
+use mathlib.Core.Path.{_≡_, refl, sym, ap, ap₂, _∙_}
+use mathlib.Core.Bool.{Bool, true, false, cond, _||_}
+use mathlib.Core.List.{List, [], _∷_, _++_, map}
+use native.Mathlib.Omega.{arith}
+use borrow.Author.Tests.{lt-ltb, le-ltb}
+use lib.Dec.{ltb}
+use lib.ListN.{length, length-append}
+use lib.Seq.{sets}
+use Rattle.limits.specs.Limits.{mostDefinitions, mostRecords, recordBytes}
+use Rattle.laws.specs.Lists.{concat-map}
+use Rattle.bits.specs.Low.{lowBytes}
+use Rattle.sheet.specs.Sheet.{Numbered, Fault}
+use Rattle.sheet.specs.Layout.{Laid}
+use Rattle.model.specs.Definitions.{Def, definitions, equationAt}
+use Rattle.model.specs.Faults.{modelFaults, orderOf}
+use Rattle.model.specs.Places.{keysIn, placesIn, resolved, equationRows}
+use Rattle.model.specs.Plan.{Outcome, outcome}
+use Rattle.records.specs.Record.{Rec, recBytes, programBytes}
+use Rattle.program.specs.Program.{program}
+use Rattle.program.specs.Written.{recordCount, writtenProgram}
+use Rattle.program.proofs.Meant.{count-meant, program-meant}
+use Rattle.translator.specs.declared.Verdict.{Verdict}
+use Rattle.translator.specs.declared.Verdict.the-variants.{Refused, Faulty, Translated}
+use Rattle.translator.specs.Verdict.{refused, faulty, translated, ifFaults, fitted, programmed, modelled, outcomeOf}
+use Rattle.translator.specs.Contract.{outcome as answered}
+use Rattle.translator.proofs.Concluding.{whole, Conclusion, many, flawed, sound}
+
+-- a record has 16 bytes
+pub length-program : (rs : List Rec) → length (programBytes rs) ≡ recordBytes * length rs
+unfolding programBytes concat-map recBytes lowBytes
+length-program [] = refl
+length-program (r ∷ rs) = omega (arith, length-program rs)
+
+module _ (ss : List Numbered) (kinds args lines bounds : List ℕ) (laid : Laid ss kinds args lines bounds) (used faults prog : List ℕ) where
+  abbrev ds : List Def
+  ds = definitions ss
+
+  abbrev recs : List Rec
+  recs = program ds (orderOf ds)
+
+  -- what the verdict on the model leaves
+  abbrev pub Decides : Verdict → List ℕ → List ℕ → Type 0
+  Decides r f p = answered r f p ≡ outcomeOf (modelled (length prog) ss) faults prog
+
+  module _ (o : Outcome) (c : Conclusion ss kinds args lines bounds laid used faults o) where
+    -- number 6
+    pub decides-six : o .plan .number ≡ 6 → Decides (Refused 6) (o .faults) prog
+    decides-six e = go c
+      where
+        go : Conclusion ss kinds args lines bounds laid used faults o → Decides (Refused 6) (o .faults) prog
+        go (many t n f) = rw (t, f)
+        go (flawed f fs t m n k l) = absurd (omega arith)
+        go (sound t m q) = absurd (let z : 0 ≡ 6 = sym (ap (λ (x : Outcome). x .plan .number) q) ∙ e in omega arith)
+
+    -- number 7
+    pub decides-seven : o .plan .number ≡ 7 → Decides (Faulty 7 (o .plan .count)) (o .faults) prog
+    decides-seven e = go c
+      where
+        go : Conclusion ss kinds args lines bounds laid used faults o → Decides (Faulty 7 (o .plan .count)) (o .faults) prog
+        go (many t n f) = absurd (omega arith)
+        go (flawed f fs t m n k l) = rw (t, m, k, l)
+        go (sound t m q) = absurd (let z : 0 ≡ 7 = sym (ap (λ (x : Outcome). x .plan .number) q) ∙ e in omega arith)
+
+    -- neither: the model is sound
+    pub decides-sound : (o .plan .number ≡ 6 → ⊥) → (o .plan .number ≡ 7 → ⊥)
+        → (ltb mostDefinitions (length ds) ≡ false) × (modelFaults ss ≡ []) × (o ≡ whole ss kinds args lines bounds laid used faults)
+    decides-sound a b = go c
+      where
+        go : Conclusion ss kinds args lines bounds laid used faults o
+            → (ltb mostDefinitions (length ds) ≡ false) × (modelFaults ss ≡ []) × (o ≡ whole ss kinds args lines bounds laid used faults)
+        go (many t n f) = absurd (a n)
+        go (flawed f fs t m n k l) = absurd (b n)
+        go (sound t m q) = (t, m, q)
+
+  -- ---- of a sound model
+  module _ (few : ltb mostDefinitions (length ds) ≡ false) (clean : modelFaults ss ≡ []) where
+    modelled-sound : modelled (length prog) ss ≡ programmed (length prog) ds
+    modelled-sound = rw (few, clean)
+
+    count : recordCount kinds ≡ length recs
+    count = count-meant ss kinds args lines bounds laid clean
+
+    -- 8: more records than there may be, or than there is room for
+    pub decides-eight : (mostRecords < recordCount kinds) → Decides (Refused 8) faults prog
+    decides-eight h = rw (modelled-sound, lt-ltb mostRecords (length recs) (rw (← count) h))
+
+    pub decides-eight′ : length prog / recordBytes < recordCount kinds → recordCount kinds ≤ mostRecords → Decides (Refused 8) faults prog
+    decides-eight′ h k =
+        rw (modelled-sound, le-ltb mostRecords (length recs) (rw (← count) k), lt-ltb (length prog / recordBytes) (length recs) (rw (← count) h))
+
+    -- 0: the program is written
+    pub decides-zero : recordCount kinds ≤ mostRecords → recordCount kinds ≤ length prog / recordBytes
+        → Decides (Translated (recordCount kinds)) faults
+        (sets prog 0 (writtenProgram (placesIn kinds) (equationRows (length lines) bounds kinds) lines bounds kinds (resolved (keysIn kinds args) kinds args) (orderOf ds)))
+    decides-zero h k =
+        rw (
+          modelled-sound,
+          le-ltb mostRecords (length recs) (rw (← count) h),
+          le-ltb (length prog / recordBytes) (length recs) (rw (← count) k),
+          program-meant ss kinds args lines bounds laid clean,
+          count,
+        )
+
+    -- there is room for it
+    pub program-room : recordCount kinds ≤ length prog / recordBytes
+        → length (writtenProgram (placesIn kinds) (equationRows (length lines) bounds kinds) lines bounds kinds (resolved (keysIn kinds args) kinds args) (orderOf ds))
+        ≤ length prog
+    program-room k =
+        rw (program-meant ss kinds args lines bounds laid clean, length-program recs) (omega (arith, count))

@@ -1,0 +1,8 @@
+pub mod Spans
+pub mod Progress
+mod Telling
+mod Parsing
+mod Turns
+mod Entries
+pub mod Concluding
+pub mod Deciding

@@ -1,0 +1,128 @@
+-- What the grammar's answer for a row of tokens tells.
+use Prim.Native.Nat.{ℕ, suc, _+_, _≤_}
+use mathlib.Core.Path.{_≡_, refl, ap, _∙_}
+use mathlib.Core.Bool.{Bool}
+use mathlib.Core.List.{List, [], _∷_}
+use native.Mathlib.Omega.{arith}
+use borrow.Author.Tests.{eq-eqb, le-leb}
+use lib.ListN.{length, take, set, length-map}
+use lib.Seq.{sets, length-sets, take-set-le}
+use Rattle.limits.specs.Limits.{levels}
+use Rattle.deck.specs.Lines.{Line}
+use Rattle.deck.specs.Joined.{joined}
+use Rattle.deck.specs.Faults.{Flaw, none, flaw, sizeFlaw}
+use Rattle.tokens.specs.Held.{heldRow}
+use Rattle.tokens.specs.Row.{Placed, Close, whole, bad, rowOf, symbols}
+use Rattle.tokens.proofs.Rows.{row-short}
+use Rattle.grammar.specs.Tree.{Says as Statement}
+use Rattle.grammar.specs.Drafts.{Draft, draftsOf}
+use Rattle.grammar.specs.Parser.{Read, read, fault, readRow, entire, calls}
+use Rattle.grammar.specs.Contract.{Outcome, outcome, wrote, parsedAs, rowWrote, rowOutcome, ParsesRow}
+use Rattle.grammar.specs.declared.Parsed.{Parsed}
+use Rattle.grammar.specs.declared.Parsed.the-variants.{Done, Fault, NoRoom}
+use Rattle.grammar.proofs.Accepts.{written}
+use Rattle.grammar.proofs.Room.{room}
+use Rattle.sheet.specs.Sheet.{says}
+use Rattle.sheet.specs.Reader.{parsed, scanned, sized, told}
+use Rattle.translator.specs.declared.Told.{Told as Answer}
+use Rattle.translator.specs.declared.Told.the-variants.{Says, Faulty}
+use Rattle.translator.specs.Working.{kindsOf, argsOf, TellsOf, Tells, RowRoom}
+
+-- what is written from a place on keeps what stands before
+take-before : (p : ℕ) (l : List ℕ) (i : ℕ) (vs : List ℕ) → p ≤ i → take p (sets l i vs) ≡ take p l
+take-before p l i [] h = refl
+take-before p l i (a ∷ vs) h = take-before p (set l i a) (suc i) vs (omega arith) ∙ take-set-le p l i a h
+
+-- the answer here for the grammar's
+abbrev pub answerOf : Parsed → Answer
+answerOf (Done q) = Says q
+answerOf (Fault c i) = Faulty c
+answerOf NoRoom = Faulty 0
+
+-- what reading a row writes
+abbrev outOf : List Placed → List Draft
+outOf ps = entire (calls (symbols ps)) levels (symbols ps) .out
+
+module _ {ks us : List ℕ} {p : ℕ} {l u : List ℕ} (h : RowRoom ks us p l u) (r : Parsed) (l′ u′ : List ℕ) (w : ParsesRow ks us l u p r l′ u′)
+    (ps : List Placed) (held : heldRow ks us ≡ symbols ps) where
+  -- there is room
+  same : outcome r l′ u′ ≡ rowWrote (symbols ps) p l u
+  unfolding rowOutcome
+  same =
+      w
+      ∙ rw (
+        eq-eqb (length us) (length ks) (h .even),
+        le-leb (p + length ks) (length l) (h .room-kinds),
+        le-leb (p + length ks) (length u) (h .room-args),
+        held,
+      )
+
+  -- so the answer and both buffers are those of the reading
+  replied : r ≡ parsedAs (p + length (outOf ps)) (readRow (symbols ps))
+  unfolding wrote
+  replied = ap (λ (z : Outcome Parsed). z .reply) same
+
+  kinds-are : l′ ≡ sets l p (kindsOf (outOf ps))
+  unfolding wrote
+  kinds-are = ap (λ (z : Outcome Parsed). z .kinds) same
+
+  args-are : u′ ≡ sets u p (argsOf (outOf ps))
+  unfolding wrote
+  args-are = ap (λ (z : Outcome Parsed). z .args) same
+
+  -- by what was read
+  by-read : (d : Read) → readRow (symbols ps) ≡ d → r ≡ parsedAs (p + length (outOf ps)) d → TellsOf (parsed ps d) p l u (answerOf r) l′ u′
+  by-read (read x) e a =
+      let d : outOf ps ≡ draftsOf x = written (symbols ps) x e in (
+        ap answerOf a ∙ ap (λ (ds : List Draft). Says (p + length ds)) d,
+        kinds-are ∙ ap (λ (ds : List Draft). sets l p (kindsOf ds)) d,
+        args-are ∙ ap (λ (ds : List Draft). sets u p (argsOf ds)) d,
+      )
+  by-read (fault c i) e a = (
+    ap answerOf a,
+    ap (take p) kinds-are ∙ take-before p l p (kindsOf (outOf ps)) (omega arith),
+    ap (take p) args-are ∙ take-before p u p (argsOf (outOf ps)) (omega arith),
+  )
+
+  -- the answer and the buffers are what the row tells
+  telling : Tells (parsed ps (readRow (symbols ps))) p l u (answerOf r) l′ u′
+  telling =
+      record {
+        long-kinds = ap length kinds-are ∙ length-sets l p (kindsOf (outOf ps));
+        long-args = ap length args-are ∙ length-sets u p (argsOf (outOf ps));
+        by-told = by-read (readRow (symbols ps)) refl replied;
+      }
+
+  -- the same by the answer's case
+  pub parsed-tells : {d : Parsed} → r ≡ d → Tells (parsed ps (readRow (symbols ps))) p l u (answerOf d) l′ u′
+  parsed-tells e = rw e at telling
+
+-- ---- how many drafts there are
+
+module _ (s : List ℕ) (x : Statement) where
+  -- a row of as many tokens as bytes, at most, says x by as many drafts, at most
+  few-parsed : (ps : List Placed) → length ps ≤ length s → (d : Read) → readRow (symbols ps) ≡ d → parsed ps d ≡ says x → length (draftsOf x) ≤ length s
+  few-parsed ps h (read y) e q =
+      let z : y ≡ x = cc in
+      omega (
+        arith,
+        room (calls (symbols ps)) levels (symbols ps),
+        ap length (written (symbols ps) y e ∙ ap draftsOf z),
+        length-map ps (λ (t : Placed). t .symbol),
+      )
+  few-parsed ps h (fault c i) e q = absurd (let z : _≡_ {A = ℕ} 0 1 = cc in omega arith)
+
+  -- by how the row closes
+  few-scanned : (ps : List Placed) → length ps ≤ length s → (c : Close) → scanned ps c ≡ says x → length (draftsOf x) ≤ length s
+  few-scanned ps h whole q = few-parsed ps h (readRow (symbols ps)) refl q
+  few-scanned ps h (bad c at) q = absurd (let z : _≡_ {A = ℕ} 0 1 = cc in omega arith)
+
+  -- by the fault for size
+  few-sized : (f : Flaw) → sized f s ≡ says x → length (draftsOf x) ≤ length s
+  few-sized none q = few-scanned (rowOf s .tokens) (row-short s) (rowOf s .close) q
+  few-sized (flaw c p) q = absurd (let z : _≡_ {A = ℕ} 0 1 = cc in omega arith)
+
+-- each draft of a statement takes a byte of its joined text
+pub drafts-few : (cards : List Line) (closed : Bool) (x : Statement) → told cards closed ≡ says x → length (draftsOf x) ≤ length (joined cards)
+unfolding told
+drafts-few cards closed x q = few-sized (joined cards) x (sizeFlaw cards closed) q

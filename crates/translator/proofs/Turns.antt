@@ -1,0 +1,138 @@
+-- One turn of reading after the other, in buffers that keep their lengths.
+use Prim.Native.Nat.{ℕ, suc, _+_, _-_, _≤_, _<_}
+use mathlib.Core.Path.{_≡_, refl, ap, _∙_}
+use mathlib.Core.Bool.{Bool}
+use mathlib.Core.List.{List, [], _∷_, _++_, map}
+use native.Mathlib.Omega.{arith}
+use lib.ListN.{length, length-append, length-set}
+use lib.Seq.{length-sets}
+use Rattle.laws.specs.Lists.{concat-map}
+use Rattle.limits.specs.Limits.{mostStatements}
+use Rattle.deck.specs.Joined.{joined}
+use Rattle.deck.specs.Reading.{Statement as Found}
+use Rattle.deck.specs.Reports.{report}
+use Rattle.deck.specs.Next.{foundFrom, statementsFrom, cardsAt}
+use Rattle.deck.specs.declared.Cursor.{Cursor}
+use Rattle.deck.specs.declared.Found.the-variants.{Statement, End}
+use Rattle.deck.proofs.Linked.{Walk, walk, walk-end}
+use Rattle.sheet.specs.Sheet.{Told, says, faulty, Sheet, saidBy, faultBy, said, statementFaults}
+use Rattle.sheet.specs.Reader.{told, sheetOf}
+use Rattle.translator.specs.declared.Tally.{Tally}
+use Rattle.translator.specs.Working.{Able, AddsOf, Adds, Progress, Room, Read}
+use Rattle.translator.proofs.Parsing.{drafts-few}
+use Rattle.translator.proofs.Spans.{span, first-near}
+use Rattle.translator.proofs.Progress.{progress-first, progress-said, progress-faulty, progress-last}
+
+-- each report is a statement without fault, or a fault
+counts : (done : Sheet) → length (said done) + length (statementFaults done) ≡ length done
+unfolding concat-map
+counts [] = refl
+counts (r ∷ done) = go (r .what) (counts done)
+  where
+    go : (t : Told) → length (said done) + length (statementFaults done) ≡ length done
+        → length (saidBy (r .line) t ++ said done) + length (faultBy (r .line) t ++ statementFaults done) ≡ suc (length done)
+    go (says x) h = omega arith
+    go (faulty c q) h = omega arith
+
+-- what is read so far; the buffers are as long as those of the beginning
+pub record Going (text kinds₀ args₀ lines₀ bounds₀ list₀ kinds args lines bounds list : List ℕ) (n : Tally) (c : Cursor) : Type 0 where
+  pub progress : Progress text list₀ c n kinds args lines bounds list
+  pub long-kinds : length kinds ≡ length kinds₀
+  pub long-args : length args ≡ length args₀
+  pub long-lines : length lines ≡ length lines₀
+  pub long-bounds : length bounds ≡ length bounds₀
+
+module _ {text kinds args lines bounds list : List ℕ} where
+  -- the beginning
+  pub going-first : Room text kinds args lines bounds list
+      → Going text kinds args lines bounds list kinds args lines bounds list (record { statements = 0; drafts = 0; faults = 0 }) (record { at = 0; line = 1 })
+  going-first r =
+      record {
+        progress = progress-first text list kinds args lines bounds (r .bounds-first);
+        long-kinds = refl;
+        long-args = refl;
+        long-lines = refl;
+        long-bounds = refl;
+      }
+
+module _ {text kinds₀ args₀ lines₀ bounds₀ list₀ kinds args lines bounds list : List ℕ} {n : Tally} {c : Cursor}
+    (room : Room text kinds₀ args₀ lines₀ bounds₀ list₀) (g : Going text kinds₀ args₀ lines₀ bounds₀ list₀ kinds args lines bounds list n c) where
+  -- the list keeps its length too
+  pub going-list : length list ≡ length list₀
+  going-list = ap length (g .progress .listed) ∙ simp length-sets
+
+  -- the end
+  pub going-last : foundFrom text c ≡ End → Read text list₀ n kinds args lines bounds list
+  going-last e = progress-last (g .progress) (walk-end text c (g .progress .lawful) e)
+
+  module _ {f s k : ℕ} {d long : Bool} {nx : Cursor} (e : foundFrom text c ≡ Statement f s k d long nx) where
+    -- the walk over it
+    step : Walk text c f s k d long nx
+    step = walk text c (g .progress .lawful) e
+
+    -- behind it fewer bytes are left
+    pub going-less : length text - nx .at < length text - c .at
+    going-less = omega (arith, step .bytes, step .further)
+
+    -- its joined text stands before the next cursor, and within the text
+    near : (c .at + length (joined (cardsAt text s k)) ≤ nx .at) × (c .at + length (joined (cardsAt text s k)) ≤ length text)
+    near = span text c (g .progress .lawful) (step .bytes) e
+
+    -- there is one more statement than those that are read
+    left : n .statements + n .faults < mostStatements
+    left =
+        let p = g .progress in
+        let one : Found = record { first = f; cards = cardsAt text s k; closed = d } in
+        let all : sheetOf text ≡ p .done ++ (report told one ∷ map (report told) (statementsFrom text nx)) =
+        p .split ∙ ap (λ (r : List Found). p .done ++ map (report told) r) (step .reads) in
+        let many = length-append (p .done) (report told one ∷ map (report told) (statementsFrom text nx)) in
+        omega (arith, ap length all, many, counts (p .done), p .statements, p .faults, room .few)
+
+    -- what reading it asks
+    pub going-able : Able text f s k d long n kinds args lines bounds
+    going-able =
+        let p = g .progress in
+        let short = near .1 in
+        record {
+          size = step .size;
+          before =
+              record {
+                short = step .short;
+                room-kinds = omega (arith, p .short, short, room .kinds-room, g .long-kinds);
+                room-args = omega (arith, p .short, short, room .args-room, g .long-args);
+              };
+          first-fits = omega (arith, first-near text c (p .lawful) e, room .kinds-room, room .small);
+          kinds-fit = omega (arith, room .small, g .long-kinds);
+          lines-room = omega (arith, left, room .lines-room, g .long-lines);
+          bounds-room = omega (arith, left, room .bounds-room, g .long-bounds);
+          faults-fit = omega (arith, left);
+        }
+
+    -- behind it
+    pub going-next : {kinds′ args′ lines′ bounds′ list′ : List ℕ} {n′ : Tally}
+        → Adds (told (cardsAt text s k) d) f n kinds args lines bounds list n′ kinds′ args′ lines′ bounds′ list′
+        → Going text kinds₀ args₀ lines₀ bounds₀ list₀ kinds′ args′ lines′ bounds′ list′ n′ nx
+    going-next {kinds′} {args′} {lines′} {bounds′} {list′} {n′} w =
+        let both = go (told (cardsAt text s k) d) refl (w .by-told) in
+        record {
+          progress = both .0;
+          long-kinds = w .long-kinds ∙ g .long-kinds;
+          long-args = w .long-args ∙ g .long-args;
+          long-lines = both .1 ∙ g .long-lines;
+          long-bounds = both .2 ∙ g .long-bounds;
+        }
+      where
+        go : (t : Told) → told (cardsAt text s k) d ≡ t
+            → AddsOf t f n kinds args lines bounds list n′ kinds′ args′ lines′ bounds′ list′
+            → Progress text list₀ nx n′ kinds′ args′ lines′ bounds′ list′ × (length lines′ ≡ length lines) × (length bounds′ ≡ length bounds)
+        go (says x) q (en, ek, ea, el, eb, ef) =
+            let few = drafts-few (cardsAt text s k) d x q in
+            let p = g .progress in
+            let a = going-able in
+            let more : Progress text list₀ nx _ _ _ _ _ list =
+            progress-said p step x q (omega (arith, p .short, near .0)) (omega (arith, a .before .room-kinds)) (omega (arith, a .before .room-args))
+            (a .lines-room) (a .bounds-room) in
+            (rw (en, ek, ea, el, eb, ef) more, ap length el ∙ simp length-set, ap length eb ∙ simp length-set)
+        go (faulty code place) q (en, ek, ea, el, eb, ef) =
+            let more : Progress text list₀ nx _ kinds′ args′ lines bounds list′ = progress-faulty (g .progress) step code place q kinds′ args′ list′ ek ea ef in
+            (rw (en, el, eb) more, ap length el, ap length eb)

@@ -1,0 +1,135 @@
+-- What the parts of `translate` meet.
+use Prim.Native.Nat.{ℕ, suc, _+_, _*_, _≤_, _<_}
+use mathlib.Core.Path.{_≡_}
+use mathlib.Core.Bool.{Bool}
+use mathlib.Core.List.{List, [], _∷_, _++_, map}
+use lib.ListN.{length, take, set}
+use lib.Seq.{sets}
+use Rattle.limits.specs.Limits.{mostStatements, faultRoom}
+use Rattle.deck.specs.declared.Cursor.{Cursor}
+use Rattle.bits.specs.Low.{lowBytes}
+use Rattle.deck.specs.Lines.{Line}
+use Rattle.deck.specs.Joined.{joined}
+use Rattle.deck.specs.Faults.{sizeFlaw}
+use Rattle.deck.specs.Codes.{sizeCode, flawOf, joinedRoom}
+use Rattle.deck.specs.Reports.{report}
+use Rattle.deck.specs.Next.{statementsFrom, cardsAt}
+use Rattle.grammar.specs.Drafts.{Draft, draftsOf}
+use Rattle.sheet.specs.Sheet.{Told, says, faulty, Sheet, Numbered, said, statementFaults, faultList}
+use Rattle.sheet.specs.Reader.{told, sheetOf}
+use Rattle.sheet.specs.Layout.{draftsIn, boundsFrom, Laid}
+use Rattle.translator.specs.declared.Told.{Told as Answer}
+use Rattle.translator.specs.declared.Told.the-variants.{Says, Faulty}
+use Rattle.translator.specs.declared.Tally.{Tally}
+
+-- the kinds of drafts, and their arguments
+abbrev pub kindsOf : List Draft → List ℕ
+kindsOf ds = map (λ (d : Draft). d .kind) ds
+
+abbrev pub argsOf : List Draft → List ℕ
+argsOf ds = map (λ (d : Draft). d .arg) ds
+
+-- ---- one statement
+
+-- what is told of it: where it says something, the answer is the place behind its drafts, which stand from the place p on; where it has a
+-- fault, the answer is the code, and what stands before the place is kept
+abbrev pub TellsOf : Told → ℕ → List ℕ → List ℕ → Answer → List ℕ → List ℕ → Type 0
+TellsOf (says x) p l u r l′ u′ = (r ≡ Says (p + length (draftsOf x))) × (l′ ≡ sets l p (kindsOf (draftsOf x))) × (u′ ≡ sets u p (argsOf (draftsOf x)))
+TellsOf (faulty c q) p l u r l′ u′ = (r ≡ Faulty c) × (take p l′ ≡ take p l) × (take p u′ ≡ take p u)
+
+-- of what was told, by reading, and by what stands in the buffers before and after
+pub record Tells (t : Told) (p : ℕ) (l u : List ℕ) (r : Answer) (l′ u′ : List ℕ) : Type 0 where
+  pub long-kinds : length l′ ≡ length l
+  pub long-args : length u′ ≡ length u
+  pub by-told : TellsOf t p l u r l′ u′
+
+-- what reading a row asks: as many arguments as kinds, and room for a draft for each token
+pub record RowRoom (ks us : List ℕ) (p : ℕ) (l u : List ℕ) : Type 0 where
+  pub even : length us ≡ length ks
+  pub room-kinds : p + length ks ≤ length l
+  pub room-args : p + length ks ≤ length u
+
+-- its fault for size has this code, 0 where there is none
+abbrev pub Size : List Line → Bool → ℕ → Type 0
+Size cards closed code = sizeFlaw cards closed ≡ flawOf closed code
+
+-- what reading the statement of these lines asks: its joined text has room, and so have its drafts
+pub record Before (cards : List Line) (code p : ℕ) (l u : List ℕ) : Type 0 where
+  pub short : code ≡ 0 → length (joined cards) ≤ joinedRoom
+  pub room-kinds : p + length (joined cards) ≤ length l
+  pub room-args : p + length (joined cards) ≤ length u
+
+-- a fault's four bytes
+abbrev pub entryOf : ℕ → ℕ → List ℕ
+entryOf line code = lowBytes 2 line ++ (code ∷ 0 ∷ [])
+
+-- ---- one statement more
+
+-- what it asks of the arrays besides
+pub record Able (text : List ℕ) (first start cards : ℕ) (closed long : Bool) (n : Tally) (kinds args lines bounds : List ℕ) : Type 0 where
+  pub size : Size (cardsAt text start cards) closed (sizeCode cards closed long)
+  pub before : Before (cardsAt text start cards) (sizeCode cards closed long) (n .drafts) kinds args
+  pub first-fits : first < 65536
+  pub kinds-fit : length kinds < 65536
+  pub lines-room : n .statements < length lines
+  pub bounds-room : n .statements + 1 < length bounds
+  pub faults-fit : n .faults < 65536
+
+-- what it gives: where the statement says x, its drafts, its number and their end are noted; where it has a fault, that is listed
+abbrev pub AddsOf : Told → ℕ → Tally → List ℕ → List ℕ → List ℕ → List ℕ → List ℕ → Tally → List ℕ → List ℕ → List ℕ → List ℕ → List ℕ → Type 0
+AddsOf (says x) first n l u ls bs fs r l′ u′ ls′ bs′ fs′ =
+    (r ≡ record { statements = n .statements + 1; drafts = n .drafts + length (draftsOf x); faults = n .faults })
+    × (l′ ≡ sets l (n .drafts) (kindsOf (draftsOf x)))
+    × (u′ ≡ sets u (n .drafts) (argsOf (draftsOf x)))
+    × (ls′ ≡ set ls (n .statements) first)
+    × (bs′ ≡ set bs (n .statements + 1) (n .drafts + length (draftsOf x)))
+    × (fs′ ≡ fs)
+AddsOf (faulty c q) first n l u ls bs fs r l′ u′ ls′ bs′ fs′ =
+    (r ≡ record { statements = n .statements; drafts = n .drafts; faults = n .faults + 1 })
+    × (take (n .drafts) l′ ≡ take (n .drafts) l)
+    × (take (n .drafts) u′ ≡ take (n .drafts) u)
+    × (ls′ ≡ ls)
+    × (bs′ ≡ bs)
+    × (fs′ ≡ sets fs (n .faults * 4) (entryOf first c))
+
+-- by what was told, and by what stands in the buffers before and after
+pub record Adds (t : Told) (first : ℕ) (n : Tally) (l u ls bs fs : List ℕ) (r : Tally) (l′ u′ ls′ bs′ fs′ : List ℕ) : Type 0 where
+  pub long-kinds : length l′ ≡ length l
+  pub long-args : length u′ ≡ length u
+  pub by-told : AddsOf t first n l u ls bs fs r l′ u′ ls′ bs′ fs′
+
+-- ---- all statements
+
+-- Reading stands at the cursor c. The reports behind it are `done`; they are held in the arrays, and their faults in the list
+pub record Progress (text list₀ : List ℕ) (c : Cursor) (n : Tally) (kinds args lines bounds list : List ℕ) : Type 0 where
+  pub done : Sheet
+  pub split : sheetOf text ≡ done ++ map (report told) (statementsFrom text c)
+  pub lawful : c .line ≤ c .at + 1
+  pub statements : n .statements ≡ length (said done)
+  pub drafts : n .drafts ≡ length (draftsIn (said done))
+  pub faults : n .faults ≡ length (statementFaults done)
+  pub kinds-held : take (n .drafts) kinds ≡ kindsOf (draftsIn (said done))
+  pub args-held : take (n .drafts) args ≡ argsOf (draftsIn (said done))
+  pub lines-held : take (n .statements) lines ≡ map (λ (s : Numbered). s .line) (said done)
+  pub bounds-held : take (suc (n .statements)) bounds ≡ boundsFrom 0 (said done)
+  pub listed : list ≡ sets list₀ 0 (faultList (statementFaults done))
+  pub short : n .drafts ≤ c .at
+
+-- the room that all of it needs
+pub record Room (text kinds args lines bounds list : List ℕ) : Type 0 where
+  pub few : length (sheetOf text) ≤ mostStatements
+  pub kinds-room : length text < length kinds
+  pub args-room : length text < length args
+  pub small : length kinds < 65536
+  pub lines-room : length lines ≡ mostStatements
+  pub bounds-room : length bounds ≡ suc mostStatements
+  pub bounds-first : take 1 bounds ≡ 0 ∷ []
+  pub list-room : faultRoom ≤ length list
+
+-- what reading all gives: the whole sheet is done
+pub record Read (text list₀ : List ℕ) (n : Tally) (kinds args lines bounds list : List ℕ) : Type 0 where
+  pub statements : n .statements ≡ length (said (sheetOf text))
+  pub drafts : n .drafts ≡ length (draftsIn (said (sheetOf text)))
+  pub faults : n .faults ≡ length (statementFaults (sheetOf text))
+  pub laid : Laid (said (sheetOf text)) (take (n .drafts) kinds) (take (n .drafts) args) (take (n .statements) lines) (take (suc (n .statements)) bounds)
+  pub listed : list ≡ sets list₀ 0 (faultList (statementFaults (sheetOf text)))
