@@ -11,3 +11,5 @@ pub mod Members
 pub mod Sums
 pub mod Copies
 pub mod Gathers
+pub mod Bools
+pub mod Stores

@@ -6,3 +6,4 @@ mod Turns
 mod Entries
 pub mod Concluding
 pub mod Deciding
+pub mod Fitting

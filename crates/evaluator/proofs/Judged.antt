@@ -1,0 +1,94 @@
+-- The judge's loop: what is left to say is what the definition leaves.
+use Prim.Native.Nat.{ℕ, zero-le, _+_, _*_, _/_, _≤_, _<_}
+use mathlib.Core.Path.{_≡_, refl, sym, _∙_}
+use mathlib.Core.Bool.{true, false, not, cond, _&&_}
+use mathlib.Core.List.{List, [], _∷_}
+use mathlib.Core.Logic.{⊎-elim}
+use native.Mathlib.Numerals.{add-one}
+use native.Mathlib.Omega.{arith}
+use borrow.Author.Tests.{eq-eqb, ne-eqb}
+use lib.Dec.{eqb, lit≤}
+use lib.ListN.{length}
+use Rattle.limits.specs.Limits.{slots, recordBytes}
+use Rattle.laws.specs.Counts.{once, count}
+use Rattle.laws.proofs.Counts.{once-other}
+use Rattle.laws.proofs.Tests.{eq-or-ne}
+use Rattle.records.specs.declared.Instr.{Instr}
+use Rattle.records.specs.Fields.{operandOf}
+use Rattle.records.specs.Record.{decodeAt, decoded}
+use Rattle.records.specs.Decode.{decodedAt}
+use Rattle.records.proofs.Decoding.{slot-inside, decoded-at}
+use Rattle.records.proofs.Left.{left, left-all, left-next, left-none}
+use Rattle.evaluator.specs.Judge.{good, judged, judge₀, anyOpen, verdict, judgeFrom, judge}
+use Rattle.evaluator.specs.State.{state, known, Stands, Judges}
+use Rattle.evaluator.specs.declared.judge.State.{State}
+
+-- where no derivative is owed, no state is without one
+open-none : (l : List ℕ) → count 2 l ≡ 0 → anyOpen l ≡ false
+unfolding anyOpen count
+open-none [] e = refl
+open-none (m ∷ l) e =
+    ⊎-elim (λ (q : 2 ≡ m). let o : once (eqb 2 m) ≡ 1 = rw (eq-eqb 2 m q) in absurd (omega arith))
+    (λ d. rw (ne-eqb m 2 (λ q. d (sym q)), open-none l (omega arith))) (eq-or-ne 2 m)
+
+-- where one is owed, some state is
+open-some : (l : List ℕ) → (count 2 l ≡ 0 → ⊥) → anyOpen l ≡ true
+unfolding anyOpen count
+open-some [] e = absurd (e refl)
+open-some (m ∷ l) e =
+    ⊎-elim (λ (q : 2 ≡ m). rw (eq-eqb m 2 (sym q)))
+    (λ d. rw (ne-eqb m 2 (λ q. d (sym q))) (open-some l (λ z. e (omega (arith, once-other 2 m d))))) (eq-or-ne 2 m)
+
+-- before record i
+pub record Judging (p : List ℕ) (l : List ℕ) (t : State) (i : ℕ) : Type 0 where
+  pub here : i ≤ length p / recordBytes
+  pub stands : Stands t l
+  pub same : judge (decoded p) ≡ judgeFrom i (known t l) (left p i)
+
+-- before record 0
+pub first : (p : List ℕ) {t : State} → t ≡ state 1 0 0 → Judging p (judge₀ .marks) t 0
+unfolding count
+first p e =
+    rw e
+    (record { here = zero-le; stands = record { low = zero-le; phase = lit≤ tt; owed = refl; long = refl }; same = rw (left-all p) })
+
+-- what is decoded has one of the 256 slots
+pub ready : (p : List ℕ) (i : ℕ) {x : Instr} → i < length p / recordBytes → x ≡ decodedAt p i → operandOf x < slots
+ready p i h e = rw (e, decoded-at p i h) (slot-inside p (i * recordBytes))
+
+module _ {p l : List ℕ} {t : State} {i : ℕ} (a : Judging p l t i) where
+  module _ {x : Instr} (h : i < length p / recordBytes) (e : x ≡ decodedAt p i) {r : State} {k : List ℕ} (j : Judges t l x r k) where
+    -- record i is bad
+    pub refused : r .ok ≡ false → verdict 3 i ≡ judge (decoded p)
+    unfolding judgeFrom
+    refused o =
+        let f = e ∙ decoded-at p i h in
+        let g : good (known t l) (decodeAt p (i * recordBytes)) ≡ false = rw f at (sym (j .fine) ∙ o) in
+        sym (a .same ∙ rw (left-next p i h, g))
+
+    -- record i is good
+    pub next : r .ok ≡ true → Judging p k r (i + 1)
+    unfolding judgeFrom
+    next o =
+        let f = e ∙ decoded-at p i h in
+        let g : good (known t l) (decodeAt p (i * recordBytes)) ≡ true = rw f at (sym (j .fine) ∙ o) in
+        let n : known r k ≡ judged (known t l) (decodeAt p (i * recordBytes)) = rw f at (j .next o) in
+        record { here = omega arith; stands = j .stands o; same = a .same ∙ rw (left-next p i h, g, n, add-one) }
+
+  module _ (h : length p / recordBytes ≤ i) where
+    -- all records are good
+    ended : judge (decoded p) ≡ cond (eqb (t .height) 0 && not (anyOpen l)) (verdict 0 0) (verdict 4 0)
+    unfolding judgeFrom
+    ended = a .same ∙ rw (left-none p i h)
+
+    -- the end finds a value
+    pub tall : (t .height ≡ 0 → ⊥) → verdict 4 0 ≡ judge (decoded p)
+    tall d = sym (ended ∙ rw (ne-eqb (t .height) 0 d))
+
+    -- the end finds a state without derivative
+    pub owing : t .height ≡ 0 → (t .owed ≡ 0 → ⊥) → verdict 4 0 ≡ judge (decoded p)
+    owing z d = sym (ended ∙ rw (z, open-some l (λ q. d (a .stands .owed ∙ q))))
+
+    -- the end finds neither
+    pub well : t .height ≡ 0 → t .owed ≡ 0 → verdict 0 0 ≡ judge (decoded p)
+    well z o = sym (ended ∙ rw (z, open-none l (sym (a .stands .owed) ∙ o)))

@@ -1,0 +1,194 @@
+// The judge: the first bad record, then what the end finds.
+use crate::Answer;
+use crate::tell;
+use limits::RECORD_BYTES;
+use limits::SLOTS;
+use limits::STACK;
+use records::Instr;
+use records::decode;
+ghost use mathlib.Core.Path.{_≡_};
+ghost use Prim.Native.Nat.{_<_, _≤_};
+ghost use lib.Ieee.{Float};
+ghost use Rattle.limits.specs.Limits.{slots, stackPlaces};
+ghost use Rattle.records.specs.Fields.{operandOf};
+ghost use Rattle.records.specs.Record.{decoded};
+ghost use Rattle.evaluator.specs.Contract.{told};
+ghost use Rattle.evaluator.specs.Judge.{judge};
+ghost use Rattle.evaluator.specs.State.{state, stopped, pushed, folded, Stands, Judges};
+
+// What is known between two records, beside the marks of the slots: the phase reached, the count of values on the stack and the count of
+// states without derivative; or that the record was bad.
+pub struct State {
+    pub ok: bool,
+    pub phase: usize,
+    pub height: usize,
+    pub owed: usize,
+}
+
+// The record was bad.
+fn bad() -> State
+    ensures { λ r. ⌜ r ≡ stopped ⌝ }
+{
+    State {
+        ok: false,
+        phase: 0,
+        height: 0,
+        owed: 0,
+    }
+}
+
+// The record was good.
+fn fine(phase: usize, height: usize, owed: usize) -> State
+    ensures { λ r. ⌜ r ≡ state phase height owed ⌝ }
+{
+    State {
+        ok: true,
+        phase,
+        height,
+        owed,
+    }
+}
+
+// One value more.
+fn push(t: State) -> State
+    ensures { λ r. ⌜ r ≡ pushed t ⌝ }
+{
+    if t.height < STACK {
+        fine(3, t.height + 1, t.owed)
+    } else {
+        bad()
+    }
+}
+
+// One value for k.
+fn fold(t: State, k: usize) -> State
+    requires { ⌜ t .height ≤ stackPlaces ⌝ }
+    ensures { λ r. ⌜ r ≡ folded t k ⌝ }
+{
+    if k <= t.height {
+        fine(3, t.height - k + 1, t.owed)
+    } else {
+        bad()
+    }
+}
+
+// Kind 1: its slot is not set yet, and no other kind stood before.
+fn constant(t: State, marks: &mut [u8; SLOTS], s: u16) -> State
+    requires { ⌜ Stands t (now marks) × (s < slots) ⌝ }
+    ensures { λ r. ⌜ ((x : Float) → Judges t (now (marks .entry)) (Instr.Constant s x) r (now (marks .exit))) ⌝ }
+{
+    if 1 < t.phase {
+        return bad();
+    }
+    if marks[s as usize] != 0 {
+        return bad();
+    }
+    marks[s as usize] = 1;
+    fine(1, t.height, t.owed)
+}
+
+// Kind 2: its slot is not set yet, and kinds 3 to 14 did not stand before.
+fn initial(t: State, marks: &mut [u8; SLOTS], s: u16) -> State
+    requires { ⌜ Stands t (now marks) × (s < slots) ⌝ }
+    ensures { λ r. ⌜ ((x : Float) → Judges t (now (marks .entry)) (Instr.Initial s x) r (now (marks .exit))) ⌝ }
+{
+    if 2 < t.phase {
+        return bad();
+    }
+    if marks[s as usize] != 0 {
+        return bad();
+    }
+    marks[s as usize] = 2;
+    fine(2, t.height, t.owed + 1)
+}
+
+// Kind 4: its slot is set.
+fn slot(t: State, marks: &mut [u8; SLOTS], s: u16) -> State
+    requires { ⌜ Stands t (now marks) × (s < slots) ⌝ }
+    ensures { λ r. ⌜ Judges t (now (marks .entry)) (Instr.Slot s) r (now (marks .exit)) ⌝ }
+{
+    if marks[s as usize] == 0 {
+        return bad();
+    }
+    push(t)
+}
+
+// Kind 13: there is one value, and the slot is not set yet.
+fn store(t: State, marks: &mut [u8; SLOTS], s: u16) -> State
+    requires { ⌜ Stands t (now marks) × (s < slots) ⌝ }
+    ensures { λ r. ⌜ Judges t (now (marks .entry)) (Instr.Store s) r (now (marks .exit)) ⌝ }
+{
+    if t.height != 1 {
+        return bad();
+    }
+    if marks[s as usize] != 0 {
+        return bad();
+    }
+    marks[s as usize] = 1;
+    fine(3, 0, t.owed)
+}
+
+// Kind 14: there is one value, and the slot is a state without derivative.
+fn deriv(t: State, marks: &mut [u8; SLOTS], s: u16) -> State
+    requires { ⌜ Stands t (now marks) × (s < slots) ⌝ }
+    ensures { λ r. ⌜ Judges t (now (marks .entry)) (Instr.Deriv s) r (now (marks .exit)) ⌝ }
+{
+    if t.height != 1 {
+        return bad();
+    }
+    if marks[s as usize] != 2 {
+        return bad();
+    }
+    marks[s as usize] = 3;
+    fine(3, 0, t.owed - 1)
+}
+
+// One record.
+fn judge_step(t: State, marks: &mut [u8; SLOTS], ins: Instr) -> State
+    requires { ⌜ Stands t (now marks) × (operandOf ins < slots) ⌝ }
+    ensures { λ r. ⌜ Judges t (now (marks .entry)) ins r (now (marks .exit)) ⌝ }
+{
+    match ins {
+        Instr::Constant(s, _) => constant(t, marks, s),
+        Instr::Initial(s, _) => initial(t, marks, s),
+        Instr::Value(_) => push(t),
+        Instr::Slot(s) => slot(t, marks, s),
+        Instr::Add => fold(t, 2),
+        Instr::Sub => fold(t, 2),
+        Instr::Mul => fold(t, 2),
+        Instr::Div => fold(t, 2),
+        Instr::Neg => fold(t, 1),
+        Instr::Insw => fold(t, 3),
+        Instr::Limit => fold(t, 3),
+        Instr::Compar => fold(t, 2),
+        Instr::Store(s) => store(t, marks, s),
+        Instr::Deriv(s) => deriv(t, marks, s),
+        Instr::Bad => bad(),
+    }
+}
+
+// The judge's answer on a program.
+pub fn judge(program: &[u8]) -> Answer
+    ensures { λ r. ⌜ told r ≡ judge (decoded (now (program .entry))) ⌝ }
+{
+    let mut marks = [0u8; SLOTS];
+    marks[0] = 1;
+    let mut t = fine(1, 0, 0);
+    let total = program.len() / RECORD_BYTES;
+    let mut i: usize = 0;
+    while i < total {
+        let ins = decode(program, i);
+        t = judge_step(t, &mut marks, ins);
+        if !t.ok {
+            return tell(3, i);
+        }
+        i += 1;
+    }
+    if t.height != 0 {
+        return tell(4, 0);
+    }
+    if t.owed != 0 {
+        return tell(4, 0);
+    }
+    tell(0, 0)
+}

@@ -1,0 +1,3 @@
+pub mod Words
+pub mod Decoding
+pub mod Left
