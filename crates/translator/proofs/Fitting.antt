@@ -51,10 +51,10 @@ laid-fits ss kinds args lines bounds laid a u f few short ha hu hf =
     let n : length lines ≡ length ss = ap length (laid .lines-held) ∙ length-map ss (λ (s : Numbered). s .line) in
     let m : length kinds ≡ length (draftsIn ss) = ap length (laid .kinds-held) ∙ length-map (draftsIn ss) (λ (d : Draft). d .kind) in
     let rises : (j : ℕ) → 0 ≤ j → j < 0 + length ss → falls bounds j ≡ false = λ j _ h.
-        rw (laid .bounds-held, add-one) (le-ltb (getD (boundsFrom 0 ss) (suc j) 0) (getD (boundsFrom 0 ss) j 0) (bounds-rise 0 ss j (omega arith))) in
+    rw (laid .bounds-held, add-one) (le-ltb (getD (boundsFrom 0 ss) (suc j) 0) (getD (boundsFrom 0 ss) j 0) (bounds-rise 0 ss j (omega arith))) in
     let first : eqb (getD bounds 0 0) 0 ≡ true = eq-eqb (getD bounds 0 0) 0 (rw (laid .bounds-held) (bounds-begin 0 ss)) in
-    let last : eqb (getD bounds (length lines) 0) (length kinds) ≡ true = 
-        eq-eqb (getD bounds (length lines) 0) (length kinds) (rw (n, laid .bounds-held) (omega (arith, bounds-end 0 ss, m))) in
+    let last : eqb (getD bounds (length lines) 0) (length kinds) ≡ true =
+    eq-eqb (getD bounds (length lines) 0) (length kinds) (rw (n, laid .bounds-held) (omega (arith, bounds-end 0 ss, m))) in
     let turn : not (anyIn (falls bounds) (length lines) 0) ≡ true = rw (n, none-any (falls bounds) (length ss) 0 rises) in
     and-both _ _ (le-leb (length lines) mostStatements (omega arith))
     (and-both _ _ (eq-eqb (length bounds) (length lines + 1) (rw (laid .bounds-held) (omega (arith, bounds-many 0 ss, n))))
