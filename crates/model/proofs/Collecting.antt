@@ -1,11 +1,11 @@
 -- The definitions collected: a turn of the loop, and its end.
 use Prim.Native.Nat.{ℕ, _+_, _≤_, _<_}
-use mathlib.Core.Path.{_≡_, refl, sym, ap, _∙_}
+use mathlib.Core.Path.{_≡_, refl, ap}
 use mathlib.Core.Bool.{Bool, true, false}
-use mathlib.Core.List.{List, [], _∷_}
+use mathlib.Core.List.{List}
 use native.Mathlib.Omega.{arith}
 use lib.ListN.{length, getD, set}
-use Rattle.laws.specs.Places.{gather, onlyIf}
+use Rattle.laws.specs.Places.{onlyIf}
 use Rattle.laws.proofs.Tests.{not-both}
 use Rattle.laws.proofs.Gathers.{Writes, writes-first, writes-next, whole-count, whole-all}
 use Rattle.model.specs.Places.{defines, definedAt, keysIn, placesIn}

@@ -7,10 +7,10 @@ use mathlib.Core.List.{List, [], _∷_, _++_}
 use native.Mathlib.Nat.{sub-zero}
 use native.Mathlib.Numerals.{add-one}
 use native.Mathlib.Omega.{arith}
-use borrow.Author.Tests.{lt-ltb, le-ltb, ltb-true, ltb-false, eq-eqb, ne-eqb}
-use lib.Dec.{ltb, eqb, leb·suc-suc}
-use lib.ListN.{length, getD, take, drop, length-append, length-take, drop-of-length-le}
-use lib.Seq.{slice, slice-cons, take-suc, take-append-seam, drop-append-seam, take-append-add, take-at, drop-at}
+use borrow.Author.Tests.{lt-ltb, le-ltb, ltb-true, eq-eqb, ne-eqb}
+use lib.Dec.{ltb, leb·suc-suc}
+use lib.ListN.{length, getD, take, length-take, drop-of-length-le}
+use lib.Seq.{slice, slice-cons, take-suc, take-at, drop-at}
 use Rattle.laws.specs.Places.{gather, onlyIf}
 use Rattle.laws.specs.Counts.{count, has}
 use Rattle.laws.proofs.Tests.{cond-ind, bool-cases, eq-or-ne, lt-or-ge}

@@ -1,12 +1,12 @@
 -- Fault 24 by marks.
-use Prim.Native.Nat.{ℕ, suc, _+_, _≤_, _<_}
-use mathlib.Core.Path.{_≡_, refl, sym, ap, ap₂, _∙_}
-use mathlib.Core.Bool.{Bool, true, false, not}
+use Prim.Native.Nat.{ℕ, _+_, _≤_, _<_}
+use mathlib.Core.Path.{_≡_, ap, ap₂, _∙_}
+use mathlib.Core.Bool.{Bool, true, not}
 use mathlib.Core.Logic.{⊎-elim}
 use mathlib.Core.List.{List, [], _∷_, _++_}
 use native.Mathlib.Numerals.{add-one}
 use native.Mathlib.Omega.{arith}
-use borrow.Author.Tests.{eq-eqb, ne-eqb, lt-ltb}
+use borrow.Author.Tests.{eq-eqb, lt-ltb}
 use lib.Dec.{eqb}
 use lib.ListN.{length, getD, set, take, replicate, length-set, length-replicate, getD-replicate}
 use lib.Seq.{take-suc, take-all, getD-set-same, getD-set-other}
@@ -16,7 +16,7 @@ use Rattle.laws.proofs.Tests.{eq-or-ne}
 use Rattle.laws.proofs.Counts.{count-snoc-same, count-snoc-other}
 use Rattle.laws.proofs.Gathers.{gather-same}
 use Rattle.model.specs.Faults.{faultIf}
-use Rattle.model.specs.Places.{loopAt, loops}
+use Rattle.model.specs.Places.{loops}
 use Rattle.model.specs.Working.{Reported, Marked, unmarkedAt, unmarked}
 use Rattle.model.proofs.Reporting.{if-length}
 
@@ -53,7 +53,8 @@ module _ {placed marks : List ℕ} {k : ℕ} (v : Marking placed k marks) where
           same : q ≡ r → eqb (getD marks′ q 0) 0 ≡ not (has q (take k placed ++ (r ∷ [])))
           same z =
               let one : getD marks′ q 0 ≡ 1 = rw (e, z) (getD-set-same marks r 1 0 (omega (arith, inside))) in
-              let there : has q (take k placed ++ (r ∷ [])) ≡ true = rw z (lt-ltb 0 (count r (take k placed ++ (r ∷ []))) (omega (arith, count-snoc-same r (take k placed)))) in
+              let more : 0 < count r (take k placed ++ (r ∷ [])) = omega (arith, count-snoc-same r (take k placed)) in
+              let there : has q (take k placed ++ (r ∷ [])) ≡ true = rw z (lt-ltb 0 (count r (take k placed ++ (r ∷ []))) more) in
               rw (one, there)
 
           other : (q ≡ r → ⊥) → eqb (getD marks′ q 0) 0 ≡ not (has q (take k placed ++ (r ∷ [])))

@@ -5,13 +5,13 @@ use mathlib.Core.Bool.{Bool, true, false, cond}
 use mathlib.Core.Logic.{⊎-elim}
 use mathlib.Core.List.{List, [], _∷_, map}
 use native.Mathlib.Omega.{arith}
-use borrow.Author.Tests.{eq-eqb, ne-eqb, lt-ltb, le-ltb}
-use lib.Dec.{eqb, ltb, leb·suc-suc}
+use borrow.Author.Tests.{eq-eqb, ne-eqb, lt-ltb}
+use lib.Dec.{ltb, leb·suc-suc}
 use lib.ListN.{length, getD, set, drop, replicate, length-set, length-map, length-replicate, getD-replicate, drop-of-length-le}
 use lib.Seq.{drop-cons, getD-set-same, getD-set-other}
 use Rattle.limits.specs.Limits.{mostStatements}
 use Rattle.laws.specs.Places.{onlyIf}
-use Rattle.laws.proofs.Tests.{eq-or-ne, cond-ind}
+use Rattle.laws.proofs.Tests.{eq-or-ne}
 use Rattle.model.specs.Definitions.{placeIn}
 use Rattle.model.specs.Places.{assignedSlot, assignedSlots, usedBy, usedAt, usedIn}
 use Rattle.model.specs.Working.{ownerIn, Owned, usedOwner, usedFrom, Slotted, Usable}

@@ -1,6 +1,6 @@
 -- The fault list written: one fault, and a loop that reports what its places give.
-use Prim.Native.Nat.{ℕ, suc, _+_, _-_, _*_, _/_, _%_, _≤_, _<_}
-use mathlib.Core.Path.{_≡_, refl, sym, ap, ap₂, _∙_}
+use Prim.Native.Nat.{ℕ, _+_, _-_, _*_, _/_, _%_, _≤_, _<_}
+use mathlib.Core.Path.{_≡_, refl, ap, _∙_}
 use mathlib.Core.Bool.{Bool, true, false}
 use mathlib.Core.List.{List, [], _∷_, _++_}
 use native.Mathlib.Nat.{sub-zero}
@@ -15,7 +15,6 @@ use Rattle.laws.proofs.Sets.{sets-append}
 use Rattle.laws.proofs.Gathers.{gather-step, gather-done}
 use Rattle.bits.specs.Low.{lowBytes}
 use Rattle.bits.proofs.Lows.{length-low}
-use Rattle.deck.specs.Faults.{at-start}
 use Rattle.sheet.specs.Sheet.{Fault, faultEntry, faultList}
 use Rattle.model.specs.Faults.{faultIf}
 use Rattle.model.specs.Working.{Reported}

@@ -3,11 +3,11 @@ use Prim.Native.Nat.{ℕ, zero, suc, _+_, _-_, _*_, _≤_, _<_}
 use mathlib.Core.Path.{_≡_, refl, sym, ap, ap₂, _∙_}
 use mathlib.Core.Bool.{Bool, true, false, cond, _||_}
 use mathlib.Core.Logic.{⊎-elim}
-use mathlib.Core.List.{List, [], _∷_, _++_}
+use mathlib.Core.List.{List, [], _∷_}
 use native.Mathlib.Numerals.{add-one, lt-of-le-of-ne}
 use native.Mathlib.Omega.{arith}
 use borrow.Author.Tests.{ltb-false, leb-true, eqb-true, not-true, lt-ltb, le-ltb}
-use lib.Dec.{eqb, leb, ltb}
+use lib.Dec.{eqb, leb}
 use lib.ListN.{length, getD, take, drop, replicate, length-replicate}
 use lib.Seq.{sets, sets-eq, length-sets, length-take-le, take-append-seam}
 use Rattle.limits.specs.Limits.{mostStatements, mostDefinitions, textBytes, faultBytes}
@@ -23,7 +23,8 @@ use Rattle.order.specs.Answer.{Sorts}
 use Rattle.order.specs.declared.Sorted.{Sorted}
 use Rattle.order.specs.declared.Sorted.the-variants.{Placed, Unfit}
 use Rattle.order.proofs.Tables.{fits-iff}
-use Rattle.model.specs.Places.{begins, ends, anyOf, isEquation, undefinedAt, unfitAt, namesAt, keysIn, placesIn, doubles, resolvedAt, resolved, nameless, equationRows, assignedSlots, usedIn, startsFrom, loops}
+use Rattle.model.specs.Places.{begins, ends, anyOf, keysIn, placesIn, doubles, resolvedAt, resolved, undefinedAt, unfitAt, namesAt, nameless}
+use Rattle.model.specs.Places.{isEquation, equationRows, assignedSlots, usedIn, startsFrom, loops}
 use Rattle.model.specs.Plan.{Outcome, outcome, held, refused, faulted, some, falls, inTurn, fit, closed, ordered, named, distinct, sheeted, planned}
 use Rattle.model.specs.Working.{Put, Reported, Collected, Keyed, flawedAt, Resolved, Sound, Holds, Rises, Slotted, Tabled, repeated}
 use Rattle.model.specs.declared.answer.Plan.{Plan}
@@ -266,7 +267,9 @@ ends-within {lines} {bounds} s j h = omega (arith, rises-to bounds (length lines
 module _ {lines bounds kinds used : List ℕ} (s : Sound lines bounds kinds used) (places slots : List ℕ)
     (clear : anyIn (flawedAt places kinds slots) (length kinds) 0 ≡ false) where
   none-at : (i : ℕ) → i < length kinds → (undefinedAt (length places) kinds slots i ≡ false) × (unfitAt places kinds slots i ≡ false)
-  none-at i h = or-false (undefinedAt (length places) kinds slots i) (unfitAt places kinds slots i) (any-none _ (length kinds) 0 clear i (omega arith) (omega arith))
+  none-at i h =
+      or-false (undefinedAt (length places) kinds slots i) (unfitAt places kinds slots i)
+      (any-none (flawedAt places kinds slots) (length kinds) 0 clear i (omega arith) (omega arith))
 
   nameless-none : nameless places lines bounds kinds slots ≡ []
   unfolding nameless

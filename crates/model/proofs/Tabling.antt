@@ -1,9 +1,8 @@
 -- The table of uses: a turn of the loop that writes it, how long it is, and that it fits the order.
 use Prim.Native.Nat.{ℕ, zero, suc, _+_, _-_, _≤_, _<_}
 use mathlib.Core.Path.{_≡_, refl, sym, ap, ap₂, _∙_}
-use mathlib.Core.Bool.{Bool, true, false, cond}
-use mathlib.Core.Logic.{⊎-elim}
-use mathlib.Core.List.{List, [], _∷_, _++_, map}
+use mathlib.Core.Bool.{Bool, true, false}
+use mathlib.Core.List.{List, [], _∷_, _++_}
 use native.Mathlib.Numerals.{add-one}
 use native.Mathlib.Omega.{arith}
 use borrow.Author.Tests.{ltb-true}
@@ -12,7 +11,7 @@ use lib.ListN.{length, getD, set, drop, length-set, length-map, length-append, d
 use lib.Seq.{sets, drop-cons, length-sets}
 use Rattle.limits.specs.Limits.{mostStatements}
 use Rattle.laws.specs.Places.{gather, onlyIf}
-use Rattle.laws.proofs.Tests.{bool-cases, cond-ind}
+use Rattle.laws.proofs.Tests.{cond-ind}
 use Rattle.laws.proofs.Sets.{sets-append}
 use Rattle.laws.proofs.Gathers.{gather-short, gather-same}
 use Rattle.order.specs.Table.{Fit}

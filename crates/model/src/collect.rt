@@ -38,7 +38,8 @@ fn note(kind: u8, key: u64, place: usize, keys: &mut [u64], places: &mut [u16], 
 // Stores the keys of all definitions and their places; how many there are, doubles counted.
 pub(crate) fn collect(kinds: &[u8], args: &[u64], keys: &mut [u64], places: &mut [u16]) -> usize
     requires { ⌜ length (now kinds) ≤ textBytes ⌝ }
-    ensures { λ r. ⌜ Collected (now (kinds .entry)) (now (args .entry)) r (now (keys .entry)) (now (keys .exit)) (now (places .entry)) (now (places .exit)) ⌝ }
+    ensures { λ r. ⌜ Collected (now (kinds .entry)) (now (args .entry)) r (now (keys .entry)) (now (keys .exit)) (now (places .entry))
+        (now (places .exit)) ⌝ }
 {
     let mut d: usize = 0;
     let mut i = 0;

@@ -47,8 +47,10 @@ pub(crate) fn report_doubles(
     places: &[u16],
     faults: &mut [u8],
 ) -> usize
-    requires { ⌜ Hinted (now keys) (now hints) × (length (now places) ≤ length (now keys)) × Rises (now bounds) (length (now lines)) × (length (now lines) ≤ mostStatements) ⌝ }
-    ensures { λ r. ⌜ Reported (repeated (now (lines .entry)) (now (bounds .entry)) (now (keys .entry)) (now (places .entry))) 0 r (now (faults .entry)) (now (faults .exit)) ⌝ }
+    requires { ⌜ Hinted (now keys) (now hints) × (length (now places) ≤ length (now keys)) × Rises (now bounds) (length (now lines)) ×
+        (length (now lines) ≤ mostStatements) ⌝ }
+    ensures { λ r. ⌜ Reported (repeated (now (lines .entry)) (now (bounds .entry)) (now (keys .entry)) (now (places .entry))) 0 r
+        (now (faults .entry)) (now (faults .exit)) ⌝ }
 {
     let mut d = passed(places, short_at(bounds, 0), 0);
     let mut count: usize = 0;

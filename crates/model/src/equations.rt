@@ -123,7 +123,8 @@ fn put_uses(
     at: usize,
 ) -> usize
     requires { ⌜ (at < 65536) × (end < 65536) ⌝ }
-    ensures { λ r. ⌜ Put (gather (usedFrom (now (owners .entry)) (now (kinds .entry)) (now (slots .entry))) (end - from) from) at r (now (used .entry)) (now (used .exit)) ⌝ }
+    ensures { λ r. ⌜ Put (gather (usedFrom (now (owners .entry)) (now (kinds .entry)) (now (slots .entry))) (end - from) from) at r
+        (now (used .entry)) (now (used .exit)) ⌝ }
 {
     let mut w = at;
     let mut i = from;
@@ -145,7 +146,8 @@ pub(crate) fn tabulate(
     used: &mut [u16],
 ) -> usize
     requires { ⌜ Usable (now rows) (now bounds) (now kinds) (now slots) (now owners) ⌝ }
-    ensures { λ r. ⌜ Tabled (now (rows .entry)) (now (bounds .entry)) (now (kinds .entry)) (now (slots .entry)) r (now (starts .entry)) (now (starts .exit)) (now (used .entry)) (now (used .exit)) ⌝ }
+    ensures { λ r. ⌜ Tabled (now (rows .entry)) (now (bounds .entry)) (now (kinds .entry)) (now (slots .entry)) r (now (starts .entry))
+        (now (starts .exit)) (now (used .entry)) (now (used .exit)) ⌝ }
 {
     let mut w: usize = 0;
     let mut r = 0;
@@ -176,8 +178,10 @@ pub(crate) fn table(
     starts: &mut [u16],
     used: &mut [u16],
 ) -> usize
-    requires { ⌜ (length (now rows) ≤ mostStatements) × Slotted (now kinds) (now slots) × (length (usedIn (assignedSlots (now rows) (now bounds) (now kinds) (now slots)) (now bounds) (now kinds) (now slots) (now rows)) < 65536) ⌝ }
-    ensures { λ r. ⌜ Tabled (now (rows .entry)) (now (bounds .entry)) (now (kinds .entry)) (now (slots .entry)) r (now (starts .entry)) (now (starts .exit)) (now (used .entry)) (now (used .exit)) ⌝ }
+    requires { ⌜ (length (now rows) ≤ mostStatements) × Slotted (now kinds) (now slots) ×
+        (length (usedIn (assignedSlots (now rows) (now bounds) (now kinds) (now slots)) (now bounds) (now kinds) (now slots) (now rows)) < 65536) ⌝ }
+    ensures { λ r. ⌜ Tabled (now (rows .entry)) (now (bounds .entry)) (now (kinds .entry)) (now (slots .entry)) r (now (starts .entry))
+        (now (starts .exit)) (now (used .entry)) (now (used .exit)) ⌝ }
 {
     let mut owners = [0u16; STATEMENTS + 1];
     note_owners(rows, bounds, kinds, slots, &mut owners);

@@ -7,13 +7,14 @@ ghost use Rattle.model.specs.Working.{buckets, Hinted};
 use super::lists::byte_at;
 use super::lists::put_byte;
 
-pub(crate) const BUCKETS: usize = 4093;
+// A prime: the keys of two names seldom have the same remainder.
+pub(crate) const BUCKETS: usize = 16381;
 
 // The place of a key's hint.
 fn bucket(key: u64) -> usize
     ensures { λ r. ⌜ (r ≡ key % buckets) × (r < buckets) ⌝ }
 {
-    (key % 4093) as usize
+    key as usize % BUCKETS
 }
 
 // Notes a hint for each key, from the last to the first, so that the first of those with the same hint stays.

@@ -25,7 +25,8 @@ pub fn plan(
     used: &mut [u16],
     faults: &mut [u8],
 ) -> Plan
-    ensures { λ r. ⌜ Plans (now (lines .entry)) (now (bounds .entry)) (now (kinds .entry)) (now (args .entry)) (now (used .entry)) (now (faults .entry)) r (now (args .exit)) (now (used .exit)) (now (faults .exit)) ⌝ }
+    ensures { λ r. ⌜ Plans (now (lines .entry)) (now (bounds .entry)) (now (kinds .entry)) (now (args .entry)) (now (used .entry))
+        (now (faults .entry)) r (now (args .exit)) (now (used .exit)) (now (faults .exit)) ⌝ }
 {
     if fitting::fits(lines, bounds, kinds, args.len(), used.len(), faults.len()) {
         return stages::define(lines, bounds, kinds, args, used, faults);

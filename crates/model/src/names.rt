@@ -111,7 +111,8 @@ pub(crate) fn resolve(
 
 // 22 if a name of the drafts from a place on, before an end, is undefined, else 23 if an initial is unfit, else 0.
 fn flaw_in(places: &[u16], kinds: &[u8], slots: &[u64], from: usize, end: usize) -> u8
-    ensures { λ r. ⌜ r ≡ flawOf (anyIn (undefinedAt (length (now (places .entry))) (now (kinds .entry)) (now (slots .entry))) (end - from) from) (anyIn (unfitAt (now (places .entry)) (now (kinds .entry)) (now (slots .entry))) (end - from) from) ⌝ }
+    ensures { λ r. ⌜ r ≡ flawOf (anyIn (undefinedAt (length (now (places .entry))) (now (kinds .entry)) (now (slots .entry))) (end - from) from)
+        (anyIn (unfitAt (now (places .entry)) (now (kinds .entry)) (now (slots .entry))) (end - from) from) ⌝ }
 {
     let mut flaw: u8 = 0;
     let mut i = from;
@@ -139,7 +140,8 @@ pub(crate) fn report_nameless(
     faults: &mut [u8],
 ) -> usize
     requires { ⌜ length (now lines) ≤ mostStatements ⌝ }
-    ensures { λ r. ⌜ Reported (nameless (now (places .entry)) (now (lines .entry)) (now (bounds .entry)) (now (kinds .entry)) (now (slots .entry))) 0 r (now (faults .entry)) (now (faults .exit)) ⌝ }
+    ensures { λ r. ⌜ Reported (nameless (now (places .entry)) (now (lines .entry)) (now (bounds .entry)) (now (kinds .entry)) (now (slots .entry))) 0
+        r (now (faults .entry)) (now (faults .exit)) ⌝ }
 {
     let mut count: usize = 0;
     let mut j = 0;

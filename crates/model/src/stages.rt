@@ -50,7 +50,9 @@ fn close(
     faults: &mut [u8],
 ) -> Plan
     requires { ⌜ Fit m (now starts) (now used) × Holds places n (take n places) × Holds rows m (take m rows) ⌝ }
-    ensures { λ r. ⌜ ((slots filled : List ℕ) → outcome r slots filled (now (faults .exit)) ≡ closed (order m (usesIn (now (starts .entry)) (now (used .entry)))) (take n places) (take m rows) (now (lines .entry)) slots filled (now (faults .entry))) ⌝ }
+    ensures { λ r. ⌜ ((slots filled : List ℕ) → outcome r slots filled (now (faults .exit)) ≡ closed
+        (order m (usesIn (now (starts .entry)) (now (used .entry)))) (take n places) (take m rows) (now (lines .entry)) slots filled
+        (now (faults .entry))) ⌝ }
 {
     let mut placed = [0u16; STATEMENTS];
     let sorted = order::sort(m, starts, used, &mut placed);
@@ -85,8 +87,10 @@ fn weigh(
     rows: [u16; STATEMENTS],
     m: usize,
 ) -> Plan
-    requires { ⌜ Sound (now lines) (now bounds) (now kinds) (now used) × Slotted (now kinds) (now slots) × Holds places n (placesIn (now kinds)) × Holds rows m (equationRows (length (now lines)) (now bounds) (now kinds)) ⌝ }
-    ensures { λ r. ⌜ outcome r (now (slots .entry)) (now (used .exit)) (now (faults .exit)) ≡ ordered (placesIn (now (kinds .entry))) (now (lines .entry)) (now (bounds .entry)) (now (kinds .entry)) (now (slots .entry)) (now (used .entry)) (now (faults .entry)) ⌝ }
+    requires { ⌜ Sound (now lines) (now bounds) (now kinds) (now used) × Slotted (now kinds) (now slots) × Holds places n (placesIn (now kinds)) ×
+        Holds rows m (equationRows (length (now lines)) (now bounds) (now kinds)) ⌝ }
+    ensures { λ r. ⌜ outcome r (now (slots .entry)) (now (used .exit)) (now (faults .exit)) ≡ ordered (placesIn (now (kinds .entry)))
+        (now (lines .entry)) (now (bounds .entry)) (now (kinds .entry)) (now (slots .entry)) (now (used .entry)) (now (faults .entry)) ⌝ }
 {
     let mut starts = [0u16; STATEMENTS + 1];
     let w = table(&rows[..m], bounds, kinds, slots, &mut starts, &mut *used);
@@ -114,7 +118,8 @@ fn arrange(
     n: usize,
 ) -> Plan
     requires { ⌜ Sound (now lines) (now bounds) (now kinds) (now used) × Slotted (now kinds) (now slots) × Holds places n (placesIn (now kinds)) ⌝ }
-    ensures { λ r. ⌜ outcome r (now (slots .entry)) (now (used .exit)) (now (faults .exit)) ≡ ordered (placesIn (now (kinds .entry))) (now (lines .entry)) (now (bounds .entry)) (now (kinds .entry)) (now (slots .entry)) (now (used .entry)) (now (faults .entry)) ⌝ }
+    ensures { λ r. ⌜ outcome r (now (slots .entry)) (now (used .exit)) (now (faults .exit)) ≡ ordered (placesIn (now (kinds .entry)))
+        (now (lines .entry)) (now (bounds .entry)) (now (kinds .entry)) (now (slots .entry)) (now (used .entry)) (now (faults .entry)) ⌝ }
 {
     let mut rows = [0u16; STATEMENTS];
     let m = collect_rows(lines.len(), bounds, kinds, &mut rows);
@@ -144,11 +149,12 @@ fn check_names(
     n: usize,
 ) -> Plan
     requires { ⌜ Sound (now lines) (now bounds) (now kinds) (now used) × Slotted (now kinds) (now slots) × Holds places n (placesIn (now kinds)) ⌝ }
-    ensures { λ r. ⌜ outcome r (now (slots .entry)) (now (used .exit)) (now (faults .exit)) ≡ named (placesIn (now (kinds .entry))) (now (lines .entry)) (now (bounds .entry)) (now (kinds .entry)) (now (slots .entry)) (now (used .entry)) (now (faults .entry)) ⌝ }
+    ensures { λ r. ⌜ outcome r (now (slots .entry)) (now (used .exit)) (now (faults .exit)) ≡ named (placesIn (now (kinds .entry)))
+        (now (lines .entry)) (now (bounds .entry)) (now (kinds .entry)) (now (slots .entry)) (now (used .entry)) (now (faults .entry)) ⌝ }
 {
-    let count = report_nameless(lines, bounds, &places[..n], kinds, slots, &mut *faults);
-    if 0 < count {
-        return refusal(7, count);
+    let flaws = report_nameless(lines, bounds, &places[..n], kinds, slots, &mut *faults);
+    if 0 < flaws {
+        return refusal(7, flaws);
     }
     arrange(lines, bounds, kinds, slots, used, faults, places, n)
 }
@@ -167,7 +173,9 @@ fn settle(
     n: usize,
 ) -> Plan
     requires { ⌜ Keyed (now lines) (now bounds) (now kinds) (now args) (now used) (now keys) places n × Hinted (now keys) (now hints) ⌝ }
-    ensures { λ r. ⌜ outcome r (now (args .exit)) (now (used .exit)) (now (faults .exit)) ≡ named (placesIn (now (kinds .entry))) (now (lines .entry)) (now (bounds .entry)) (now (kinds .entry)) (resolved (keysIn (now (kinds .entry)) (now (args .entry))) (now (kinds .entry)) (now (args .entry))) (now (used .entry)) (now (faults .entry)) ⌝ }
+    ensures { λ r. ⌜ outcome r (now (args .exit)) (now (used .exit)) (now (faults .exit)) ≡ named (placesIn (now (kinds .entry))) (now (lines .entry))
+        (now (bounds .entry)) (now (kinds .entry)) (resolved (keysIn (now (kinds .entry)) (now (args .entry))) (now (kinds .entry))
+        (now (args .entry))) (now (used .entry)) (now (faults .entry)) ⌝ }
 {
     if resolve(kinds, keys, hints, &places[..n], &mut *args) {
         return check_names(lines, bounds, kinds, args, used, faults, places, n);
@@ -189,11 +197,12 @@ fn check_doubles(
     n: usize,
 ) -> Plan
     requires { ⌜ Keyed (now lines) (now bounds) (now kinds) (now args) (now used) (now keys) places n × Hinted (now keys) (now hints) ⌝ }
-    ensures { λ r. ⌜ outcome r (now (args .exit)) (now (used .exit)) (now (faults .exit)) ≡ distinct (now (lines .entry)) (now (bounds .entry)) (now (kinds .entry)) (now (args .entry)) (now (used .entry)) (now (faults .entry)) ⌝ }
+    ensures { λ r. ⌜ outcome r (now (args .exit)) (now (used .exit)) (now (faults .exit)) ≡ distinct (now (lines .entry)) (now (bounds .entry))
+        (now (kinds .entry)) (now (args .entry)) (now (used .entry)) (now (faults .entry)) ⌝ }
 {
-    let count = report_doubles(lines, bounds, keys, hints, &places[..n], &mut *faults);
-    if 0 < count {
-        return refusal(7, count);
+    let doubles = report_doubles(lines, bounds, keys, hints, &places[..n], &mut *faults);
+    if 0 < doubles {
+        return refusal(7, doubles);
     }
     settle(
         lines,
@@ -222,7 +231,8 @@ fn hint(
     n: usize,
 ) -> Plan
     requires { ⌜ Keyed (now lines) (now bounds) (now kinds) (now args) (now used) (now keys) places n ⌝ }
-    ensures { λ r. ⌜ outcome r (now (args .exit)) (now (used .exit)) (now (faults .exit)) ≡ distinct (now (lines .entry)) (now (bounds .entry)) (now (kinds .entry)) (now (args .entry)) (now (used .entry)) (now (faults .entry)) ⌝ }
+    ensures { λ r. ⌜ outcome r (now (args .exit)) (now (used .exit)) (now (faults .exit)) ≡ distinct (now (lines .entry)) (now (bounds .entry))
+        (now (kinds .entry)) (now (args .entry)) (now (used .entry)) (now (faults .entry)) ⌝ }
 {
     let mut hints = [0u8; BUCKETS];
     note_hints(keys, &mut hints);
@@ -250,7 +260,8 @@ pub(crate) fn define(
     faults: &mut [u8],
 ) -> Plan
     requires { ⌜ Sound (now lines) (now bounds) (now kinds) (now used) × (length (now kinds) ≤ length (now args)) ⌝ }
-    ensures { λ r. ⌜ outcome r (now (args .exit)) (now (used .exit)) (now (faults .exit)) ≡ sheeted (now (lines .entry)) (now (bounds .entry)) (now (kinds .entry)) (now (args .entry)) (now (used .entry)) (now (faults .entry)) ⌝ }
+    ensures { λ r. ⌜ outcome r (now (args .exit)) (now (used .exit)) (now (faults .exit)) ≡ sheeted (now (lines .entry)) (now (bounds .entry))
+        (now (kinds .entry)) (now (args .entry)) (now (used .entry)) (now (faults .entry)) ⌝ }
 {
     let mut keys = [0u64; STATEMENTS];
     let mut places = [0u16; STATEMENTS];

@@ -1,6 +1,5 @@
 -- The loop goes over the drafts.
 use Prim.Native.Nat.{_-_}
-use native.Mathlib.Omega.{arith}
 use borrow.Author.Needs.{needs}
 use lib.ListN.{length}
 use Rattle.model.proofs.Collecting.{Collecting, collecting-first, collecting-next, collecting-last}

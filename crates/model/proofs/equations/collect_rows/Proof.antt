@@ -1,10 +1,7 @@
 -- The equations before statement j are stored.
-use Prim.Native.Nat.{_-_, _≤_}
-use mathlib.Core.Path.{ap, _∙_}
+use Prim.Native.Nat.{_-_}
 use native.Mathlib.Omega.{arith}
 use borrow.Author.Needs.{needs}
-use Rattle.laws.specs.Places.{onlyIf}
-use Rattle.laws.proofs.Gathers.{Writes, writes-first, writes-next, whole-count, whole-all}
 use Rattle.model.specs.Places.{isEquation, equationRows}
 use Rattle.model.proofs.Rowing.{Listing, listing-first, listing-next, listing-last}
 use Rattle.model.proofs.equations.collect_rows.Statement.{statement}

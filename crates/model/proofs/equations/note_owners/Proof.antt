@@ -2,7 +2,7 @@
 use Prim.Native.Nat.{_-_}
 use native.Mathlib.Omega.{arith}
 use borrow.Author.Needs.{needs}
-use lib.ListN.{length, length-map}
+use lib.ListN.{length-map}
 use Rattle.model.specs.Places.{assignedSlot, assignedSlots}
 use Rattle.model.proofs.Owning.{Owning, owning-start, assigned-at, owning-next, owning-last}
 use Rattle.model.proofs.equations.note_owners.Statement.{statement}
@@ -32,7 +32,8 @@ put-short-requires : tie.Need-put-short-requires Inv-loop μ-loop
 put-short-requires c κs =
     let at = c .before .before .before .before in
     let s = at .before .before .before .before .before .before in
-    omega (arith, s .pre .0, at .loop .inv .within, length-map (s .args .rows .now) (assignedSlot (s .args .bounds .now) (s .args .kinds .now) (s .args .slots .now)))
+    let a = s .args in
+    omega (arith, s .pre .0, at .loop .inv .within, length-map (a .rows .now) (assignedSlot (a .bounds .now) (a .kinds .now) (a .slots .now)))
 
 sub-r : tie.Need-sub-r Inv-loop μ-loop
 sub-r c = search needs

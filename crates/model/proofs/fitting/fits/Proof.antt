@@ -23,7 +23,12 @@ returns-3 c = rw (le-leb _ _ (c .before .before .if1 .left), eq-eqb _ _ (c .befo
 returns-4 : tie.Need-returns-4
 unfolding fit
 returns-4 c =
-    rw (le-leb _ _ (c .before .before .before .if1 .left), eq-eqb _ _ (c .before .before .if2 .left), le-leb _ _ (c .before .if3 .left), lt-leb _ _ (c .if4 .taken))
+    rw (
+      le-leb _ _ (c .before .before .before .if1 .left),
+      eq-eqb _ _ (c .before .before .if2 .left),
+      le-leb _ _ (c .before .if3 .left),
+      lt-leb _ _ (c .if4 .taken),
+    )
 
 returns-5 : tie.Need-returns-5
 unfolding fit

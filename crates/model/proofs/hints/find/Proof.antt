@@ -1,5 +1,5 @@
 -- No hint: not there. A hint that leads to the key: its first place. Otherwise it is sought.
-use Prim.Native.Nat.{ℕ, _%_}
+use Prim.Native.Nat.{ℕ}
 use mathlib.Core.Path.{sym, ap, _∙_}
 use native.Mathlib.Omega.{arith}
 use borrow.Author.Needs.{needs}

@@ -1,5 +1,4 @@
 -- The hints of the keys from the last down to the present one are noted.
-use native.Mathlib.Omega.{arith}
 use borrow.Author.Needs.{needs}
 use Rattle.model.proofs.Finding.{Hinting, hinting-first, hinting-next, hinting-last}
 use Rattle.model.proofs.hints.note_hints.Statement.{statement}

@@ -1,8 +1,5 @@
 -- Slot 0 has no place before it.
-use Prim.Native.Nat.{ℕ, _-_}
-use mathlib.Core.Path.{sym, ap, _∙_}
 use borrow.Author.Needs.{needs}
-use lib.ListN.{getD}
 use Rattle.model.proofs.names.home_of.Statement.{statement}
 use Rattle.model.proofs.names.home_of.Tie as tie
 

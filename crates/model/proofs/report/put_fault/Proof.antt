@@ -1,6 +1,4 @@
 -- A fault that stands is written as one number of four bytes.
-use mathlib.Core.Path.{_≡_, refl, sym, ap, _∙_}
-use native.Mathlib.Omega.{arith}
 use borrow.Author.Needs.{needs}
 use Rattle.model.proofs.Reporting.{written, unwritten}
 use Rattle.model.proofs.report.put_fault.Statement.{statement}

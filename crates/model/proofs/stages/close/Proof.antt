@@ -3,7 +3,7 @@ use mathlib.Core.Path.{refl}
 use native.Mathlib.Omega.{arith}
 use borrow.Author.Needs.{needs}
 use lib.ListN.{take}
-use Rattle.model.proofs.Staging.{prefix-length, holds-room, holds-front, holds-few, sorts-fit, sorts-long, sorts-short, sorts-whole}
+use Rattle.model.proofs.Staging.{prefix-length, holds-room, holds-few, sorts-fit, sorts-long, sorts-short, sorts-whole}
 use Rattle.model.proofs.stages.close.Statement.{statement}
 use Rattle.model.proofs.stages.close.Tie as tie
 
@@ -40,13 +40,19 @@ slice-aggregate-report-loops c =
     (omega (arith, c .before .if1 .taken, s .few, sorts-long (sorted .ensures) s (s .few)))
 
 array-share-prefix-rows : tie.Need-array-share-prefix-rows
-array-share-prefix-rows c = holds-room (c .before .before .before .before .before .before .before .before .before .before .before .before .pre .2)
+array-share-prefix-rows c =
+    let sort = c .before .before .before .before .before .before in
+    holds-room (sort .before .before .before .before .before .before .pre .2)
 
 slice-aggregate-report-loops-2 : tie.Need-slice-aggregate-report-loops-2
-slice-aggregate-report-loops-2 c = c .before .before .before .before .before .before .before .before .before .before .before .before .before .pre .2 .long
+slice-aggregate-report-loops-2 c =
+    let sort = c .before .before .before .before .before .before .before in
+    sort .before .before .before .before .before .before .pre .2 .long
 
 report-loops-requires : tie.Need-report-loops-requires
-report-loops-requires c κs = holds-few (c .before .before .before .before .before .before .before .before .before .before .before .before .before .before .pre .2)
+report-loops-requires c κs =
+    let sort = c .before .before .before .before .before .before .before .before in
+    holds-few (sort .before .before .before .before .before .before .pre .2)
 
 refusal-requires-2 : tie.Need-refusal-requires-2
 refusal-requires-2 c κs = search needs

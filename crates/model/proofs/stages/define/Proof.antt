@@ -51,7 +51,8 @@ returns-2 c =
     let test = c .before .before .before .before .before .before .before .before .before .before .before in
     let collected = test .before .before .before in
     let s = collected .before .before .before .before .before .before .before .before .before .before .args in
-    sheeted-few (collected .collect .ensures) (s .lines .now) (s .bounds .now) (s .used .now) (s .faults .now) (test .if1 .left) (c .before .before .before .before .before .before .hint .ensures)
+    sheeted-few (collected .collect .ensures) (s .lines .now) (s .bounds .now) (s .used .now) (s .faults .now) (test .if1 .left)
+    (c .before .before .before .before .before .before .hint .ensures)
 
 pub define-spec : {M : Type 1} → statement M
 define-spec =
