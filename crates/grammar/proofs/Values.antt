@@ -174,7 +174,8 @@ initially-size (of-number a) = signed-size a
 initially-size of-name = omega arith
 
 module _ {A : Type 0} (f : A → Draft) (x : List Symbol → Res A) {L : Asked A} {F : Before}
-    (size : (o : List Draft) (w : List Symbol) (e : A) → L o w e → 0 < length w) {ks us : List ℕ} {i : ℕ} (w : Within ks us i) (out : Out L F (drop i (heldRow ks us)) (x (drop i (heldRow ks us))))
+    (size : (o : List Draft) (w : List Symbol) (e : A) → L o w e → 0 < length w) {ks us : List ℕ} {i : ℕ}
+    (w : Within ks us i) (out : Out L F (drop i (heldRow ks us)) (x (drop i (heldRow ks us))))
     (quiet : Quiet (x (drop i (heldRow ks us)))) where
   valued-at : {k a j : ℕ} → Found k a j ≡ valueOf f (length ks) (x (drop i (heldRow ks us)) .end) → Valued-at f x ks us i k a j
   valued-at {k} {a} {j} = go (x (drop i (heldRow ks us)) .end) refl (out .ends)

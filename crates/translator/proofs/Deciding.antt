@@ -40,6 +40,11 @@ module _ (ss : List Numbered) (kinds args lines bounds : List ℕ) (laid : Laid 
   abbrev recs : List Rec
   recs = program ds (orderOf ds)
 
+  -- the bytes that the code writes
+  abbrev pub written : List ℕ
+  written =
+      writtenProgram (placesIn kinds) (equationRows (length lines) bounds kinds) lines bounds kinds (resolved (keysIn kinds args) kinds args) (orderOf ds)
+
   -- what the verdict on the model leaves
   abbrev pub Decides : Verdict → List ℕ → List ℕ → Type 0
   Decides r f p = answered r f p ≡ outcomeOf (modelled (length prog) ss) faults prog
@@ -92,8 +97,7 @@ module _ (ss : List Numbered) (kinds args lines bounds : List ℕ) (laid : Laid 
 
     -- 0: the program is written
     pub decides-zero : recordCount kinds ≤ mostRecords → recordCount kinds ≤ length prog / recordBytes
-        → Decides (Translated (recordCount kinds)) faults
-        (sets prog 0 (writtenProgram (placesIn kinds) (equationRows (length lines) bounds kinds) lines bounds kinds (resolved (keysIn kinds args) kinds args) (orderOf ds)))
+        → Decides (Translated (recordCount kinds)) faults (sets prog 0 written)
     decides-zero h k =
         rw (
           modelled-sound,
@@ -104,8 +108,6 @@ module _ (ss : List Numbered) (kinds args lines bounds : List ℕ) (laid : Laid 
         )
 
     -- there is room for it
-    pub program-room : recordCount kinds ≤ length prog / recordBytes
-        → length (writtenProgram (placesIn kinds) (equationRows (length lines) bounds kinds) lines bounds kinds (resolved (keysIn kinds args) kinds args) (orderOf ds))
-        ≤ length prog
+    pub program-room : recordCount kinds ≤ length prog / recordBytes → length written ≤ length prog
     program-room k =
         rw (program-meant ss kinds args lines bounds laid clean, length-program recs) (omega (arith, count))
