@@ -263,7 +263,8 @@ module _ {ks us : List ℕ} {d i p : ℕ} {l u : List ℕ} where
         closed le o ew g =
             by-given o (λ x v. meets-need 41 (w .even) (omega arith) (sym ek ∙ z ∙ em ∙ rw (le-leb n 1 le)) (g x)) λ b v s f. absurd (omega arith)
 
-        pub list-bare : {c : ℕ} → n ≤ 1 → c ≡ 0 → (o : Opening) → wantOf o ≡ n → kindOpening o ≡ c → Parses ks us (list o) d i p l u (Passed (j + 1) q) l₁ u₁
+        pub list-bare : {c : ℕ} → n ≤ 1 → c ≡ 0 → (o : Opening) → wantOf o ≡ n → kindOpening o ≡ c
+            → Parses ks us (list o) d i p l u (Passed (j + 1) q) l₁ u₁
         list-bare le v o ew ec =
             let b = closer-inside in
             closed le o ew λ x. meets-by (λ u. tell (openDrafts o) (give x u))

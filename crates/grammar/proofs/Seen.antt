@@ -114,17 +114,19 @@ pub face-told : (k a : ℕ) {f : Face} → f ≡ faceOf (shapeOf (symbolOf k a))
 face-told k a q = subst (λ (f : Face). Faced k f) (sym q) (faced k a)
 
 -- and every other kind begins none
-pub no-face : (k a : ℕ) → (k ≡ 1 → ⊥) → (k ≡ 2 → ⊥) → (k ≡ 7 → ⊥) → (k ≡ 40 → ⊥) → (k ≡ 8 → ⊥) → (k ≡ 9 → ⊥) → (k ≡ 10 → ⊥)
-    → Nothing ≡ faceOf (shapeOf (symbolOf k a))
+pub no-face : (k a : ℕ) → (k ≡ 1 → ⊥) → (k ≡ 2 → ⊥) → (k ≡ 7 → ⊥) → (k ≡ 40 → ⊥) → (k ≡ 8 → ⊥) → (k ≡ 9 → ⊥)
+    → (k ≡ 10 → ⊥) → Nothing ≡ faceOf (shapeOf (symbolOf k a))
 unfolding shapeOf
 no-face k a =
     by-kind
     (λ k. (k ≡ 1 → ⊥) → (k ≡ 2 → ⊥) → (k ≡ 7 → ⊥) → (k ≡ 40 → ⊥) → (k ≡ 8 → ⊥) → (k ≡ 9 → ⊥) → (k ≡ 10 → ⊥)
     → Nothing ≡ faceOf (shapeOf (symbolOf k a)))
-    (λ n₁ n₂ n₇ n₄₀ n₈ n₉ n. refl) (λ n₁ n₂ n₇ n₄₀ n₈ n₉ n. absurd (n₁ refl)) (λ n₁ n₂ n₇ n₄₀ n₈ n₉ n. absurd (n₂ refl))
-    (λ n₁ n₂ n₇ n₄₀ n₈ n₉ n. refl) (λ n₁ n₂ n₇ n₄₀ n₈ n₉ n. refl) (λ n₁ n₂ n₇ n₄₀ n₈ n₉ n. refl) (λ n₁ n₂ n₇ n₄₀ n₈ n₉ n. refl)
-    (λ n₁ n₂ n₇ n₄₀ n₈ n₉ n. absurd (n₇ refl)) (λ n₁ n₂ n₇ n₄₀ n₈ n₉ n. absurd (n₈ refl)) (λ n₁ n₂ n₇ n₄₀ n₈ n₉ n. absurd (n₉ refl))
-    (λ n₁ n₂ n₇ n₄₀ n₈ n₉ n. absurd (n refl)) (λ k h n₁ n₂ n₇ n₄₀ n₈ n₉ n. rw (high k a h, ne-eqb k 40 n₄₀)) k
+    (λ m₁ m₂ m₇ m₀ m₈ m₉ m. refl) (λ m₁ m₂ m₇ m₀ m₈ m₉ m. absurd (m₁ refl)) (λ m₁ m₂ m₇ m₀ m₈ m₉ m. absurd (m₂ refl))
+    (λ m₁ m₂ m₇ m₀ m₈ m₉ m. refl) (λ m₁ m₂ m₇ m₀ m₈ m₉ m. refl) (λ m₁ m₂ m₇ m₀ m₈ m₉ m. refl)
+    (λ m₁ m₂ m₇ m₀ m₈ m₉ m. refl)
+    (λ m₁ m₂ m₇ m₀ m₈ m₉ m. absurd (m₇ refl)) (λ m₁ m₂ m₇ m₀ m₈ m₉ m. absurd (m₈ refl))
+    (λ m₁ m₂ m₇ m₀ m₈ m₉ m. absurd (m₉ refl))
+    (λ m₁ m₂ m₇ m₀ m₈ m₉ m. absurd (m refl)) (λ k h m₁ m₂ m₇ m₀ m₈ m₉ m. rw (high k a h, ne-eqb k 40 m₀)) k
 
 -- what a start tells of the two numbers
 abbrev Started : ℕ → ℕ → Start → Type 0

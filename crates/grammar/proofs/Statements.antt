@@ -39,8 +39,8 @@ pub record Two-on (ks us : List ℕ) (p j : ℕ) (l u : List ℕ) : Type 0 where
   pub first : (p < length l) × (p < length u)
   pub second : {l₁ u₁ : List ℕ} (k a : ℕ) → l₁ ≡ set l p k → u₁ ≡ set u p a → (p + 1 < length l₁) × (p + 1 < length u₁)
   pub under : p + 2 ≤ length l
-  pub ready : {l₁ u₁ l₂ u₂ : List ℕ} (k a k′ a′ : ℕ) → l₁ ≡ set l p k → u₁ ≡ set u p a → l₂ ≡ set l₁ (p + 1) k′ → u₂ ≡ set u₁ (p + 1) a′
-      → j < length ks → Ready ks us (j + 1) (p + 2) l₂ u₂
+  pub ready : {l₁ u₁ l₂ u₂ : List ℕ} (k a k′ a′ : ℕ) → l₁ ≡ set l p k → u₁ ≡ set u p a → l₂ ≡ set l₁ (p + 1) k′
+      → u₂ ≡ set u₁ (p + 1) a′ → j < length ks → Ready ks us (j + 1) (p + 2) l₂ u₂
 
 set-length : {l₁ : List ℕ} (l : List ℕ) (p k : ℕ) → l₁ ≡ set l p k → length l₁ ≡ length l
 set-length l p k e = ap length e ∙ simp length-set
@@ -129,8 +129,8 @@ module _ {ks us : List ℕ} {i p m : ℕ} {l u : List ℕ} (w : Ready ks us i p 
           pub const-second : {l₁ u₁ : List ℕ} → l₁ ≡ set l p 1 → u₁ ≡ set u p (getD us i 0) → (p + 1 < length l₁) × (p + 1 < length u₁)
           const-second x y = const-on .second 1 (getD us i 0) x y
 
-          module _ {c : ℕ} (ec : c ≡ getD ks j 0) {l₁ u₁ l₂ u₂ : List ℕ} (x : l₁ ≡ set l p 1) (y : u₁ ≡ set u p (getD us i 0)) (x′ : l₂ ≡ set l₁ (p + 1) k)
-              (y′ : u₂ ≡ set u₁ (p + 1) a) where
+          module _ {c : ℕ} (ec : c ≡ getD ks j 0) {l₁ u₁ l₂ u₂ : List ℕ} (x : l₁ ≡ set l p 1) (y : u₁ ≡ set u p (getD us i 0))
+              (x′ : l₂ ≡ set l₁ (p + 1) k) (y′ : u₂ ≡ set u₁ (p + 1) a) where
             -- its two drafts
             const-valued : {r : Part} {l₃ u₃ : List ℕ}
                 → ((f : ℕ) (z : Constant) → length ks - i ≤ f → Meets ks us (onMore (many f) z) j (p + 2) l₂ u₂ r l₃ u₃) → Lists ks us i p l u r l₃ u₃

@@ -270,7 +270,8 @@ module _ (n : ℕ) (uses : ℕ → ℕ → Bool) where
       (a (length p) j (omega (arith, length-append p (b ∷ q))) hj (rw (getD-at p b q 0 (length p) refl) u))
 
   -- with such a list nothing is left over
-  placed : (p q : List ℕ) → EachAfter n uses (p ++ q) → ((i : ℕ) → i ∈ p → i ∈ order n uses) → ((i : ℕ) → i ∈ q → i < n) → (i : ℕ) → i ∈ q → i ∈ order n uses
+  placed : (p q : List ℕ) → EachAfter n uses (p ++ q) → ((i : ℕ) → i ∈ p → i ∈ order n uses) → ((i : ℕ) → i ∈ q → i < n)
+      → (i : ℕ) → i ∈ q → i ∈ order n uses
   unfolding count
   placed p [] a h w i hi = absurd (omega arith)
   placed p (b ∷ q) a h w i hi =
@@ -341,7 +342,8 @@ module _ (n : ℕ) (uses : ℕ → ℕ → Bool) where
   order-first q g = least n [] q g
 
   -- and so are its first lines, or other numbers that rise with the statements
-  pub order-first-lines : (line : ℕ → ℕ) → ((a b : ℕ) → b < n → a < b → line a < line b) → (q : List ℕ) → Good n uses q → map line (order n uses) ≼ map line q
+  pub order-first-lines : (line : ℕ → ℕ) → ((a b : ℕ) → b < n → a < b → line a < line b) → (q : List ℕ) → Good n uses q
+      → map line (order n uses) ≼ map line q
   order-first-lines line up q g = ≼-map line (order n uses) q (λ a b h l. up a b (perm-below q (g .perm) b h) l) (order-first q g)
 
   -- that says which it is

@@ -28,7 +28,7 @@ use Rattle.model.specs.Plan.{Outcome, outcome, held, refused, faulted, some, fi
 use Rattle.model.proofs.Meant.{keys-meant, doubles-meant, names-meant, rows-meant, order-meant, loops-meant}
 
 -- without a 24 all equations are placed
-all-placed : (ds : List Def) → faults24 ds ≡ [] → length (orderOf ds) ≡ equationCount ds
+pub all-placed : (ds : List Def) → faults24 ds ≡ [] → length (orderOf ds) ≡ equationCount ds
 all-placed ds e =
     length-order-iff (equationCount ds) (uses ds) .1 (good-none-left (equationCount ds) (uses ds) (orderOf ds) (order-good ds e))
 

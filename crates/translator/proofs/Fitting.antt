@@ -20,7 +20,7 @@ use Rattle.sheet.specs.Layout.{draftsIn, boundsFrom, Laid}
 use Rattle.model.specs.Plan.{falls, inTurn, fit}
 
 -- ---- the bounds: one more than there are statements, from the first draft to the last, none before the one in front of it
-bounds-many : (o : ℕ) (ss : List Numbered) → length (boundsFrom o ss) ≡ length ss + 1
+pub bounds-many : (o : ℕ) (ss : List Numbered) → length (boundsFrom o ss) ≡ length ss + 1
 unfolding boundsFrom
 bounds-many o [] = refl
 bounds-many o (s ∷ ss) = omega (arith, bounds-many (o + length (draftsOf (s .says))) ss)

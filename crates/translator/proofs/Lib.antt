@@ -7,3 +7,6 @@ mod Entries
 pub mod Concluding
 pub mod Deciding
 pub mod Fitting
+mod Writing
+mod Rooms
+mod Verdicts

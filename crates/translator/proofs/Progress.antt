@@ -30,7 +30,7 @@ use Rattle.translator.specs.Working.{kindsOf, argsOf, Progress, Read}
 -- ---- rows written behind what is held
 
 -- what is written from a place on keeps what stands before it, and stands behind that
-take-sets : (l : List ℕ) (d : ℕ) (vs : List ℕ) → d + length vs ≤ length l → take (d + length vs) (sets l d vs) ≡ take d l ++ vs
+pub take-sets : (l : List ℕ) (d : ℕ) (vs : List ℕ) → d + length vs ≤ length l → take (d + length vs) (sets l d vs) ≡ take d l ++ vs
 take-sets l d vs h =
     let e : length (take d l ++ vs) ≡ d + length vs = length-append (take d l) vs ∙ ap (λ (n : ℕ). n + length vs) (length-take-le d l (omega arith)) in
     rw (sets-eq vs l d h) (take-at (take d l ++ vs) (drop (d + length vs) l) (d + length vs) e)
@@ -110,6 +110,7 @@ module _ (text list : List ℕ) (kinds args lines bounds : List ℕ) where
         bounds-held = b;
         listed = refl;
         short = omega arith;
+        within = omega arith;
       }
 
 -- ---- one statement more, found at the cursor c
@@ -127,13 +128,14 @@ module _ {text list₀ kinds args lines bounds list : List ℕ} {c : Cursor} {n 
 
   -- it says x: its drafts stand behind those before it, its number and the end of its drafts are noted
   pub progress-said : (x : Says) → told (cardsAt text s k) d ≡ says x → n .drafts + length (draftsOf x) ≤ nx .at
+      → n .drafts + length (draftsOf x) ≤ length text
       → n .drafts + length (draftsOf x) ≤ length kinds → n .drafts + length (draftsOf x) ≤ length args
       → n .statements < length lines → n .statements + 1 < length bounds
       → Progress text list₀ nx (record { statements = n .statements + 1; drafts = n .drafts + length (draftsOf x); faults = n .faults })
       (sets kinds (n .drafts) (kindsOf (draftsOf x))) (sets args (n .drafts) (argsOf (draftsOf x))) (set lines (n .statements) f)
       (set bounds (n .statements + 1) (n .drafts + length (draftsOf x))) list
   unfolding here concat-map
-  progress-said x e short rk ra rl rb =
+  progress-said x e short within rk ra rl rb =
       let done : Sheet = p .done ++ (here (says x) ∷ []) in
       let one : Numbered = record { line = f; says = x } in
       let more : said done ≡ said (p .done) ++ (one ∷ []) = said-snoc (p .done) (here (says x)) in
@@ -154,6 +156,7 @@ module _ {text list₀ kinds args lines bounds list : List ℕ} {c : Cursor} {n 
             ∙ rw (p .drafts) (sym (ap (boundsFrom 0) more ∙ bounds-snoc 0 (said (p .done)) one ∙ rw zero-add));
         listed = p .listed ∙ ap (λ (fs : List Fault). sets list₀ 0 (faultList fs)) (sym same);
         short = short;
+        within = within;
       }
 
   -- it has a fault: what is held stays, and the fault is listed behind those before it
@@ -185,6 +188,7 @@ module _ {text list₀ kinds args lines bounds list : List ℕ} {c : Cursor} {n 
             ∙ sym (sets-append list₀ 0 (faultList old) (faultEntry new))
             ∙ ap (sets list₀ 0) (sym (ap faultList more ∙ list-snoc old new));
         short = omega (arith, p .short, w .further);
+        within = p .within;
       }
 
 -- ---- the end: nothing more is found
@@ -208,4 +212,5 @@ module _ {text list₀ kinds args lines bounds list : List ℕ} {c : Cursor} {n 
               bounds-held = p .bounds-held ∙ ap (λ (ss : Sheet). boundsFrom 0 (said ss)) q;
             };
         listed = p .listed ∙ ap (λ (ss : Sheet). sets list₀ 0 (faultList (statementFaults ss))) q;
+        within = p .within;
       }

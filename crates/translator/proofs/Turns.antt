@@ -24,7 +24,7 @@ use Rattle.translator.proofs.Spans.{span, first-near}
 use Rattle.translator.proofs.Progress.{progress-first, progress-said, progress-faulty, progress-last}
 
 -- each report is a statement without fault, or a fault
-counts : (done : Sheet) → length (said done) + length (statementFaults done) ≡ length done
+pub counts : (done : Sheet) → length (said done) + length (statementFaults done) ≡ length done
 unfolding concat-map
 counts [] = refl
 counts (r ∷ done) = go (r .what) (counts done)
@@ -130,8 +130,8 @@ module _ {text kinds₀ args₀ lines₀ bounds₀ list₀ kinds args lines boun
             let p = g .progress in
             let a = going-able in
             let more : Progress text list₀ nx _ _ _ _ _ list =
-            progress-said p step x q (omega (arith, p .short, near .0)) (omega (arith, a .before .room-kinds)) (omega (arith, a .before .room-args))
-            (a .lines-room) (a .bounds-room) in
+            progress-said p step x q (omega (arith, p .short, near .0)) (omega (arith, p .short, near .1))
+            (omega (arith, a .before .room-kinds)) (omega (arith, a .before .room-args)) (a .lines-room) (a .bounds-room) in
             (rw (en, ek, ea, el, eb, ef) more, ap length el ∙ simp length-set, ap length eb ∙ simp length-set)
         go (faulty code place) q (en, ek, ea, el, eb, ef) =
             let more : Progress text list₀ nx _ kinds′ args′ lines bounds list′ = progress-faulty (g .progress) step code place q kinds′ args′ list′ ek ea ef in

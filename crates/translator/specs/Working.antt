@@ -1,11 +1,12 @@
 -- What the parts of `translate` meet.
 use Prim.Native.Nat.{ℕ, suc, _+_, _*_, _≤_, _<_}
 use mathlib.Core.Path.{_≡_}
-use mathlib.Core.Bool.{Bool}
+use mathlib.Core.Bool.{Bool, true, false}
 use mathlib.Core.List.{List, [], _∷_, _++_, map}
+use lib.Dec.{ltb}
 use lib.ListN.{length, take, set}
 use lib.Seq.{sets}
-use Rattle.limits.specs.Limits.{mostStatements, faultRoom}
+use Rattle.limits.specs.Limits.{mostStatements, mostDefinitions, textBytes, faultRoom}
 use Rattle.deck.specs.declared.Cursor.{Cursor}
 use Rattle.bits.specs.Low.{lowBytes}
 use Rattle.deck.specs.Lines.{Line}
@@ -18,6 +19,14 @@ use Rattle.grammar.specs.Drafts.{Draft, draftsOf}
 use Rattle.sheet.specs.Sheet.{Told, says, faulty, Sheet, Numbered, said, statementFaults, faultList}
 use Rattle.sheet.specs.Reader.{told, sheetOf}
 use Rattle.sheet.specs.Layout.{draftsIn, boundsFrom, Laid}
+use Rattle.model.specs.Definitions.{definitions}
+use Rattle.model.specs.Faults.{modelFaults, orderOf}
+use Rattle.model.specs.Places.{keysIn, placesIn, resolved, equationRows}
+use Rattle.model.specs.Plan.{held, fit}
+use Rattle.model.specs.declared.answer.Plan.{Plan}
+use Rattle.translator.specs.declared.Verdict.{Verdict}
+use Rattle.translator.specs.Contract.{outcome}
+use Rattle.translator.specs.Verdict.{modelled, judged, outcomeOf}
 use Rattle.translator.specs.declared.Told.{Told as Answer}
 use Rattle.translator.specs.declared.Told.the-variants.{Says, Faulty}
 use Rattle.translator.specs.declared.Tally.{Tally}
@@ -76,7 +85,8 @@ pub record Able (text : List ℕ) (first start cards : ℕ) (closed long : Bool)
   pub faults-fit : n .faults < 65536
 
 -- what it gives: where the statement says x, its drafts, its number and their end are noted; where it has a fault, that is listed
-abbrev pub AddsOf : Told → ℕ → Tally → List ℕ → List ℕ → List ℕ → List ℕ → List ℕ → Tally → List ℕ → List ℕ → List ℕ → List ℕ → List ℕ → Type 0
+abbrev pub AddsOf : Told → ℕ → Tally → List ℕ → List ℕ → List ℕ → List ℕ → List ℕ
+    → Tally → List ℕ → List ℕ → List ℕ → List ℕ → List ℕ → Type 0
 AddsOf (says x) first n l u ls bs fs r l′ u′ ls′ bs′ fs′ =
     (r ≡ record { statements = n .statements + 1; drafts = n .drafts + length (draftsOf x); faults = n .faults })
     × (l′ ≡ sets l (n .drafts) (kindsOf (draftsOf x)))
@@ -114,6 +124,7 @@ pub record Progress (text list₀ : List ℕ) (c : Cursor) (n : Tally) (kinds ar
   pub bounds-held : take (suc (n .statements)) bounds ≡ boundsFrom 0 (said done)
   pub listed : list ≡ sets list₀ 0 (faultList (statementFaults done))
   pub short : n .drafts ≤ c .at
+  pub within : n .drafts ≤ length text
 
 -- the room that all of it needs
 pub record Room (text kinds args lines bounds list : List ℕ) : Type 0 where
@@ -133,3 +144,46 @@ pub record Read (text list₀ : List ℕ) (n : Tally) (kinds args lines bounds l
   pub faults : n .faults ≡ length (statementFaults (sheetOf text))
   pub laid : Laid (said (sheetOf text)) (take (n .drafts) kinds) (take (n .drafts) args) (take (n .statements) lines) (take (suc (n .statements)) bounds)
   pub listed : list ≡ sets list₀ 0 (faultList (statementFaults (sheetOf text)))
+  pub within : n .drafts ≤ length text
+
+-- ---- from the sheet to the verdict
+
+-- the arrays hold some statements, and fit
+pub record Ready (lines bounds kinds args used faults : List ℕ) : Type 0 where
+  pub statements : List Numbered
+  pub laid : Laid statements kinds args lines bounds
+  pub fits : fit lines bounds kinds (length args) (length used) (length faults) ≡ true
+
+-- the arrays held some statements whose model is sound; the names of their arguments are resolved, and the plan is theirs
+pub record Planned (p : Plan) (lines bounds kinds args : List ℕ) : Type 0 where
+  pub statements : List Numbered
+  pub named : List ℕ
+  pub laid : Laid statements kinds named lines bounds
+  pub few : ltb mostDefinitions (length (definitions statements)) ≡ false
+  pub clean : modelFaults statements ≡ []
+  pub args-resolved : args ≡ resolved (keysIn kinds named) kinds named
+  pub definitions-counted : p .definitions ≡ length (placesIn kinds)
+  pub equations-counted : p .equations ≡ length (equationRows (length lines) bounds kinds)
+  pub places-held : p .places ≡ held (placesIn kinds)
+  pub rows-held : p .rows ≡ held (equationRows (length lines) bounds kinds)
+  pub order-held : p .order ≡ held (orderOf (definitions statements))
+
+-- the answer r and the buffers f′ and p′ are what the verdict on the model of the statements gives for the buffers f and p
+abbrev pub Concludes : List Numbered → List ℕ → List ℕ → Verdict → List ℕ → List ℕ → Type 0
+Concludes ss f p r f′ p′ = outcome r f′ p′ ≡ outcomeOf (modelled (length p) ss) f p
+
+-- ---- the working room
+
+-- what judging asks: at most 256 statements, and room for each draft of the text
+pub record Roomy (text list kinds args used : List ℕ) : Type 0 where
+  pub few : length (sheetOf text) ≤ mostStatements
+  pub brief : length text ≤ textBytes
+  pub kinds-room : length text < length kinds
+  pub args-room : length text < length args
+  pub used-room : length text < length used
+  pub small : length kinds < 65536
+  pub list-room : faultRoom ≤ length list
+
+-- the answer r and the buffers f′ and p′ are what the sheet's verdict gives for the buffers f and p
+abbrev pub Judges : List ℕ → List ℕ → List ℕ → Verdict → List ℕ → List ℕ → Type 0
+Judges text f p r f′ p′ = outcome r f′ p′ ≡ outcomeOf (judged (length p) (sheetOf text)) f p

@@ -12,9 +12,19 @@ ghost use Rattle.deck.specs.Codes.{joinedRoom};
 ghost use Rattle.deck.specs.Next.{cardsAt};
 ghost use Rattle.sheet.specs.Reader.{parsed, tokened, told};
 ghost use Rattle.translator.specs.Working.{Tells, RowRoom, Size, Before, entryOf, Able, Adds, Room, Read};
+ghost use Rattle.translator.specs.Contract.{Translates};
+
+mod finish;
+mod room;
+
 use deck::Cursor;
 use deck::Found;
 use grammar::Parsed;
+use limits::FAULT_ROOM;
+use limits::STATEMENTS;
+use limits::TEXT_BYTES;
+use limits::TEXT_LINES;
+use room::SMALL;
 use tokens::RowEnd;
 
 // The verdict: refused with its number; faulty with its number and the count of faults; translated into so many records.
@@ -200,4 +210,29 @@ fn read_all(
         );
         c = next;
     }
+}
+
+// ---- the entry
+
+// The verdict on a text: its number, the count, and the fault list or the program written to the front of what is lent.
+pub fn translate(text: &[u8], faults: &mut [u8], program: &mut [u8]) -> Verdict
+    ensures { λ r. ⌜ Translates (now (text .entry)) (now (faults .entry)) (now (program .entry)) r (now (faults .exit)) (now (program .exit)) ⌝ }
+{
+    if faults.len() < FAULT_ROOM {
+        return Verdict::Refused(1);
+    }
+    if TEXT_BYTES < text.len() {
+        return Verdict::Refused(2);
+    }
+    let sizes = deck::survey(text);
+    if TEXT_LINES < sizes.lines {
+        return Verdict::Refused(3);
+    }
+    if STATEMENTS < sizes.statements {
+        return Verdict::Refused(4);
+    }
+    if text.len() < SMALL {
+        return room::in_small_room(text, faults, program);
+    }
+    room::in_large_room(text, faults, program)
 }

@@ -1,0 +1,106 @@
+-- From the reading to the verdict: a statement fault stands, or the model decides; in arrays that have room.
+use Prim.Native.Nat.{ℕ, zero, suc, _+_, _*_, _≤_, _<_}
+use mathlib.Core.Path.{_≡_, refl, sym, ap, _∙_}
+use mathlib.Core.Bool.{Bool, true, false, cond}
+use mathlib.Core.List.{List, [], _∷_, _++_, map}
+use native.Mathlib.Omega.{arith}
+use native.Mathlib.Numerals.{add-one}
+use borrow.Author.Tests.{le-ltb}
+use lib.Dec.{ltb}
+use lib.ListN.{length, take, length-map}
+use lib.Seq.{sets, length-sets, length-take-le}
+use Rattle.limits.specs.Limits.{mostStatements, textBytes, faultRoom, faultBytes}
+use Rattle.laws.specs.Lists.{concat-map}
+use Rattle.grammar.specs.Drafts.{Draft}
+use Rattle.sheet.specs.Sheet.{Sheet, Numbered, Fault, said, statementFaults, faultList}
+use Rattle.sheet.specs.Reader.{sheetOf}
+use Rattle.sheet.specs.Layout.{draftsIn, Laid}
+use Rattle.translator.specs.declared.Tally.{Tally}
+use Rattle.translator.specs.declared.Verdict.{Verdict}
+use Rattle.translator.specs.declared.Verdict.the-variants.{Refused, Faulty, Translated}
+use Rattle.translator.specs.Contract.{outcome}
+use Rattle.translator.specs.Verdict.{Outcome, ifFaults, modelled, judged, outcomeOf}
+use Rattle.translator.specs.Working.{kindsOf, argsOf, Read, Ready, Concludes, Roomy, Judges}
+use Rattle.translator.proofs.Fitting.{bounds-many, laid-fits}
+use Rattle.translator.proofs.Turns.{counts}
+
+-- a front is no longer than the list
+take-most : (n : ℕ) (l : List ℕ) → length (take n l) ≤ length l
+take-most zero l = omega arith
+take-most (suc n) [] = omega arith
+take-most (suc n) (x ∷ l) = omega (arith, take-most n l)
+
+module _ {text list₀ kinds₀ args₀ used : List ℕ} (room : Roomy text list₀ kinds₀ args₀ used) {n : Tally} {kinds args lines bounds list : List ℕ}
+    (r : Read text list₀ n kinds args lines bounds list) where
+  few : ltb mostStatements (length (sheetOf text)) ≡ false
+  few = le-ltb mostStatements (length (sheetOf text)) (room .few)
+
+  -- 5: some fault stands, and the list is written
+  pub says-five : (p : List ℕ) → 0 < n .faults → Judges text list₀ p (Faulty 5 (n .faults)) list p
+  unfolding judged
+  says-five p h = rw (few, r .faults, r .listed) (go (statementFaults (sheetOf text)) (rw (← r .faults) h))
+    where
+      go : (fs : List Fault) → 0 < length fs
+          → outcome (Faulty 5 (length fs)) (sets list₀ 0 (faultList fs)) p ≡ outcomeOf (ifFaults 5 fs (modelled (length p) (said (sheetOf text)))) list₀ p
+      go [] h = absurd (omega arith)
+      go (f ∷ fs) h = refl
+
+  module _ (none : n .faults ≤ 0) where
+    clean : statementFaults (sheetOf text) ≡ []
+    clean = go (statementFaults (sheetOf text)) (omega (arith, r .faults))
+      where
+        go : (fs : List Fault) → length fs ≤ 0 → fs ≡ []
+        go [] h = refl
+        go (f ∷ fs) h = absurd (omega arith)
+
+    -- the list is as it was lent
+    listed-none : list ≡ list₀
+    unfolding faultList concat-map
+    listed-none = r .listed ∙ ap (λ (fs : List Fault). sets list₀ 0 (faultList fs)) clean
+
+    -- the model decides
+    pub says-model : (v : Verdict) (p : List ℕ) {f′ p′ : List ℕ} → Concludes (said (sheetOf text)) list p v f′ p′ → Judges text list₀ p v f′ p′
+    unfolding judged
+    says-model v p w = rw (few, clean, ← listed-none) w
+
+  -- no more statements than there may be
+  pub statements-few : n .statements ≤ mostStatements
+  statements-few = omega (arith, r .statements, counts (sheetOf text), room .few)
+
+  -- the drafts stand in both arrays
+  abbrev drafts : List Draft
+  drafts = draftsIn (said (sheetOf text))
+
+  pub kinds-many : length (take (n .drafts) kinds) ≡ n .drafts
+  kinds-many = ap length (r .laid .kinds-held) ∙ length-map drafts (λ (d : Draft). d .kind) ∙ sym (r .drafts)
+
+  pub args-many : length (take (n .drafts) args) ≡ n .drafts
+  args-many = ap length (r .laid .args-held) ∙ length-map drafts (λ (d : Draft). d .arg) ∙ sym (r .drafts)
+
+  pub kinds-enough : n .drafts ≤ length kinds
+  kinds-enough = omega (arith, kinds-many, take-most (n .drafts) kinds)
+
+  pub args-enough : n .drafts ≤ length args
+  args-enough = omega (arith, args-many, take-most (n .drafts) args)
+
+  pub bounds-laid : Laid (said (sheetOf text)) (take (n .drafts) kinds) (take (n .drafts) args) (take (n .statements) lines) (take (n .statements + 1) bounds)
+  bounds-laid = rw add-one (r .laid)
+
+  pub lines-many : length (take (n .statements) lines) ≡ n .statements
+  lines-many = ap length (r .laid .lines-held) ∙ length-map (said (sheetOf text)) (λ (s : Numbered). s .line) ∙ sym (r .statements)
+
+  pub bounds-count : length (take (n .statements + 1) bounds) ≡ n .statements + 1
+  bounds-count = omega (arith, ap length (bounds-laid .bounds-held), bounds-many 0 (said (sheetOf text)), r .statements)
+
+  -- and all fits
+  pub ready-so : Ready (take (n .statements) lines) (take (n .statements + 1) bounds) (take (n .drafts) kinds) (take (n .drafts) args) used list
+  ready-so =
+      let long : length list ≡ length list₀ = ap length (r .listed) ∙ length-sets list₀ 0 (faultList (statementFaults (sheetOf text))) in
+      record {
+        statements = said (sheetOf text);
+        laid = bounds-laid;
+        fits =
+            laid-fits (said (sheetOf text)) _ _ _ _ bounds-laid _ _ _ (omega (arith, statements-few, r .statements))
+            (omega (arith, kinds-many, r .within, room .brief)) (omega (arith, kinds-many, args-many))
+            (omega (arith, kinds-many, r .within, room .used-room)) (omega (arith, statements-few, r .statements, long, room .list-room));
+      }

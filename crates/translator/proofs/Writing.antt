@@ -1,0 +1,171 @@
+-- From a plan to the program: what the plan's arrays hold, and the answer of each path.
+use Prim.Native.Nat.{ℕ, suc, _+_, _/_, _<_, _≤_}
+use mathlib.Core.Path.{_≡_, refl, sym, ap, _∙_}
+use mathlib.Core.Bool.{Bool, true, false}
+use mathlib.Core.List.{List, [], _∷_, _++_}
+use native.Mathlib.Omega.{arith}
+use native.Mathlib.Nat.{zero-add}
+use borrow.Author.Tests.{ltb-false}
+use lib.Dec.{ltb}
+use lib.ListN.{length, take, replicate, length-append, length-replicate}
+use lib.Seq.{sets, length-sets, length-take-le}
+use Rattle.limits.specs.Limits.{mostDefinitions, mostStatements, mostRecords, recordBytes}
+use Rattle.laws.specs.Lists.{concat-map}
+use Rattle.sheet.specs.Sheet.{Numbered}
+use Rattle.sheet.specs.Layout.{Laid}
+use Rattle.model.specs.Definitions.{What, constant, assigned, integral, Def, definitions, equationOf, equations, equationCount}
+use Rattle.model.specs.Faults.{modelFaults, orderOf}
+use Rattle.model.specs.Places.{keysIn, placesIn, resolved, equationRows}
+use Rattle.model.specs.Plan.{Outcome, outcome, held, Plans, fit, planned}
+use Rattle.model.specs.declared.answer.Plan.{Plan}
+use Rattle.model.proofs.Clean.{no-faults}
+use Rattle.model.proofs.Meant.{places-meant, rows-meant}
+use Rattle.program.specs.Written.{recordCount, writtenProgram}
+use Rattle.translator.specs.declared.Verdict.{Verdict}
+use Rattle.translator.specs.declared.Verdict.the-variants.{Refused, Faulty, Translated}
+use Rattle.translator.specs.Working.{Ready, Planned, Concludes}
+use Rattle.translator.proofs.Progress.{take-sets}
+use Rattle.translator.proofs.Concluding.{Conclusion, concluded, whole, all-placed}
+use Rattle.translator.proofs.Deciding.{written, decides-six, decides-seven, decides-sound, decides-eight, decides-eight′, decides-zero, program-room}
+
+-- a row that an array holds stands at its front
+pub take-held : (l : List ℕ) (n : ℕ) → n ≡ length l → length l ≤ mostStatements → take n (held l) ≡ l
+take-held l n e h =
+    let r : List ℕ = replicate mostStatements 0 in
+    let m : length r ≡ mostStatements = length-replicate {A = ℕ} mostStatements 0 in
+    ap (λ (k : ℕ). take k (sets r 0 l)) (e ∙ sym (zero-add (length l))) ∙ take-sets r 0 l (omega (arith, m, h))
+
+length-held : (l : List ℕ) → length (held l) ≡ mostStatements
+length-held l = length-sets (replicate mostStatements 0) 0 l ∙ length-replicate {A = ℕ} mostStatements 0
+
+-- a front has its length
+pub front : (n : ℕ) (l : List ℕ) → n ≤ length l → n ≡ length (take n l)
+front n l h = sym (length-take-le n l h)
+
+-- no more equations than definitions
+equations-few : (ds : List Def) → equationCount ds ≤ length ds
+unfolding concat-map
+equations-few [] = omega arith
+equations-few (d ∷ ds) = go (d .what) (equations-few ds)
+  where
+    go : (w : What) → equationCount ds ≤ length ds → length (equationOf (d .line) (d .key) w ++ equations ds) ≤ suc (length ds)
+    go (constant x) h = omega arith
+    go (assigned e) h = omega arith
+    go (integral i e) h = omega arith
+
+-- ---- the plan of a sound model
+module _ {p : Plan} {lines bounds kinds args : List ℕ} (s : Planned p lines bounds kinds args) where
+  abbrev ds : List Def
+  ds = definitions (s .statements)
+
+  few : length ds ≤ mostDefinitions
+  few = omega (arith, ltb-false mostDefinitions (length ds) (s .few))
+
+  places-many : length (placesIn kinds) ≡ length ds
+  places-many = places-meant (s .statements) kinds (s .named) lines bounds (s .laid)
+
+  rows-many : length (equationRows (length lines) bounds kinds) ≡ equationCount ds
+  rows-many = rows-meant (s .statements) kinds (s .named) lines bounds (s .laid)
+
+  order-many : length (orderOf ds) ≡ equationCount ds
+  order-many = all-placed ds (no-faults (s .statements) (s .clean) .2)
+
+  places-short : length (placesIn kinds) ≤ mostStatements
+  places-short = omega (arith, places-many, few)
+
+  rows-short : length (equationRows (length lines) bounds kinds) ≤ mostStatements
+  rows-short = omega (arith, rows-many, few, equations-few ds)
+
+  order-short : length (orderOf ds) ≤ mostStatements
+  order-short = omega (arith, order-many, few, equations-few ds)
+
+  -- the three rows, cut from their arrays
+  pub places-room : p .definitions ≤ length (p .places)
+  places-room = rw (s .places-held, length-held (placesIn kinds)) (omega (arith, s .definitions-counted, places-short))
+
+  pub rows-room : p .equations ≤ length (p .rows)
+  rows-room = rw (s .rows-held, length-held (equationRows (length lines) bounds kinds)) (omega (arith, s .equations-counted, rows-short))
+
+  pub order-room : p .equations ≤ length (p .order)
+  order-room = rw (s .order-held, length-held (orderOf ds)) (omega (arith, s .equations-counted, rows-short))
+
+  pub places-cut : take (p .definitions) (p .places) ≡ placesIn kinds
+  places-cut = rw (s .places-held) (take-held (placesIn kinds) (p .definitions) (s .definitions-counted) places-short)
+
+  pub rows-cut : take (p .equations) (p .rows) ≡ equationRows (length lines) bounds kinds
+  rows-cut =
+      rw (s .rows-held)
+      (take-held (equationRows (length lines) bounds kinds) (p .equations) (s .equations-counted) rows-short)
+
+  pub order-cut : take (p .equations) (p .order) ≡ orderOf ds
+  order-cut =
+      rw (s .order-held)
+      (take-held (orderOf ds) (p .equations) (s .equations-counted ∙ rows-many ∙ sym order-many) order-short)
+
+  -- what is written is the program's bytes
+  pub written-cut : {r₁ r₂ r₃ : List ℕ} → r₁ ≡ take (p .definitions) (p .places) → r₂ ≡ take (p .equations) (p .rows)
+      → r₃ ≡ take (p .equations) (p .order) → writtenProgram r₁ r₂ lines bounds kinds args r₃ ≡ written (s .statements) kinds (s .named) lines bounds (s .laid) [] [] []
+  written-cut e₁ e₂ e₃ = rw (e₁, e₂, e₃, places-cut, rows-cut, order-cut, s .args-resolved)
+
+  -- ---- the answers, from the count n of records
+  module _ {n : ℕ} (counted : n ≡ recordCount kinds) (out : List ℕ) where
+    pub says-eight : mostRecords < n → (f : List ℕ) → Concludes (s .statements) f out (Refused 8) f out
+    says-eight h f = decides-eight (s .statements) kinds (s .named) lines bounds (s .laid) [] f out (s .few) (s .clean) (rw (← counted) h)
+
+    pub says-eight′ : n ≤ mostRecords → length out / recordBytes < n → (f : List ℕ) → Concludes (s .statements) f out (Refused 8) f out
+    says-eight′ h k f =
+        decides-eight′ (s .statements) kinds (s .named) lines bounds (s .laid) [] f out (s .few) (s .clean) (rw (← counted) k) (rw (← counted) h)
+
+    module _ {r₁ r₂ r₃ : List ℕ} (e₁ : r₁ ≡ take (p .definitions) (p .places)) (e₂ : r₂ ≡ take (p .equations) (p .rows))
+        (e₃ : r₃ ≡ take (p .equations) (p .order)) (k : n ≤ length out / recordBytes) where
+      pub program-fits : length (writtenProgram r₁ r₂ lines bounds kinds args r₃) ≤ length out
+      program-fits =
+          rw (written-cut e₁ e₂ e₃)
+          (program-room (s .statements) kinds (s .named) lines bounds (s .laid) [] [] out (s .few) (s .clean) (rw (← counted) k))
+
+      pub says-zero : {out′ : List ℕ} → n ≤ mostRecords → out′ ≡ sets out 0 (writtenProgram r₁ r₂ lines bounds kinds args r₃) → (f : List ℕ)
+          → Concludes (s .statements) f out (Translated n) f out′
+      says-zero h e f =
+          rw (e, written-cut e₁ e₂ e₃, counted)
+          (decides-zero (s .statements) kinds (s .named) lines bounds (s .laid) [] f out (s .few) (s .clean) (rw (← counted) h) (rw (← counted) k))
+
+-- ---- what is planned of statements that are laid out
+module _ {lines bounds kinds args used faults : List ℕ} (ready : Ready lines bounds kinds args used faults)
+    {p : Plan} {args′ used′ faults′ : List ℕ} (plans : Plans lines bounds kinds args used faults p args′ used′ faults′)
+    (ss : List Numbered) (laid : Laid ss kinds args lines bounds) (out : List ℕ) where
+  conclusion : Conclusion ss kinds args lines bounds laid used faults (outcome p args′ used′ faults′)
+  conclusion = rw plans (concluded ss kinds args lines bounds laid used faults (ready .fits))
+
+  pub says-six : p .number ≡ 6 → Concludes ss faults out (Refused 6) faults′ out
+  says-six e = decides-six ss kinds args lines bounds laid used faults out (outcome p args′ used′ faults′) conclusion e
+
+  pub says-seven : p .number ≡ 7 → Concludes ss faults out (Faulty 7 (p .count)) faults′ out
+  says-seven e = decides-seven ss kinds args lines bounds laid used faults out (outcome p args′ used′ faults′) conclusion e
+
+  -- neither number: the model is sound, the fault list untouched
+  module _ (not-six : p .number ≡ 6 → ⊥) (not-seven : p .number ≡ 7 → ⊥) where
+    sound : (ltb mostDefinitions (length (definitions ss)) ≡ false) × (modelFaults ss ≡ [])
+        × (outcome p args′ used′ faults′ ≡ whole ss kinds args lines bounds laid used faults)
+    sound = decides-sound ss kinds args lines bounds laid used faults out (outcome p args′ used′ faults′) conclusion not-six not-seven
+
+    pub planned-so : Planned p lines bounds kinds args′
+    planned-so =
+        let e = sound .2 in
+        record {
+          statements = ss;
+          named = args;
+          laid = laid;
+          few = sound .0;
+          clean = sound .1;
+          args-resolved = ap (λ (o : Outcome). o .args) e;
+          definitions-counted = ap (λ (o : Outcome). o .plan .definitions) e;
+          equations-counted = ap (λ (o : Outcome). o .plan .equations) e;
+          places-held = ap (λ (o : Outcome). o .plan .places) e;
+          rows-held = ap (λ (o : Outcome). o .plan .rows) e;
+          order-held = ap (λ (o : Outcome). o .plan .order) e;
+        }
+
+    pub says-rest : (r : Verdict) {out′ : List ℕ}
+        → ((s : Planned p lines bounds kinds args′) (f : List ℕ) → Concludes (s .statements) f out r f out′) → Concludes ss faults out r faults′ out′
+    unfolding planned-so
+    says-rest r w = rw (ap (λ (o : Outcome). o .faults) (sound .2)) (w planned-so faults)

@@ -1,0 +1,72 @@
+// From the arrays of a sheet without statement fault to the verdict: the model's plan, then the program.
+ghost use mathlib.Core.List.{List};
+ghost use Prim.Native.Nat.{ℕ};
+ghost use Rattle.sheet.specs.Sheet.{Numbered};
+ghost use Rattle.sheet.specs.Layout.{Laid};
+ghost use Rattle.translator.specs.Working.{Planned, Ready, Concludes};
+use super::Verdict;
+use limits::RECORD_BYTES;
+use limits::RECORDS;
+use model::answer::Plan;
+
+// Writes the program of a sound model, if its records are few enough and there is room for them.
+fn write_program(
+    plan: Plan,
+    lines: &[u16],
+    bounds: &[u16],
+    kinds: &[u8],
+    args: &[u64],
+    out: &mut [u8],
+) -> Verdict
+    requires { ⌜ Planned plan (now lines) (now bounds) (now kinds) (now args) ⌝ }
+    ensures { λ r. ⌜ ((s : Planned plan (now (lines .entry)) (now (bounds .entry)) (now (kinds .entry)) (now (args .entry))) (f : List ℕ)
+        → Concludes (s .statements) f (now (out .entry)) r f (now (out .exit))) ⌝ }
+{
+    let n = program::count_records(kinds);
+    if RECORDS < n {
+        return Verdict::Refused(8);
+    }
+    if out.len() / RECORD_BYTES < n {
+        return Verdict::Refused(8);
+    }
+    let d = plan.definitions;
+    let e = plan.equations;
+    let places = plan.places;
+    let rows = plan.rows;
+    let order = plan.order;
+    program::put_program(
+        &places[..d],
+        &rows[..e],
+        lines,
+        bounds,
+        kinds,
+        args,
+        &order[..e],
+        out,
+    );
+    Verdict::Translated(n)
+}
+
+// The verdict on the model: 6, 7 with the faults listed, 8, or 0 with the program written.
+pub(crate) fn conclude(
+    lines: &[u16],
+    bounds: &[u16],
+    kinds: &[u8],
+    args: &mut [u64],
+    used: &mut [u16],
+    faults: &mut [u8],
+    out: &mut [u8],
+) -> Verdict
+    requires { ⌜ Ready (now lines) (now bounds) (now kinds) (now args) (now used) (now faults) ⌝ }
+    ensures { λ r. ⌜ ((ss : List Numbered) → Laid ss (now (kinds .entry)) (now (args .entry)) (now (lines .entry)) (now (bounds .entry))
+        → Concludes ss (now (faults .entry)) (now (out .entry)) r (now (faults .exit)) (now (out .exit))) ⌝ }
+{
+    let plan = model::plan(lines, bounds, kinds, &mut *args, used, faults);
+    if plan.number == 6 {
+        return Verdict::Refused(6);
+    }
+    if plan.number == 7 {
+        return Verdict::Faulty(7, plan.count);
+    }
+    write_program(plan, lines, bounds, kinds, args, out)
+}
