@@ -7,6 +7,7 @@ mod Entries
 pub mod Concluding
 pub mod Deciding
 pub mod Fitting
+pub mod Counted
 mod Writing
 mod Rooms
 mod Verdicts

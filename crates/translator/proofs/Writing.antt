@@ -10,10 +10,9 @@ use lib.Dec.{ltb}
 use lib.ListN.{length, take, replicate, length-append, length-replicate}
 use lib.Seq.{sets, length-sets, length-take-le}
 use Rattle.limits.specs.Limits.{mostDefinitions, mostStatements, mostRecords, recordBytes}
-use Rattle.laws.specs.Lists.{concat-map}
 use Rattle.sheet.specs.Sheet.{Numbered}
 use Rattle.sheet.specs.Layout.{Laid}
-use Rattle.model.specs.Definitions.{What, constant, assigned, integral, Def, definitions, equationOf, equations, equationCount}
+use Rattle.model.specs.Definitions.{Def, definitions, equationCount}
 use Rattle.model.specs.Faults.{modelFaults, orderOf}
 use Rattle.model.specs.Places.{keysIn, placesIn, resolved, equationRows}
 use Rattle.model.specs.Plan.{Outcome, outcome, held, Plans, fit, planned}
@@ -24,6 +23,7 @@ use Rattle.program.specs.Written.{recordCount, writtenProgram}
 use Rattle.translator.specs.declared.Verdict.{Verdict}
 use Rattle.translator.specs.declared.Verdict.the-variants.{Refused, Faulty, Translated}
 use Rattle.translator.specs.Working.{Ready, Planned, Concludes}
+use Rattle.translator.proofs.Counted.{equations-few}
 use Rattle.translator.proofs.Progress.{take-sets}
 use Rattle.translator.proofs.Concluding.{Conclusion, concluded, whole, all-placed}
 use Rattle.translator.proofs.Deciding.{written, decides-six, decides-seven, decides-sound, decides-eight, decides-eight′, decides-zero, program-room}
@@ -41,17 +41,6 @@ length-held l = length-sets (replicate mostStatements 0) 0 l ∙ length-replicat
 -- a front has its length
 pub front : (n : ℕ) (l : List ℕ) → n ≤ length l → n ≡ length (take n l)
 front n l h = sym (length-take-le n l h)
-
--- no more equations than definitions
-equations-few : (ds : List Def) → equationCount ds ≤ length ds
-unfolding concat-map
-equations-few [] = omega arith
-equations-few (d ∷ ds) = go (d .what) (equations-few ds)
-  where
-    go : (w : What) → equationCount ds ≤ length ds → length (equationOf (d .line) (d .key) w ++ equations ds) ≤ suc (length ds)
-    go (constant x) h = omega arith
-    go (assigned e) h = omega arith
-    go (integral i e) h = omega arith
 
 -- ---- the plan of a sound model
 module _ {p : Plan} {lines bounds kinds args : List ℕ} (s : Planned p lines bounds kinds args) where
@@ -104,7 +93,8 @@ module _ {p : Plan} {lines bounds kinds args : List ℕ} (s : Planned p lines bo
 
   -- what is written is the program's bytes
   pub written-cut : {r₁ r₂ r₃ : List ℕ} → r₁ ≡ take (p .definitions) (p .places) → r₂ ≡ take (p .equations) (p .rows)
-      → r₃ ≡ take (p .equations) (p .order) → writtenProgram r₁ r₂ lines bounds kinds args r₃ ≡ written (s .statements) kinds (s .named) lines bounds (s .laid) [] [] []
+      → r₃ ≡ take (p .equations) (p .order)
+      → writtenProgram r₁ r₂ lines bounds kinds args r₃ ≡ written (s .statements) kinds (s .named) lines bounds (s .laid) [] [] []
   written-cut e₁ e₂ e₃ = rw (e₁, e₂, e₃, places-cut, rows-cut, order-cut, s .args-resolved)
 
   -- ---- the answers, from the count n of records

@@ -1,0 +1,27 @@
+-- The translator's verdict, in its fixed layout.
+use borrow.Author.Needs.{needs}
+use Rattle.floesedge.proofs.Answers.{count-small, same-translation}
+use Rattle.floesedge.proofs.floesedge_translate.Statement.{statement}
+use Rattle.floesedge.proofs.floesedge_translate.Tie as tie
+
+translate-requires : tie.Need-translate-requires
+translate-requires c κs = search needs
+
+given-requires : tie.Need-given-requires
+given-requires c κs =
+    let k = c .before .before .before .before in
+    count-small _ _ _ _ _ (k .translate .result) (k .translate .ensures)
+
+same-length : tie.Need-same-length
+same-length c = search needs
+
+same-length-2 : tie.Need-same-length-2
+same-length-2 c = search needs
+
+returns : tie.Need-returns
+returns c =
+    let k = c .before .before .before .before .before in
+    same-translation _ _ _ _ _ (k .translate .result) (c .given .result) (k .translate .ensures) (c .given .ensures .0) (c .given .ensures .1)
+
+pub floesedge-translate-spec : {M : Type 1} → statement M
+floesedge-translate-spec = tie.close (tie.spec translate-requires given-requires same-length same-length-2 returns)
