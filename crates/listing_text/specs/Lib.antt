@@ -1,1 +1,3 @@
 pub mod Listing
+pub mod Written
+pub mod Contract

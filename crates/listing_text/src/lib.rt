@@ -1,1 +1,191 @@
-// The listing of a text, as bytes: definitions.
+// The listing of a text, as bytes.
+ghost use mathlib.Core.Path.{_≡_};
+ghost use mathlib.Core.List.{[], _∷_};
+ghost use Prim.Native.Nat.{_<_, _≤_, min};
+ghost use Rattle.limits.specs.Limits.{mostRecords};
+ghost use Rattle.laws.specs.Places.{gather};
+ghost use Rattle.laws.specs.Put.{Put};
+ghost use Rattle.records.specs.Record.{field};
+ghost use Rattle.translator.specs.Contract.{numberIn, countIn};
+ghost use Rattle.listing_text.specs.Listing.{figures, line, line2};
+ghost use Rattle.listing_text.specs.Contract.{Lists};
+ghost use Rattle.listing_text.specs.Written.{faultAt, endedAt, head, written, Room};
+use limits::FAULT_BYTES;
+use limits::FAULT_ROOM;
+use limits::PROGRAM_ROOM;
+use limits::RECORD_BYTES;
+use translator::Verdict;
+
+// ---- numbers and lines. Each writer answers the place behind what it wrote; past the end of the lent bytes nothing is written.
+
+// Writes a byte, if there is a place for it.
+fn put_byte(b: u8, out: &mut [u8], at: usize) -> usize
+    requires { ⌜ Room (b ∷ []) at ⌝ }
+    ensures { λ r. ⌜ Put (b ∷ []) at r (now (out .entry)) (now (out .exit)) ⌝ }
+{
+    if out.len() <= at {
+        return at + 1;
+    }
+    out[at] = b;
+    at + 1
+}
+
+// Writes a number in decimal digits.
+fn put_figures(n: u64, out: &mut [u8], at: usize) -> usize
+    requires { ⌜ Room (figures n) at ⌝ }
+    ensures { λ r. ⌜ Put (figures n) at r (now (out .entry)) (now (out .exit)) ⌝ }
+{
+    if n < 10 {
+        return put_byte(48 + n as u8, out, at);
+    }
+    let last = put_figures(n / 10, &mut *out, at);
+    put_byte(48 + (n % 10) as u8, out, last)
+}
+
+// Writes a line of one number.
+fn put_line(n: u64, out: &mut [u8], at: usize) -> usize
+    requires { ⌜ Room (line n) at ⌝ }
+    ensures { λ r. ⌜ Put (line n) at r (now (out .entry)) (now (out .exit)) ⌝ }
+{
+    let end = put_figures(n, &mut *out, at);
+    put_byte(10, out, end)
+}
+
+// Writes a line of two numbers.
+fn put_pair(m: u64, n: u64, out: &mut [u8], at: usize) -> usize
+    requires { ⌜ Room (line2 m n) at ⌝ }
+    ensures { λ r. ⌜ Put (line2 m n) at r (now (out .entry)) (now (out .exit)) ⌝ }
+{
+    let gap = put_figures(m, &mut *out, at);
+    let second = put_byte(32, &mut *out, gap);
+    put_line(n, out, second)
+}
+
+// Writes the first line: two letters, a space and a number.
+fn put_head(a: u8, b: u8, n: u64, out: &mut [u8]) -> usize
+    requires { ⌜ Room (head a b n) 0 ⌝ }
+    ensures { λ r. ⌜ Put (head a b n) 0 r (now (out .entry)) (now (out .exit)) ⌝ }
+{
+    let second = put_byte(a, &mut *out, 0);
+    let gap = put_byte(b, &mut *out, second);
+    let number = put_byte(32, &mut *out, gap);
+    put_line(n, out, number)
+}
+
+// ---- faults and ordered statements
+
+// The number of n bytes from a place on, low first, at most eight; those past the end are 0.
+fn low_at(s: &[u8], at: usize, n: usize) -> u64
+    ensures { λ r. ⌜ r ≡ field (now (s .entry)) at (min n 8) ⌝ }
+{
+    if s.len() < at {
+        return 0;
+    }
+    bits::get_low(&s[at..], n)
+}
+
+// Writes line and code of a fault.
+fn put_fault(list: &[u8], i: usize, out: &mut [u8], at: usize) -> usize
+    requires { ⌜ (i < mostRecords) × Room (faultAt (now list) i) at ⌝ }
+    ensures { λ r. ⌜ Put (faultAt (now (list .entry)) i) at r (now (out .entry)) (now (out .exit)) ⌝ }
+{
+    let o = i * FAULT_BYTES;
+    put_pair(low_at(list, o, 2), low_at(list, o + 2, 1), out, at)
+}
+
+// Writes the first line of the statement that a record ends, if it ends one.
+fn put_ended(program: &[u8], i: usize, out: &mut [u8], at: usize) -> usize
+    requires { ⌜ (i < mostRecords) × Room (endedAt (now program) i) at ⌝ }
+    ensures { λ r. ⌜ Put (endedAt (now (program .entry)) i) at r (now (out .entry)) (now (out .exit)) ⌝ }
+{
+    let o = i * RECORD_BYTES;
+    let kind = low_at(program, o, 1);
+    if kind < 13 {
+        return at;
+    }
+    if 14 < kind {
+        return at;
+    }
+    put_line(low_at(program, o + 4, 4), out, at)
+}
+
+// Writes line and code of each fault.
+fn put_faults(list: &[u8], count: usize, out: &mut [u8], at: usize) -> usize
+    requires { ⌜ (count ≤ mostRecords) × Room (gather (faultAt (now list)) count 0) at ⌝ }
+    ensures { λ r. ⌜ Put (gather (faultAt (now (list .entry))) count 0) at r (now (out .entry)) (now (out .exit)) ⌝ }
+{
+    let mut w = at;
+    let mut i: usize = 0;
+    while i < count {
+        w = put_fault(list, i, &mut *out, w);
+        i += 1;
+    }
+    w
+}
+
+// Writes the first line of each ordered statement.
+fn put_order(program: &[u8], count: usize, out: &mut [u8], at: usize) -> usize
+    requires { ⌜ (count ≤ mostRecords) × Room (gather (endedAt (now program)) count 0) at ⌝ }
+    ensures { λ r. ⌜ Put (gather (endedAt (now (program .entry))) count 0) at r (now (out .entry)) (now (out .exit)) ⌝ }
+{
+    let mut w = at;
+    let mut i: usize = 0;
+    while i < count {
+        w = put_ended(program, i, &mut *out, w);
+        i += 1;
+    }
+    w
+}
+
+// ---- the listing
+
+// The number of a verdict.
+fn number_of(verdict: Verdict) -> u8
+    ensures { λ r. ⌜ r ≡ numberIn verdict ⌝ }
+{
+    match verdict {
+        Verdict::Refused(n) => n,
+        Verdict::Faulty(n, _) => n,
+        Verdict::Translated(_) => 0,
+    }
+}
+
+// Its count.
+fn count_of(verdict: Verdict) -> usize
+    ensures { λ r. ⌜ r ≡ countIn verdict ⌝ }
+{
+    match verdict {
+        Verdict::Refused(_) => 0,
+        Verdict::Faulty(_, k) => k,
+        Verdict::Translated(k) => k,
+    }
+}
+
+// Writes the listing of a verdict, with the faults or the program that it left.
+fn put_listing(number: u8, count: usize, faults: &[u8], program: &[u8], out: &mut [u8]) -> usize
+    requires { ⌜ count ≤ mostRecords ⌝ }
+    ensures { λ r. ⌜ Put (written number count (now (faults .entry)) (now (program .entry))) 0 r (now (out .entry)) (now (out .exit)) ⌝ }
+{
+    if number == 0 {
+        let at = put_head(b'O', b'K', count as u64, &mut *out);
+        return put_order(program, count, out, at);
+    }
+    let at = put_head(b'N', b'O', number as u64, &mut *out);
+    put_faults(faults, count, out, at)
+}
+
+// The listing of a text, written to the front of what is lent, as far as there are places; how many bytes it has.
+pub fn list(text: &[u8], out: &mut [u8]) -> usize
+    ensures { λ r. ⌜ Lists (now (text .entry)) (now (out .entry)) r (now (out .exit)) ⌝ }
+{
+    let mut faults = [0u8; FAULT_ROOM];
+    let mut program = [0u8; PROGRAM_ROOM];
+    let verdict = translator::translate(text, &mut faults, &mut program);
+    put_listing(
+        number_of(verdict),
+        count_of(verdict),
+        &faults,
+        &program,
+        out,
+    )
+}

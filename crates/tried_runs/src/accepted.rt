@@ -1,15 +1,15 @@
 // Other programs that are accepted.
-use crate::tally::Tally;
-use crate::tally::at;
-use crate::tally::float;
-use crate::tally::kept;
-use crate::tally::kept_in;
-use crate::tally::number;
-use crate::tally::of_slots;
-use crate::tally::of_values;
-use crate::tally::record;
-use crate::tally::records;
-use crate::tally::sevens;
+use crate::lent::at;
+use crate::lent::float;
+use crate::lent::kept;
+use crate::lent::kept_in;
+use crate::lent::of_slots;
+use crate::lent::of_values;
+use crate::lent::record;
+use crate::lent::records;
+use crate::lent::sevens;
+use tally::Tally;
+use tally::number;
 
 // Slots 1 and 2 are 10 and 4. Slots 3 to 7 are sum, difference, product, quotient, and the first negated.
 fn arithmetic() -> [u8; 336] {

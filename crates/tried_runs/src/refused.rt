@@ -1,11 +1,11 @@
 // Programs and buffers that are refused: the number, the record, and nothing written.
-use crate::tally::Tally;
-use crate::tally::kept;
-use crate::tally::kept_in;
-use crate::tally::number;
-use crate::tally::record;
-use crate::tally::records;
-use crate::tally::sevens;
+use crate::lent::kept;
+use crate::lent::kept_in;
+use crate::lent::record;
+use crate::lent::records;
+use crate::lent::sevens;
+use tally::Tally;
+use tally::number;
 
 // A record of a program.
 struct Rec {

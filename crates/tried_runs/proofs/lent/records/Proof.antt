@@ -3,8 +3,8 @@ use mathlib.Core.Path.{_≡_, refl}
 use native.Mathlib.Omega.{arith}
 use borrow.Author.Needs.{needs}
 use lib.ListN.{length}
-use Rattle.tried_runs.proofs.tally.records.Statement.{statement}
-use Rattle.tried_runs.proofs.tally.records.Tie as tie
+use Rattle.tried_runs.proofs.lent.records.Statement.{statement}
+use Rattle.tried_runs.proofs.lent.records.Tie as tie
 
 abbrev Inv-loop : tie.InvT-loop
 Inv-loop p₀ i0 e kind slot value i₀ p i = length p ≡ length p₀

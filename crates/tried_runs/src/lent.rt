@@ -1,42 +1,7 @@
-// The tally, comparisons, lent buffers and records.
-use libc::STDOUT_FILENO;
+// Comparisons, lent buffers and records.
+use tally::Tally;
+use tally::right;
 ghost use Prim.Native.Nat.{_≤_, _<_};
-
-// How many comparisons were tried, and how many of them differ.
-pub struct Tally {
-    pub tried: usize,
-    pub differ: usize,
-}
-
-// One comparison more. If it differs its number is printed.
-pub fn right(t: Tally, same: bool) -> Tally {
-    let tried = t.tried;
-    let differ = t.differ;
-    if 10000 < tried {
-        return t;
-    }
-    if 10000 < differ {
-        return t;
-    }
-    if same {
-        return Tally {
-            tried: tried + 1,
-            differ,
-        };
-    }
-    io::write_all(STDOUT_FILENO, b"comparison ");
-    io::print_decimal(STDOUT_FILENO, tried as u64);
-    io::write_all(STDOUT_FILENO, b" differs\n");
-    Tally {
-        tried: tried + 1,
-        differ: differ + 1,
-    }
-}
-
-// A number is as wanted.
-pub fn number(t: Tally, got: usize, wanted: usize) -> Tally {
-    right(t, got == wanted)
-}
 
 // A float has the wanted bits. A NaN has those of the one NaN.
 pub fn float(t: Tally, got: f64, wanted: u64) -> Tally {

@@ -1,0 +1,124 @@
+-- Faults and records read back from the bytes of a fault list and of a program.
+use Prim.Native.Nat.{ℕ, _+_, _*_, _^_, _≤_, _<_}
+use mathlib.Core.Path.{_≡_, sym, ap, ap₂, _∙_}
+use mathlib.Core.Bool.{cond}
+use mathlib.Core.List.{List, [], _∷_, _++_, append-assoc}
+use native.Mathlib.Nat.{suc-mul}
+use native.Mathlib.Omega.{arith}
+use lib.ListN.{length, drop, length-append}
+use lib.Seq.{sets, sets-eq, take-at, drop-at, drop-drop}
+use Rattle.limits.specs.Limits.{recordBytes, faultBytes}
+use Rattle.laws.specs.Lists.{concat-map}
+use Rattle.laws.specs.Places.{gather}
+use Rattle.laws.proofs.Along.{gather-over}
+use Rattle.laws.proofs.Lists.{concat-append}
+use Rattle.bits.specs.Low.{lowBytes, lowWord}
+use Rattle.bits.proofs.Lows.{length-low, word-bytes}
+use Rattle.records.specs.Fields.{kindOf, operandOf, bitsOf}
+use Rattle.records.specs.Record.{Rec, recBytes, programBytes, field}
+use Rattle.sheet.specs.Sheet.{Fault, faultEntry, faultList}
+use Rattle.listing_text.specs.Listing.{line, line2}
+use Rattle.listing_text.specs.Written.{faultAt, ending, endedAt}
+use Rattle.listing_text.proofs.Every.{Every, every-inside}
+use Rattle.listing_text.proofs.Numbers.{FaultBelow}
+
+-- ---- fields of bytes that are known from a place on
+
+-- what stands further on
+further : (p x y : List ℕ) (o k : ℕ) → drop o p ≡ x ++ y → length x ≡ k → drop (o + k) p ≡ y
+further p x y o k e h = sym (drop-drop k o p) ∙ ap (drop k) e ∙ drop-at x y k h
+
+-- a number of n bytes
+number-back : (p y : List ℕ) (o n v : ℕ) → drop o p ≡ lowBytes n v ++ y → v < 256 ^ n → field p o n ≡ v
+number-back p y o n v e h = rw (e, take-at (lowBytes n v) y n (length-low n v)) (word-bytes n v h)
+
+-- one byte
+byte-back : (p y : List ℕ) (o b : ℕ) → drop o p ≡ b ∷ y → field p o 1 ≡ b
+unfolding lowWord
+byte-back p y o b e = rw e (omega arith)
+
+-- ---- rows of w bytes
+module _ {A : Type 0} (f : A → List ℕ) (w : ℕ) (even : (a : A) → length (f a) ≡ w) where
+  -- there are w for each
+  length-rows : (l : List A) → length (concat-map f l) ≡ length l * w
+  unfolding concat-map
+  length-rows [] = omega arith
+  length-rows (a ∷ l) = rw suc-mul (omega (arith, length-append (f a) (concat-map f l), even a, length-rows l))
+
+  -- what stands from the row of s on
+  row-at : (a : List A) (s : A) (b : List A) (rest : List ℕ)
+      → drop (length a * w) (concat-map f (a ++ s ∷ b) ++ rest) ≡ f s ++ (concat-map f b ++ rest)
+  unfolding concat-map
+  row-at a s b rest =
+      rw (concat-append f a (s ∷ b), append-assoc (concat-map f a), append-assoc (f s))
+      (drop-at (concat-map f a) (f s ++ (concat-map f b ++ rest)) (length a * w) (length-rows a))
+
+-- rows that fit are written at the front, and something stands behind them
+pub front : (l vs : List ℕ) → length vs ≤ length l → sets l 0 vs ≡ vs ++ drop (0 + length vs) l
+front l vs h = sets-eq vs l 0 (omega arith)
+
+-- ---- faults
+
+-- a fault has four bytes
+length-entry : (f : Fault) → length (faultEntry f) ≡ faultBytes
+unfolding faultEntry
+length-entry f = simp (length-append, length-low)
+
+-- its line and code are read back
+fault-back : (list rest : List ℕ) (i : ℕ) (f : Fault) → drop (i * faultBytes) list ≡ faultEntry f ++ rest → f .line < 65536
+    → faultAt list i ≡ line2 (f .line) (f .code)
+unfolding faultEntry
+fault-back list rest i f e h =
+    let o = i * faultBytes in
+    let low = lowBytes 2 (f .line) in
+    let d : drop o list ≡ low ++ (f .code ∷ 0 ∷ rest) = e ∙ append-assoc low (f .code ∷ 0 ∷ []) rest in
+    let m = number-back list (f .code ∷ 0 ∷ rest) o 2 (f .line) d h in
+    let n = byte-back list (0 ∷ rest) (o + 2) (f .code) (further list low (f .code ∷ 0 ∷ rest) o 2 d (length-low 2 (f .line))) in
+    ap₂ line2 m n
+
+-- .. of each fault of a list
+pub faults-back : (fs : List Fault) (rest : List ℕ) → Every (FaultBelow 65536) fs
+    → gather (faultAt (faultList fs ++ rest)) (length fs) 0 ≡ concat-map (λ (f : Fault). line2 (f .line) (f .code)) fs
+unfolding faultList
+faults-back fs rest p =
+    gather-over (faultAt (faultList fs ++ rest)) (λ (f : Fault). line2 (f .line) (f .code)) fs
+    (λ a f b e. fault-back (faultList fs ++ rest) (faultList b ++ rest) (length a) f
+    (rw e (row-at faultEntry faultBytes length-entry a f b rest)) (every-inside (FaultBelow 65536) a f b (rw e at p)))
+
+-- ---- records
+
+-- a record has sixteen bytes
+length-record : (r : Rec) → length (recBytes r) ≡ recordBytes
+unfolding recBytes
+length-record r = simp (length-append, length-low)
+
+-- the line of the statement that a record ends, if it ends one
+abbrev pub endedBy : Rec → List ℕ
+endedBy r = cond (ending (kindOf (r .instr))) (line (r .line)) []
+
+-- its line is below b
+abbrev pub RecBelow : ℕ → Rec → Type 0
+RecBelow b r = r .line < b
+
+-- its kind and line are read back
+record-back : (p rest : List ℕ) (i : ℕ) (r : Rec) → drop (i * recordBytes) p ≡ recBytes r ++ rest → r .line < 65536 → endedAt p i ≡ endedBy r
+unfolding recBytes
+record-back p rest i r e h =
+    let o = i * recordBytes in
+    let x = kindOf (r .instr) ∷ 0 ∷ lowBytes 2 (operandOf (r .instr)) in
+    let low = lowBytes 4 (r .line) in
+    let bits = lowBytes 8 (bitsOf (r .instr)) in
+    let d : drop o p ≡ x ++ (low ++ (bits ++ rest)) = e ∙ append-assoc x (low ++ bits) rest ∙ ap (λ (l : List ℕ). x ++ l) (append-assoc low bits rest) in
+    let k = byte-back p _ o (kindOf (r .instr)) d in
+    let t : drop (o + 4) p ≡ low ++ (bits ++ rest) = further p x (low ++ (bits ++ rest)) o 4 d (omega (arith, length-low 2 (operandOf (r .instr)))) in
+    let l = number-back p (bits ++ rest) (o + 4) 4 (r .line) t (omega arith) in
+    ap₂ (λ (k l : ℕ). cond (ending k) (line l) []) k l
+
+-- .. of each record of a program
+pub records-back : (rs : List Rec) (rest : List ℕ) → Every (RecBelow 65536) rs
+    → gather (endedAt (programBytes rs ++ rest)) (length rs) 0 ≡ concat-map endedBy rs
+unfolding programBytes
+records-back rs rest p =
+    gather-over (endedAt (programBytes rs ++ rest)) endedBy rs
+    (λ a r b e. record-back (programBytes rs ++ rest) (programBytes b ++ rest) (length a) r
+    (rw e (row-at recBytes recordBytes length-record a r b rest)) (every-inside (RecBelow 65536) a r b (rw e at p)))

@@ -1,0 +1,9 @@
+pub mod Figures
+mod Rooms
+mod Shorts
+mod Every
+mod Numbers
+mod Back
+mod Ordered
+mod Fair
+pub mod Meant

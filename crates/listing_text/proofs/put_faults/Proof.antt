@@ -1,0 +1,46 @@
+-- The loop goes over the faults.
+use Prim.Native.Nat.{_-_}
+use native.Mathlib.Omega.{arith}
+use borrow.Author.Needs.{needs}
+use Rattle.laws.proofs.Gathers.{Writes, writes-first}
+use Rattle.program.proofs.Puts.{put-next, put-whole}
+use Rattle.listing_text.specs.Written.{faultAt}
+use Rattle.listing_text.proofs.Rooms.{room-turn}
+use Rattle.listing_text.proofs.put_faults.Statement.{statement}
+use Rattle.listing_text.proofs.put_faults.Tie as tie
+
+abbrev Inv-loop : tie.InvT-loop
+Inv-loop list count out₀ at w₀ i₀ out w i = Writes (faultAt list) count 0 i at w out₀ out
+
+abbrev μ-loop : tie.MeasureT-loop
+μ-loop list count out₀ at w₀ i₀ out w i = count - i
+
+loop-holds : tie.Need-loop-holds Inv-loop μ-loop
+loop-holds c = writes-first _ _ _ _ _
+
+put-fault-requires : tie.Need-put-fault-requires Inv-loop μ-loop
+put-fault-requires c κs =
+    let t = c .before in
+    let s = t .before .before .before .before in
+    (omega (arith, t .loop-test .taken, s .pre .0), room-turn (t .before .loop .inv) (t .loop-test .taken) (s .pre .1))
+
+add-i : tie.Need-add-i Inv-loop μ-loop
+add-i c = search needs
+
+loop-less : tie.Need-loop-less Inv-loop μ-loop
+loop-less c = search needs
+
+loop-again : tie.Need-loop-again Inv-loop μ-loop
+loop-again c =
+    let p = c .before .before in
+    let t = p .before .before in
+    put-next (t .before .loop .inv) (t .loop-test .taken) (p .put-fault .ensures)
+
+same-length : tie.Need-same-length Inv-loop μ-loop
+same-length c = c .before .loop .inv .long
+
+returns : tie.Need-returns Inv-loop μ-loop
+returns c = put-whole (c .before .loop .inv) (c .loop-test .left)
+
+pub put-faults-spec : {M : Type 1} → statement M
+put-faults-spec = tie.close (tie.spec Inv-loop μ-loop loop-holds put-fault-requires add-i loop-less loop-again same-length returns)

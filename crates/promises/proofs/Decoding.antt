@@ -1,0 +1,155 @@
+-- The bytes of a record give back its instruction, and those of a program its instructions.
+use Prim.Native.Nat.{ℕ, suc, _+_, _*_, _/_, _^_, _<_}
+use mathlib.Core.Path.{_≡_, refl, ap, _∙_}
+use mathlib.Core.List.{List, [], _∷_, _++_, append-assoc}
+use native.Mathlib.Omega.{arith}
+use borrow.Author.Tests.{lt-ltb}
+use lib.Dec.{T, lit<}
+use lib.ListN.{length, getD, take, length-append}
+use lib.Seq.{drop-append-add, getD-append-add, getD-append-seam}
+use lib.Ieee.{Float, binary64, fits}
+use lib.Ieee.Bits.{ofBits-toBits, toBits-lt}
+use Rattle.limits.specs.Limits.{slots, recordBytes}
+use Rattle.laws.specs.Lists.{concat-map}
+use Rattle.bits.specs.Low.{lowBytes, lowWord}
+use Rattle.bits.proofs.Lows.{word-bytes}
+use Rattle.records.specs.declared.Instr.{Instr}
+use Rattle.records.specs.declared.Instr.the-variants.{Constant, Initial, Value, Slot, Add, Sub, Mul, Div, Neg, Insw, Limit, Compar, Store, Deriv, Bad}
+use Rattle.records.specs.Fields.{kindOf, operandOf, bitsOf, byKind, instrOf}
+use Rattle.records.specs.Record.{Rec, recBytes, programBytes, instrs, field, decodeAt, decodeFrom, decoded}
+use Rattle.translator.proofs.Deciding.{length-program}
+use Rattle.promises.proofs.Every.{Every}
+
+-- an f64
+abbrev pub Double : Float → Type 0
+Double x = T (fits binary64 x)
+
+-- an instruction that a record can hold: its slot is one of the 256, its value an f64, and it is no refusal
+abbrev pub Proper : Instr → Type 0
+Proper (Constant s x) = (s < slots) × Double x
+Proper (Initial s x) = (s < slots) × Double x
+Proper (Value x) = Double x
+Proper (Slot s) = s < slots
+Proper Add = Unit {0}
+Proper Sub = Unit {0}
+Proper Mul = Unit {0}
+Proper Div = Unit {0}
+Proper Neg = Unit {0}
+Proper Insw = Unit {0}
+Proper Limit = Unit {0}
+Proper Compar = Unit {0}
+Proper (Store s) = s < slots
+Proper (Deriv s) = s < slots
+Proper Bad = ⊥
+
+-- its fields are the instruction again
+fields-back : (x : Instr) → Proper x → instrOf (kindOf x) 0 (operandOf x) (bitsOf x) ≡ x
+unfolding instrOf byKind
+fields-back (Constant s x) h = rw (lt-ltb s slots (h .0), ofBits-toBits binary64 x (h .1))
+fields-back (Initial s x) h = rw (lt-ltb s slots (h .0), ofBits-toBits binary64 x (h .1))
+fields-back (Value x) h = rw (ofBits-toBits binary64 x h)
+fields-back (Slot s) h = rw (lt-ltb s slots h)
+fields-back Add h = refl
+fields-back Sub h = refl
+fields-back Mul h = refl
+fields-back Div h = refl
+fields-back Neg h = refl
+fields-back Insw h = refl
+fields-back Limit h = refl
+fields-back Compar h = refl
+fields-back (Store s) h = rw (lt-ltb s slots h)
+fields-back (Deriv s) h = rw (lt-ltb s slots h)
+fields-back Bad h = absurd h
+
+-- a slot has at most two bytes, and the bits at most eight
+slot-small : (x : Instr) → Proper x → operandOf x < 256
+slot-small (Constant s x) h = h .0
+slot-small (Initial s x) h = h .0
+slot-small (Value x) h = lit< tt
+slot-small (Slot s) h = h
+slot-small Add h = lit< tt
+slot-small Sub h = lit< tt
+slot-small Mul h = lit< tt
+slot-small Div h = lit< tt
+slot-small Neg h = lit< tt
+slot-small Insw h = lit< tt
+slot-small Limit h = lit< tt
+slot-small Compar h = lit< tt
+slot-small (Store s) h = h
+slot-small (Deriv s) h = h
+slot-small Bad h = absurd h
+
+-- the bits have at most eight
+bits-small : (x : Instr) → Proper x → bitsOf x < 256 ^ 8
+bits-small (Constant s x) h = toBits-lt binary64 x (h .1)
+bits-small (Initial s x) h = toBits-lt binary64 x (h .1)
+bits-small (Value x) h = toBits-lt binary64 x h
+bits-small (Slot s) h = lit< tt
+bits-small Add h = lit< tt
+bits-small Sub h = lit< tt
+bits-small Mul h = lit< tt
+bits-small Div h = lit< tt
+bits-small Neg h = lit< tt
+bits-small Insw h = lit< tt
+bits-small Limit h = lit< tt
+bits-small Compar h = lit< tt
+bits-small (Store s) h = lit< tt
+bits-small (Deriv s) h = lit< tt
+bits-small Bad h = absurd h
+
+-- a record's bytes behind others, and before others
+module _ (front : List ℕ) (r : Rec) (back : List ℕ) where
+  -- all bytes
+  abbrev all : List ℕ
+  all = front ++ (recBytes r ++ back)
+
+  -- the operand behind two bytes, the bits behind eight
+  operand-back : operandOf (r .instr) < 256 ^ 2 → field all (length front + 2) 2 ≡ operandOf (r .instr)
+  unfolding recBytes lowBytes
+  operand-back h = ap (λ (l : List ℕ). lowWord (take 2 l)) (drop-append-add front (recBytes r ++ back) 2) ∙ word-bytes 2 (operandOf (r .instr)) h
+
+  -- the bits behind eight
+  bits-back : bitsOf (r .instr) < 256 ^ 8 → field all (length front + 8) 8 ≡ bitsOf (r .instr)
+  unfolding recBytes lowBytes
+  bits-back h = ap (λ (l : List ℕ). lowWord (take 8 l)) (drop-append-add front (recBytes r ++ back) 8) ∙ word-bytes 8 (bitsOf (r .instr)) h
+
+  -- the kind, and byte 1
+  kind-back : getD all (length front) 0 ≡ kindOf (r .instr)
+  unfolding recBytes
+  kind-back = getD-append-seam front (kindOf (r .instr)) _ 0
+
+  -- byte 1 is 0
+  one-back : getD all (length front + 1) 0 ≡ 0
+  unfolding recBytes
+  one-back = getD-append-add front (recBytes r ++ back) 1 0
+
+  -- the instruction
+  record-back : Proper (r .instr) → decodeAt all (length front) ≡ r .instr
+  unfolding decodeAt
+  record-back h =
+      rw (kind-back, one-back, operand-back (omega (arith, slot-small (r .instr) h)), bits-back (bits-small (r .instr) h)) (fields-back (r .instr) h)
+
+-- ---- programs
+
+-- a record has 16 bytes
+length-record : (r : Rec) → length (recBytes r) ≡ recordBytes
+unfolding recBytes lowBytes
+length-record r = refl
+
+-- record by record
+from-back : (front : List ℕ) (i : ℕ) (rs : List Rec) → length front ≡ i * recordBytes → Every Proper (instrs rs)
+    → decodeFrom (front ++ programBytes rs) i (length rs) ≡ instrs rs
+unfolding decodeFrom programBytes concat-map
+from-back front i [] e h = refl
+from-back front i (r ∷ rs) e h =
+    let next : length (front ++ recBytes r) ≡ suc i * recordBytes = omega (arith, length-append front (recBytes r), length-record r) in
+    let here = rw e at (record-back front r (programBytes rs) (h .0)) in
+    let later = rw (append-assoc front (recBytes r) (programBytes rs)) at (from-back (front ++ recBytes r) (suc i) rs next (h .1)) in
+    rw (here, later)
+
+-- THE PROGRAM is read as it was written
+pub program-back : (rs : List Rec) → Every Proper (instrs rs) → decoded (programBytes rs) ≡ instrs rs
+unfolding decoded
+program-back rs h =
+    let e : length (programBytes rs) / recordBytes ≡ length rs = omega (arith, length-program rs) in
+    rw e (from-back [] 0 rs refl h)

@@ -1,0 +1,133 @@
+-- Agreement: any two outcomes that a contract allows are equal. For each open entry its contract, in its own words, over an outcome: the
+-- answer, then each lent buffer afterwards. An entry without an answer has its buffer alone.
+use Prim.Native.Nat.{ℕ, _<_, _^_, min}
+use mathlib.Core.Path.{_≡_}
+use mathlib.Core.Bool.{Bool}
+use mathlib.Core.List.{List}
+use lib.ListN.{length, take}
+use lib.Seq.{sets}
+use lib.Ieee.{Float, binary64, toBits, ofBits}
+use Rattle.bits.specs.Low.{lowBytes, lowWord}
+use Rattle.deck.specs.declared.Cursor.{Cursor}
+use Rattle.deck.specs.declared.Found.{Found}
+use Rattle.deck.specs.declared.Sizes.{Sizes}
+use Rattle.deck.specs.Next.{foundFrom, Further, cardsAt}
+use Rattle.deck.specs.Codes.{sizeCode}
+use Rattle.deck.specs.Survey.{sizesOf}
+use Rattle.deck.specs.Joined.{joined}
+use Rattle.tokens.specs.declared.Cut.{Cut}
+use Rattle.tokens.specs.declared.RowEnd.{RowEnd}
+use Rattle.tokens.specs.Token.{cutAt}
+use Rattle.tokens.specs.Written.{Written}
+use Rattle.grammar.specs.declared.Parsed.{Parsed}
+use Rattle.grammar.specs.Contract.{ParsesRow}
+use Rattle.order.specs.declared.Sorted.{Sorted}
+use Rattle.order.specs.Answer.{Sorts}
+use Rattle.records.specs.declared.Instr.{Instr}
+use Rattle.records.specs.Decode.{readAt, decodedAt}
+use Rattle.model.specs.declared.answer.Plan.{Plan}
+use Rattle.model.specs.Plan.{Plans}
+use Rattle.program.specs.Written.{recordCount, writtenProgram}
+use Rattle.evaluator.specs.declared.Answer.{Answer}
+use Rattle.evaluator.specs.Contract.{Evaluated, Started, Stepped}
+use Rattle.translator.specs.declared.Verdict.{Verdict}
+use Rattle.translator.specs.declared.Verdict.the-variants.{Refused, Faulty, Translated}
+use Rattle.translator.specs.Contract.{numberIn, countIn, Translates}
+
+-- of one thing
+abbrev pub Agree : {A : Type 0} → (A → Type 0) → Type 0
+Agree {A} C = (r s : A) → C r → C s → r ≡ s
+
+-- of two: an answer and a buffer
+abbrev pub Agree2 : {A B : Type 0} → (A → B → Type 0) → Type 0
+Agree2 {A} {B} C = (r s : A) (a b : B) → C r a → C s b → (r ≡ s) × (a ≡ b)
+
+-- of three: an answer and two buffers
+abbrev pub Agree3 : {A B D : Type 0} → (A → B → D → Type 0) → Type 0
+Agree3 {A} {B} {D} C = (r s : A) (a b : B) (c d : D) → C r a c → C s b d → (r ≡ s) × (a ≡ b) × (c ≡ d)
+
+-- of four: an answer and three buffers
+abbrev pub Agree4 : {A B D E : Type 0} → (A → B → D → E → Type 0) → Type 0
+Agree4 {A} {B} {D} {E} C =
+    (r s : A) (a b : B) (c d : D) (e f : E) → C r a c e → C s b d f → (r ≡ s) × (a ≡ b) × (c ≡ d) × (e ≡ f)
+
+-- get_low, put_low, put_two, put_four, put_eight, float_of, bits_of
+pub record Bits : Type 0 where
+  pub get-low : (part : List ℕ) (n : ℕ) → Agree (λ (r : ℕ). (r ≡ lowWord (take (min n 8) part)) × (r < 256 ^ min n 8))
+  pub put-low : (buf : List ℕ) (at n v : ℕ) → Agree (λ (b : List ℕ). b ≡ sets buf at (lowBytes n v))
+  pub put-two : (buf : List ℕ) (at v : ℕ) → Agree (λ (b : List ℕ). b ≡ sets buf at (lowBytes 2 v))
+  pub put-four : (buf : List ℕ) (at v : ℕ) → Agree (λ (b : List ℕ). b ≡ sets buf at (lowBytes 4 v))
+  pub put-eight : (buf : List ℕ) (at v : ℕ) → Agree (λ (b : List ℕ). b ≡ sets buf at (lowBytes 8 v))
+  pub float-of : (bits : ℕ) → Agree (λ (r : Float). r ≡ ofBits binary64 bits)
+  pub bits-of : (x : Float) → Agree (λ (r : ℕ). r ≡ toBits binary64 x)
+
+-- next_statement, survey, size_code, join
+pub record Deck : Type 0 where
+  pub next-statement : (text : List ℕ) (c : Cursor) → Agree (λ (r : Found). (r ≡ foundFrom text c) × Further (length text) c r)
+  pub survey : (text : List ℕ) → Agree (λ (r : Sizes). r ≡ sizesOf text)
+  pub size-code : (cards : ℕ) (closed long : Bool) → Agree (λ (r : ℕ). r ≡ sizeCode cards closed long)
+  pub join : (text : List ℕ) (start cards : ℕ) (out : List ℕ)
+      → Agree2 (λ (r : ℕ) (o : List ℕ). (r ≡ length (joined (cardsAt text start cards))) × (o ≡ sets out 0 (joined (cardsAt text start cards))))
+
+-- take_cut, row
+pub record Tokens : Type 0 where
+  pub take-cut : (body : List ℕ) (from : ℕ) → Agree (λ (r : Cut). r ≡ cutAt body from)
+  pub row : (body kinds args : List ℕ) → Agree3 (λ (r : RowEnd) (k a : List ℕ). Written body kinds args r k a)
+
+-- parse_row
+pub record Grammar : Type 0 where
+  pub parse-row : (kinds args out-kinds out-args : List ℕ) (place : ℕ)
+      → Agree3 (λ (r : Parsed) (k a : List ℕ). ParsesRow kinds args out-kinds out-args place r k a)
+
+-- sort
+pub record Order : Type 0 where
+  pub sort : (n : ℕ) (starts used out : List ℕ) → Agree2 (λ (r : Sorted) (o : List ℕ). Sorts n starts used out o r)
+
+-- read, decode
+pub record Records : Type 0 where
+  pub read : (program : List ℕ) (n : ℕ) → Agree (λ (r : Instr). r ≡ readAt program n)
+  pub decode : (program : List ℕ) (n : ℕ) → Agree (λ (r : Instr). r ≡ decodedAt program n)
+
+-- plan
+pub record Model : Type 0 where
+  pub plan : (lines bounds kinds args used faults : List ℕ)
+      → Agree4 (λ (r : Plan) (a u f : List ℕ). Plans lines bounds kinds args used faults r a u f)
+
+-- count_records, put_program
+pub record Program : Type 0 where
+  pub count-records : (kinds : List ℕ) → Agree (λ (r : ℕ). r ≡ recordCount kinds)
+  pub put-program : (places rows lines bounds kinds slots order out : List ℕ)
+      → Agree2 (λ (r : ℕ) (o : List ℕ).
+      (r ≡ length (writtenProgram places rows lines bounds kinds slots order))
+      × (o ≡ sets out 0 (writtenProgram places rows lines bounds kinds slots order)))
+
+-- evaluate, start, step
+pub record Evaluator : Type 0 where
+  pub evaluate : (p : List ℕ) (v d : List Float) → Agree3 (λ (r : Answer) (v′ d′ : List Float). Evaluated p v d r v′ d′)
+  pub start : (p : List ℕ) (v d : List Float) → Agree3 (λ (r : Answer) (v′ d′ : List Float). Started p v d r v′ d′)
+  pub step : (p : List ℕ) (h : Float) (v d : List Float) → Agree3 (λ (r : Answer) (v′ d′ : List Float). Stepped p h v d r v′ d′)
+
+-- ---- translate, whose answer is an enum: the contract speaks of the paper's number and count
+
+-- all that the paper names is the same
+pub record SameOutcome (r s : Verdict) (f g p q : List ℕ) : Type 0 where
+  pub number : numberIn r ≡ numberIn s
+  pub count : countIn r ≡ countIn s
+  pub faults : f ≡ g
+  pub program : p ≡ q
+
+-- an answer whose case fits its number and count: only a translation has number 0, and a faulty text has a fault
+abbrev pub Proper : Verdict → Type 0
+Proper (Refused n) = n ≡ 0 → ⊥
+Proper (Faulty n k) = (n ≡ 0 → ⊥) × (k ≡ 0 → ⊥)
+Proper (Translated k) = Unit {0}
+
+-- translate
+pub record Translator : Type 0 where
+  pub translate : (text f p : List ℕ) (r s : Verdict) (f₁ f₂ p₁ p₂ : List ℕ) → Translates text f p r f₁ p₁ → Translates text f p s f₂ p₂
+      → SameOutcome r s f₁ f₂ p₁ p₂
+  -- two proper answers are one
+  pub cases : (text f p : List ℕ) (r s : Verdict) (f₁ f₂ p₁ p₂ : List ℕ) → Translates text f p r f₁ p₁ → Translates text f p s f₂ p₂
+      → Proper r → Proper s → r ≡ s
+  -- and some proper answer is always allowed
+  pub some : (text f p : List ℕ) → (r : Verdict) × (f₁ : List ℕ) × (p₁ : List ℕ) × Proper r × Translates text f p r f₁ p₁

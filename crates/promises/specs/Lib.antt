@@ -1,0 +1,9 @@
+pub mod Change
+pub mod Ordering
+pub mod Agreement
+pub mod RowMeans
+pub mod Depth
+pub mod Words
+pub mod Meaning
+pub mod Recorded
+pub mod Outcomes
