@@ -20,6 +20,7 @@ use Rattle.floesedge.specs.declared.Verdict.{Verdict as Given}
 use Rattle.floesedge.specs.Contract.{Translates as Gives}
 use Rattle.translator.specs.Verdict.{Outcome as Translation, translation, verdictOf, countOf}
 use Rattle.translator.proofs.Counted.{few, count-few}
+use Rattle.translator.proofs.Verdicts.{by-number}
 use Rattle.evaluator.specs.Judge.{Judge, Verdict as Told, verdict, good, judged, anyOpen, judgeFrom, judge}
 use Rattle.evaluator.specs.Evaluate.{Outcome, outcome, refusal, evaluated, started, stepped}
 use Rattle.evaluator.specs.Contract.{told, Evaluated, Started, Stepped}
@@ -30,7 +31,7 @@ pub count-small : (text f p f′ p′ : List ℕ) (r : Verdict) → Translates t
 unfolding translation
 count-small text f p f′ p′ r e =
     let v = verdictOf text (length f) (length p) in
-    let same : countIn r ≡ countOf v = ap (λ (o : Translation). o .count) e in
+    let same : countIn r ≡ countOf v = ap (λ (o : Translation). o .count) (by-number text f p e) in
     omega (arith, same, count-few v (few text (length f) (length p)))
 
 -- ---- the answers of the judge
@@ -90,7 +91,7 @@ module _ {p : List ℕ} {v d : List Float} {r : Answer} {v′ d′ : List Float}
 -- ---- the same answer in its fixed layout
 pub same-translation : (text f p f′ p′ : List ℕ) (r : Verdict) (v : Given) → Translates text f p r f′ p′ → v .number ≡ numberIn r → v .count ≡ countIn r
     → Gives text f p v f′ p′
-same-translation text f p f′ p′ r v e n c = rw (n, c) e
+same-translation text f p f′ p′ r v e n c = rw (n, c) (by-number text f p e)
 
 -- the count of each case
 pub faulty-count : {v : Verdict} {n k : ℕ} → v ≡ Faulty n k → countIn v ≤ mostRecords → k ≤ mostRecords

@@ -17,6 +17,7 @@ use Rattle.translator.specs.declared.Verdict.{Verdict as Answer}
 use Rattle.translator.specs.Contract.{numberIn, countIn, Translates}
 use Rattle.translator.proofs.Deciding.{length-program}
 use Rattle.translator.proofs.Counted.{few, count-few}
+use Rattle.translator.proofs.Verdicts.{by-number}
 use Rattle.listing_text.specs.Listing.{listed, listing}
 use Rattle.listing_text.specs.Written.{head, written}
 use Rattle.listing_text.specs.Contract.{Lists}
@@ -48,13 +49,14 @@ module _ (text f p : List ℕ) (room-faults : faultRoom ≤ length f) (room-prog
     -- the count is small
     count-of : countIn r ≤ mostRecords
     unfolding translation
-    count-of = rw (ap (λ (o : Outcome). o .count) e) (count-few verdict (few text (length f) (length p)))
+    count-of = rw (ap (λ (o : Outcome). o .count) (by-number text f p e)) (count-few verdict (few text (length f) (length p)))
 
     -- and what is written of that is what is listed
     listed-of : written (numberIn r) (countIn r) f′ p′ ≡ listed verdict
     unfolding translation
     listed-of =
-        rw (ap (λ (o : Outcome). o .number) e, ap (λ (o : Outcome). o .count) e, ap (λ (o : Outcome). o .faults) e, ap (λ (o : Outcome). o .program) e)
+        let o = by-number text f p e in
+        rw (ap (λ (x : Outcome). x .number) o, ap (λ (x : Outcome). x .count) o, ap (λ (x : Outcome). x .faults) o, ap (λ (x : Outcome). x .program) o)
         (written-of verdict refl (fair text (length f) (length p)))
 
 -- ---- the bytes that are lent

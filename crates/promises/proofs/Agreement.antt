@@ -12,14 +12,13 @@ use Rattle.program.specs.Program.{program}
 use Rattle.evaluator.specs.declared.Answer.{Answer}
 use Rattle.evaluator.specs.Evaluate.{Outcome as RunOutcome, outcome}
 use Rattle.evaluator.specs.Contract.{told}
-use Rattle.translator.specs.declared.Verdict.{Verdict as Reply}
-use Rattle.translator.specs.declared.Verdict.the-variants.{Refused, Faulty, Translated}
-use Rattle.translator.specs.Contract.{numberIn, countIn, outcome as outcomeIn}
-use Rattle.translator.specs.Verdict.{Verdict, refused, faulty, translated, verdictOf}
-use Rattle.translator.specs.Verdict.{faultsAfter, programAfter, Outcome, outcomeOf, translation}
+use Rattle.evaluator.specs.Judge.{verdict}
+use Rattle.translator.specs.Contract.{Reply}
+use Rattle.translator.specs.Verdict.{Outcome}
+use Rattle.floesedge.specs.declared.Answer.{Answer as CAnswer}
+use Rattle.floesedge.specs.declared.Verdict.{Verdict as CVerdict}
 use Rattle.promises.specs.Agreement.{Agree2, Bits, Deck, Tokens, Grammar, Order, Records, Model, Program, Evaluator}
-use Rattle.promises.specs.Agreement.{SameOutcome, Proper, Translator}
-use Rattle.promises.proofs.Verdicts.{verdict-ind}
+use Rattle.promises.specs.Agreement.{Translator, Listing, Library}
 
 -- ---- what a contract gives as an equation
 
@@ -110,58 +109,39 @@ evaluator =
       step = λ p h v d r s a b c e x y. runs r s a b c e (x .meets ∙ sym (y .meets));
     }
 
--- ---- the translator
-
--- two proper answers with one number and one count are one
-proper-one : (r s : Reply) → numberIn r ≡ numberIn s → countIn r ≡ countIn s → Proper r → Proper s → r ≡ s
-proper-one (Refused m) (Refused n) e c p q = ap Refused e
-proper-one (Refused m) (Faulty n k) e c p q = absurd (q .1 (sym c))
-proper-one (Refused m) (Translated k) e c p q = absurd (p e)
-proper-one (Faulty m j) (Refused n) e c p q = absurd (p .1 c)
-proper-one (Faulty m j) (Faulty n k) e c p q = ap₂ Faulty e c
-proper-one (Faulty m j) (Translated k) e c p q = absurd (p .0 e)
-proper-one (Translated j) (Refused n) e c p q = absurd (q (sym e))
-proper-one (Translated j) (Faulty n k) e c p q = absurd (q .0 (sym e))
-proper-one (Translated j) (Translated k) e c p q = ap Translated c
-
--- the answer that says a verdict
-replyOf : Verdict → Reply
-replyOf (refused n) = Refused n
-replyOf (faulty n fs) = Faulty n (length fs)
-replyOf (translated rs ls) = Translated (length rs)
-
--- it has the verdict's number and count
-reply-meets : (v : Verdict) (f p : List ℕ) → outcomeIn (replyOf v) (faultsAfter v f) (programAfter v p) ≡ outcomeOf v f p
-unfolding replyOf
-reply-meets (refused n) f p = refl
-reply-meets (faulty n fs) f p = refl
-reply-meets (translated rs ls) f p = refl
-
--- each verdict's answer is proper
-verdict-proper : (text : List ℕ) (f p : ℕ) → Proper (replyOf (verdictOf text f p))
-unfolding replyOf
-verdict-proper text f p =
-    verdict-ind (λ (v : Verdict). Proper (replyOf v)) (λ n z e. omega arith) (λ n x xs z. (λ e. omega arith, λ e. omega arith)) text f p tt
-
--- the parts of an outcome
-same : (r s : Reply) (f g p q : List ℕ) → outcomeIn r f p ≡ outcomeIn s g q → SameOutcome r s f g p q
-same r s f g p q h =
-    record {
-      number = ap (λ (o : Outcome). o .number) h;
-      count = ap (λ (o : Outcome). o .count) h;
-      faults = ap (λ (o : Outcome). o .faults) h;
-      program = ap (λ (o : Outcome). o .program) h;
-    }
-
--- translate: number, count and both buffers; and the case of the answer, where it is proper
+-- ---- the translator: the answer itself and both buffers
 pub translator : Translator
-unfolding translation
 translator =
     record {
-      translate = λ text f p r s f₁ f₂ p₁ p₂ x y. same r s f₁ f₂ p₁ p₂ (x ∙ sym y);
-      cases = λ text f p r s f₁ f₂ p₁ p₂ x y.
-          let o = same r s f₁ f₂ p₁ p₂ (x ∙ sym y) in proper-one r s (o .number) (o .count);
-      some = λ text f p.
-          let v = verdictOf text (length f) (length p) in
-          (replyOf v, faultsAfter v f, programAfter v p, verdict-proper text (length f) (length p), reply-meets v f p);
+      translate = λ text f p r s a b c d x y.
+          let h = x ∙ sym y in
+          (ap (λ (z : Reply). z .answer) h, ap (λ (z : Reply). z .faults) h, ap (λ (z : Reply). z .program) h);
+    }
+
+-- ---- the listing
+pub listing : Listing
+listing = record { list = λ text out r s a b x y. (x .needed ∙ sym (y .needed), x .held ∙ sym (y .held)) }
+
+-- ---- the library: an answer is its two numbers
+library-runs : (r s : CAnswer) (a b c d : List Float) → outcome (verdict (r .number) (r .record)) a c ≡ outcome (verdict (s .number) (s .record)) b d
+    → (r ≡ s) × (a ≡ b) × (c ≡ d)
+library-runs r s a b c d h =
+    let n : r .number ≡ s .number = ap (λ (o : RunOutcome). o .answer .number) h in
+    let p : r .record ≡ s .record = ap (λ (o : RunOutcome). o .answer .place) h in (
+      ap₂ (λ (x y : ℕ). record { number = x; «record» = y }) n p,
+      ap (λ (o : RunOutcome). o .values) h,
+      ap (λ (o : RunOutcome). o .derivs) h,
+    )
+
+pub library : Library
+library =
+    record {
+      translate = λ text f p r s a b c d x y.
+          let h = x ∙ sym y in
+          let n : r .number ≡ s .number = ap (λ (o : Outcome). o .number) h in
+          let k : r .count ≡ s .count = ap (λ (o : Outcome). o .count) h in
+          (ap₂ (λ (i j : ℕ). record { number = i; count = j }) n k, ap (λ (o : Outcome). o .faults) h, ap (λ (o : Outcome). o .program) h);
+      evaluate = λ p v d r s a b c e x y. library-runs r s a b c e (x ∙ sym y);
+      start = λ p v d r s a b c e x y. library-runs r s a b c e (x ∙ sym y);
+      step = λ p h v d r s a b c e x y. library-runs r s a b c e (x ∙ sym y);
     }

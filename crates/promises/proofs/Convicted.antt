@@ -16,6 +16,7 @@ use Rattle.translator.specs.declared.Verdict.{Verdict}
 use Rattle.translator.specs.declared.Verdict.the-variants.{Refused, Faulty, Translated}
 use Rattle.translator.specs.Contract.{numberIn, countIn, Translates}
 use Rattle.translator.specs.Verdict.{verdictOf, Outcome, translation}
+use Rattle.translator.proofs.Verdicts.{by-number}
 use Rattle.promises.specs.Change.{textOf, Change, Admitted, closedSheet, faultsOf, Answered}
 use Rattle.promises.proofs.Verdicts.{sizes, convicts}
 use Rattle.promises.proofs.Demand3.{local}
@@ -40,7 +41,7 @@ is-faulty (Translated j) k e c = absurd (let z : ⊥ = omega arith in z)
 pub answered : (text f p f′ p′ : List ℕ) (r : Verdict) → faultRoom ≤ length f → Admitted (verdictOf text (length f) (length p))
     → (x : Fault) (xs : List Fault) → faultsOf text ≡ x ∷ xs → Translates text f p r f′ p′ → Answered (x ∷ xs) r f′ p p′
 answered text f p f′ p′ r room ok x xs e t =
-    let o = t ∙ convicts text f p room ok x xs e in
+    let o = by-number text f p t ∙ convicts text f p room ok x xs e in
     let fs : List Fault = x ∷ xs in
     let written : f′ ≡ sets f 0 (faultList fs) = ap (λ (z : Outcome). z .faults) o in
     let few = faults-few (sheetOf text) in

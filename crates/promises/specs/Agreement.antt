@@ -31,8 +31,11 @@ use Rattle.program.specs.Written.{recordCount, writtenProgram}
 use Rattle.evaluator.specs.declared.Answer.{Answer}
 use Rattle.evaluator.specs.Contract.{Evaluated, Started, Stepped}
 use Rattle.translator.specs.declared.Verdict.{Verdict}
-use Rattle.translator.specs.declared.Verdict.the-variants.{Refused, Faulty, Translated}
-use Rattle.translator.specs.Contract.{numberIn, countIn, Translates}
+use Rattle.translator.specs.Contract.{Translates}
+use Rattle.listing_text.specs.Contract.{Lists}
+use Rattle.floesedge.specs.declared.Verdict.{Verdict as CVerdict}
+use Rattle.floesedge.specs.declared.Answer.{Answer as CAnswer}
+use Rattle.floesedge.specs.Contract.{Translates as Translates′, Evaluates, Starts, Steps}
 
 -- of one thing
 abbrev pub Agree : {A : Type 0} → (A → Type 0) → Type 0
@@ -107,27 +110,17 @@ pub record Evaluator : Type 0 where
   pub start : (p : List ℕ) (v d : List Float) → Agree3 (λ (r : Answer) (v′ d′ : List Float). Started p v d r v′ d′)
   pub step : (p : List ℕ) (h : Float) (v d : List Float) → Agree3 (λ (r : Answer) (v′ d′ : List Float). Stepped p h v d r v′ d′)
 
--- ---- translate, whose answer is an enum: the contract speaks of the paper's number and count
-
--- all that the paper names is the same
-pub record SameOutcome (r s : Verdict) (f g p q : List ℕ) : Type 0 where
-  pub number : numberIn r ≡ numberIn s
-  pub count : countIn r ≡ countIn s
-  pub faults : f ≡ g
-  pub program : p ≡ q
-
--- an answer whose case fits its number and count: only a translation has number 0, and a faulty text has a fault
-abbrev pub Proper : Verdict → Type 0
-Proper (Refused n) = n ≡ 0 → ⊥
-Proper (Faulty n k) = (n ≡ 0 → ⊥) × (k ≡ 0 → ⊥)
-Proper (Translated k) = Unit {0}
-
 -- translate
 pub record Translator : Type 0 where
-  pub translate : (text f p : List ℕ) (r s : Verdict) (f₁ f₂ p₁ p₂ : List ℕ) → Translates text f p r f₁ p₁ → Translates text f p s f₂ p₂
-      → SameOutcome r s f₁ f₂ p₁ p₂
-  -- two proper answers are one
-  pub cases : (text f p : List ℕ) (r s : Verdict) (f₁ f₂ p₁ p₂ : List ℕ) → Translates text f p r f₁ p₁ → Translates text f p s f₂ p₂
-      → Proper r → Proper s → r ≡ s
-  -- and some proper answer is always allowed
-  pub some : (text f p : List ℕ) → (r : Verdict) × (f₁ : List ℕ) × (p₁ : List ℕ) × Proper r × Translates text f p r f₁ p₁
+  pub translate : (text f p : List ℕ) → Agree3 (λ (r : Verdict) (f′ p′ : List ℕ). Translates text f p r f′ p′)
+
+-- list
+pub record Listing : Type 0 where
+  pub list : (text out : List ℕ) → Agree2 (λ (r : ℕ) (out′ : List ℕ). Lists text out r out′)
+
+-- floesedge_translate, floesedge_evaluate, floesedge_start, floesedge_step
+pub record Library : Type 0 where
+  pub translate : (text f p : List ℕ) → Agree3 (λ (r : CVerdict) (f′ p′ : List ℕ). Translates′ text f p r f′ p′)
+  pub evaluate : (p : List ℕ) (v d : List Float) → Agree3 (λ (r : CAnswer) (v′ d′ : List Float). Evaluates p v d r v′ d′)
+  pub start : (p : List ℕ) (v d : List Float) → Agree3 (λ (r : CAnswer) (v′ d′ : List Float). Starts p v d r v′ d′)
+  pub step : (p : List ℕ) (h : Float) (v d : List Float) → Agree3 (λ (r : CAnswer) (v′ d′ : List Float). Steps p h v d r v′ d′)

@@ -23,8 +23,8 @@ use Rattle.program.specs.Written.{recordCount, writtenProgram}
 use Rattle.program.proofs.Meant.{count-meant, program-meant}
 use Rattle.translator.specs.declared.Verdict.{Verdict}
 use Rattle.translator.specs.declared.Verdict.the-variants.{Refused, Faulty, Translated}
-use Rattle.translator.specs.Verdict.{refused, faulty, translated, ifFaults, fitted, programmed, modelled, outcomeOf}
-use Rattle.translator.specs.Contract.{outcome as answered}
+use Rattle.translator.specs.Verdict.{refused, faulty, translated, ifFaults, fitted, programmed, modelled}
+use Rattle.translator.specs.Contract.{reply, replyOf}
 use Rattle.translator.proofs.Concluding.{whole, Conclusion, many, flawed, sound}
 
 -- a record has 16 bytes
@@ -47,7 +47,7 @@ module _ (ss : List Numbered) (kinds args lines bounds : List ℕ) (laid : Laid 
 
   -- what the verdict on the model leaves
   abbrev pub Decides : Verdict → List ℕ → List ℕ → Type 0
-  Decides r f p = answered r f p ≡ outcomeOf (modelled (length prog) ss) faults prog
+  Decides r f p = reply r f p ≡ replyOf (modelled (length prog) ss) faults prog
 
   module _ (o : Outcome) (c : Conclusion ss kinds args lines bounds laid used faults o) where
     -- number 6

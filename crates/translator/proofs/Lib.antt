@@ -10,4 +10,4 @@ pub mod Fitting
 pub mod Counted
 mod Writing
 mod Rooms
-mod Verdicts
+pub mod Verdicts

@@ -18,8 +18,8 @@ use Rattle.sheet.specs.Layout.{draftsIn, Laid}
 use Rattle.translator.specs.declared.Tally.{Tally}
 use Rattle.translator.specs.declared.Verdict.{Verdict}
 use Rattle.translator.specs.declared.Verdict.the-variants.{Refused, Faulty, Translated}
-use Rattle.translator.specs.Contract.{outcome}
-use Rattle.translator.specs.Verdict.{Outcome, ifFaults, modelled, judged, outcomeOf}
+use Rattle.translator.specs.Contract.{reply, replyOf}
+use Rattle.translator.specs.Verdict.{ifFaults, modelled, judged}
 use Rattle.translator.specs.Working.{kindsOf, argsOf, Read, Ready, Concludes, Roomy, Judges}
 use Rattle.translator.proofs.Fitting.{bounds-many, laid-fits}
 use Rattle.translator.proofs.Turns.{counts}
@@ -41,7 +41,7 @@ module _ {text list₀ kinds₀ args₀ used : List ℕ} (room : Roomy text list
   says-five p h = rw (few, r .faults, r .listed) (go (statementFaults (sheetOf text)) (rw (← r .faults) h))
     where
       go : (fs : List Fault) → 0 < length fs
-          → outcome (Faulty 5 (length fs)) (sets list₀ 0 (faultList fs)) p ≡ outcomeOf (ifFaults 5 fs (modelled (length p) (said (sheetOf text)))) list₀ p
+          → reply (Faulty 5 (length fs)) (sets list₀ 0 (faultList fs)) p ≡ replyOf (ifFaults 5 fs (modelled (length p) (said (sheetOf text)))) list₀ p
       go [] h = absurd (omega arith)
       go (f ∷ fs) h = refl
 

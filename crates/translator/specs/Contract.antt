@@ -2,11 +2,14 @@
 use Prim.Native.Nat.{ℕ}
 use mathlib.Core.Path.{_≡_}
 use mathlib.Core.List.{List}
+use lib.ListN.{length}
 use Rattle.translator.specs.declared.Verdict.{Verdict}
 use Rattle.translator.specs.declared.Verdict.the-variants.{Refused, Faulty, Translated}
+use Rattle.translator.specs.Verdict.{Verdict as Decision, refused, faulty, translated, faultsAfter, programAfter, verdictOf}
 use Rattle.translator.specs.Verdict.{Outcome, translation}
 
--- the paper's number and count for each case of the answer
+-- ---- the paper's number and count for each case of the answer
+
 abbrev pub numberIn : Verdict → ℕ
 numberIn (Refused n) = n
 numberIn (Faulty n k) = n
@@ -17,9 +20,31 @@ countIn (Refused n) = 0
 countIn (Faulty n k) = k
 countIn (Translated k) = k
 
+-- the answer to a verdict: by its case, with the number, and with the count of faults or of records
+abbrev pub answerOf : Decision → Verdict
+answerOf (refused n) = Refused n
+answerOf (faulty n fs) = Faulty n (length fs)
+answerOf (translated rs ls) = Translated (length rs)
+
+-- ---- the answer, and what the lent buffers then hold
+pub record Reply : Type 0 where
+  pub answer : Verdict
+  pub faults : List ℕ
+  pub program : List ℕ
+
+abbrev pub reply : Verdict → List ℕ → List ℕ → Reply
+reply r f p = record { answer = r; faults = f; program = p }
+
+abbrev pub replyOf : Decision → List ℕ → List ℕ → Reply
+replyOf v f p = reply (answerOf v) (faultsAfter v f) (programAfter v p)
+
+-- from a text and the lent buffers f and p: the answer r and the buffers f′ and p′ are those of the text's verdict
+abbrev pub Translates : List ℕ → List ℕ → List ℕ → Verdict → List ℕ → List ℕ → Type 0
+Translates text f p r f′ p′ = reply r f′ p′ ≡ replyOf (verdictOf text (length f) (length p)) f p
+
+-- ---- the same by number and count: all that the paper names (law `by-number`)
 abbrev pub outcome : Verdict → List ℕ → List ℕ → Outcome
 outcome v f p = record { number = numberIn v; count = countIn v; faults = f; program = p }
 
--- from a text and the lent buffers f and p: the answer r and the buffers f′ and p′ are those of the translation
-abbrev pub Translates : List ℕ → List ℕ → List ℕ → Verdict → List ℕ → List ℕ → Type 0
-Translates text f p r f′ p′ = outcome r f′ p′ ≡ translation text f p
+abbrev pub Gives : List ℕ → List ℕ → List ℕ → Verdict → List ℕ → List ℕ → Type 0
+Gives text f p r f′ p′ = outcome r f′ p′ ≡ translation text f p

@@ -25,8 +25,8 @@ use Rattle.model.specs.Places.{keysIn, placesIn, resolved, equationRows}
 use Rattle.model.specs.Plan.{held, fit}
 use Rattle.model.specs.declared.answer.Plan.{Plan}
 use Rattle.translator.specs.declared.Verdict.{Verdict}
-use Rattle.translator.specs.Contract.{outcome}
-use Rattle.translator.specs.Verdict.{modelled, judged, outcomeOf}
+use Rattle.translator.specs.Contract.{reply, replyOf}
+use Rattle.translator.specs.Verdict.{modelled, judged}
 use Rattle.translator.specs.declared.Told.{Told as Answer}
 use Rattle.translator.specs.declared.Told.the-variants.{Says, Faulty}
 use Rattle.translator.specs.declared.Tally.{Tally}
@@ -170,7 +170,7 @@ pub record Planned (p : Plan) (lines bounds kinds args : List ℕ) : Type 0 wher
 
 -- the answer r and the buffers f′ and p′ are what the verdict on the model of the statements gives for the buffers f and p
 abbrev pub Concludes : List Numbered → List ℕ → List ℕ → Verdict → List ℕ → List ℕ → Type 0
-Concludes ss f p r f′ p′ = outcome r f′ p′ ≡ outcomeOf (modelled (length p) ss) f p
+Concludes ss f p r f′ p′ = reply r f′ p′ ≡ replyOf (modelled (length p) ss) f p
 
 -- ---- the working room
 
@@ -186,4 +186,4 @@ pub record Roomy (text list kinds args used : List ℕ) : Type 0 where
 
 -- the answer r and the buffers f′ and p′ are what the sheet's verdict gives for the buffers f and p
 abbrev pub Judges : List ℕ → List ℕ → List ℕ → Verdict → List ℕ → List ℕ → Type 0
-Judges text f p r f′ p′ = outcome r f′ p′ ≡ outcomeOf (judged (length p) (sheetOf text)) f p
+Judges text f p r f′ p′ = reply r f′ p′ ≡ replyOf (judged (length p) (sheetOf text)) f p

@@ -4,13 +4,18 @@ use Rattle.floesedge.proofs.Answers.{count-small, same-translation}
 use Rattle.floesedge.proofs.floesedge_translate.Statement.{statement}
 use Rattle.floesedge.proofs.floesedge_translate.Tie as tie
 
+-- where the function begins
+abbrev S : tie.After-translate → tie.Start
+S k = k .before .before .before .before .before .before
+
 translate-requires : tie.Need-translate-requires
 translate-requires c κs = search needs
 
 given-requires : tie.Need-given-requires
 given-requires c κs =
     let k = c .before .before .before .before in
-    count-small _ _ _ _ _ (k .translate .result) (k .translate .ensures)
+    let s = S k .args in
+    count-small (s .text .now) (s .faults .now) (s .program .now) _ _ (k .translate .result) (k .translate .ensures)
 
 same-length : tie.Need-same-length
 same-length c = search needs
@@ -21,7 +26,9 @@ same-length-2 c = search needs
 returns : tie.Need-returns
 returns c =
     let k = c .before .before .before .before .before in
-    same-translation _ _ _ _ _ (k .translate .result) (c .given .result) (k .translate .ensures) (c .given .ensures .0) (c .given .ensures .1)
+    let s = S k .args in
+    same-translation (s .text .now) (s .faults .now) (s .program .now) _ _ (k .translate .result) (c .given .result) (k .translate .ensures)
+    (c .given .ensures .0) (c .given .ensures .1)
 
 pub floesedge-translate-spec : {M : Type 1} → statement M
 floesedge-translate-spec = tie.close (tie.spec translate-requires given-requires same-length same-length-2 returns)

@@ -1,0 +1,29 @@
+// The listing program: reads a text from standard input to its end, and writes its listing.
+use libc::STDERR_FILENO;
+use libc::STDIN_FILENO;
+use libc::STDOUT_FILENO;
+use limits::TEXT_BYTES;
+
+// A byte more than a text may have: what is longer is refused by its size, whatever follows.
+const READ: usize = TEXT_BYTES + 1;
+
+// More than the longest listing, a line for the verdict and one for each of 256 statements.
+const LISTED: usize = 4096;
+
+// Writes the first m bytes, or says that there are not so many.
+fn write_front(out: &[u8], m: usize) {
+    if out.len() < m {
+        io::write_all(STDERR_FILENO, b"the listing is longer than its room\n");
+        return;
+    }
+    io::write_all(STDOUT_FILENO, &out[..m]);
+}
+
+// Reads, lists, writes.
+fn main() {
+    let mut text = [0u8; READ];
+    let mut out = [0u8; LISTED];
+    let n = io::read_full(STDIN_FILENO, &mut text);
+    let m = listing_text::list(&text[..n], &mut out);
+    write_front(&out, m);
+}
