@@ -8,6 +8,7 @@ use lib.ListN.{length}
 use Rattle.deck.specs.Lines.{Line, dotted, passed}
 use Rattle.deck.specs.Reading.{Statement, State, fresh, inside, goes-on, ends, after, ended, left, reading, closedIn, stateAfter}
 use Rattle.deck.specs.Reports.{Report, report, reports}
+use Rattle.deck.specs.Later.{later, laterState, laterReport}
 
 -- ---- a reading of p ++ q: what is closed in p, and then the reading of q from the state after p
 pub reading-append : (s : State) (n : ℕ) (p q : List Line) → reading s n (p ++ q) ≡ closedIn s n p ++ reading (stateAfter s n p) (n + length p) q
@@ -35,13 +36,6 @@ unfolding stateAfter
 fresh-behind ls l e = state-append fresh 1 ls (l ∷ []) ∙ after-undotted (stateAfter fresh 1 ls) (1 + length ls) l e
 
 -- ---- line numbers raised by k
-abbrev pub later : ℕ → Statement → Statement
-later k s = record { first = k + s .first; cards = s .cards; closed = s .closed }
-
-abbrev pub laterState : ℕ → State → State
-laterState k fresh = fresh
-laterState k (inside f cs) = inside (k + f) cs
-
 ends-later : (k : ℕ) (b : Bool) (f : ℕ) (cs : List Line) → ends b (k + f) cs ≡ map (later k) (ends b f cs)
 ends-later k true f cs = refl
 ends-later k false f cs = refl
@@ -80,14 +74,12 @@ reading-later k s n (l ∷ ls) =
     rw (ended-later k s n l, after-later k s n l, ← (add-suc k n), reading-later k (after s n l) (suc n) ls, map-append)
 
 -- ---- reports, their line numbers raised by k
-abbrev pub laterReport : {A : Type 0} → ℕ → Report A → Report A
-laterReport k r = record { line = k + r .line; what = r .what }
 
 -- the reports of what a line among these closes
 abbrev pub closedReports : {A : Type 0} → (List Line → Bool → A) → List Line → List (Report A)
 closedReports f ls = map (report f) (closedIn fresh 1 ls)
 
-map-later : {A : Type 0} (f : List Line → Bool → A) (k : ℕ) (ss : List Statement)
+pub map-later : {A : Type 0} (f : List Line → Bool → A) (k : ℕ) (ss : List Statement)
     → map (report f) (map (later k) ss) ≡ map (laterReport k) (map (report f) ss)
 map-later f k [] = refl
 map-later f k (s ∷ ss) = ap (λ r. laterReport k (report f s) ∷ r) (map-later f k ss)

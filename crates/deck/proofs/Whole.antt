@@ -3,11 +3,12 @@ use Prim.Native.Nat.{ℕ}
 use mathlib.Core.Path.{_≡_, refl, sym, ap, _∙_}
 use mathlib.Core.Bool.{Bool, true, false}
 use mathlib.Core.List.{List, [], _∷_, _++_, append-assoc, append-nil}
-use mathlib.Core.Logic.{_⊎_, inl, inr}
+use mathlib.Core.Logic.{inl, inr}
 use native.Mathlib.Omega.{arith}
 use lib.Dec.{eqb}
 use lib.ListN.{length-append}
 use Rattle.deck.specs.Lines.{Line, cut, linesOf}
+use Rattle.deck.specs.Later.{Whole, Seam}
 use Rattle.deck.proofs.Bytes.{lines-cons}
 
 -- lines behind a first line stay behind it
@@ -24,19 +25,11 @@ lines-append (b ∷ x) y =
     ap (cut (eqb b 10) b) (lines-append x y ∙ ap (λ (ls : List Line). ls ++ linesOf y) e) ∙ cut-append (eqb b 10) b _ _ (linesOf y)
     ∙ ap (λ (ls : List Line). cut (eqb b 10) b ls ++ linesOf y) (sym e)
 
--- whole lines: nothing, or bytes of which the last is a byte 10
-abbrev pub Whole : List ℕ → Type 0
-Whole x = (x ≡ []) ⊎ ((z : List ℕ) × (x ≡ z ++ (10 ∷ [])))
-
 -- bytes behind whole lines are lines of their own
 pub lines-whole : (x y : List ℕ) → Whole x → linesOf (x ++ y) ≡ linesOf x ++ linesOf y
 unfolding linesOf
 lines-whole x y (inl e) = rw e
 lines-whole x y (inr (z, e)) = rw (e, append-assoc z (10 ∷ []) y) (lines-append z y)
-
--- only the last line of a text may lack its byte 10: x is whole, or nothing follows it
-abbrev pub Seam : List ℕ → List ℕ → Type 0
-Seam x y = Whole x ⊎ (y ≡ [])
 
 -- a text cut at a seam has the lines of both parts
 pub lines-seam : (x y : List ℕ) → Seam x y → linesOf (x ++ y) ≡ linesOf x ++ linesOf y

@@ -6,3 +6,4 @@ pub mod Faults
 pub mod Next
 pub mod Codes
 pub mod Survey
+pub mod Later

@@ -13,3 +13,4 @@ pub mod Copies
 pub mod Gathers
 pub mod Bools
 pub mod Stores
+pub mod Every

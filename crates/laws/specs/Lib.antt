@@ -5,3 +5,4 @@ pub mod Counts
 pub mod Rising
 pub mod Places
 pub mod Put
+pub mod Every

@@ -7,6 +7,8 @@ use native.Mathlib.Nat.{suc-mul}
 use native.Mathlib.Omega.{arith}
 use lib.ListN.{length, drop, length-append}
 use lib.Seq.{sets, sets-eq, take-at, drop-at, drop-drop}
+use Rattle.laws.specs.Every.{Every}
+use Rattle.laws.proofs.Every.{every-inside}
 use Rattle.limits.specs.Limits.{recordBytes, faultBytes}
 use Rattle.laws.specs.Lists.{concat-map}
 use Rattle.laws.specs.Places.{gather}
@@ -19,7 +21,6 @@ use Rattle.records.specs.Record.{Rec, recBytes, programBytes, field}
 use Rattle.sheet.specs.Sheet.{Fault, faultEntry, faultList}
 use Rattle.listing_text.specs.Listing.{line, line2}
 use Rattle.listing_text.specs.Written.{faultAt, ending, endedAt}
-use Rattle.listing_text.proofs.Every.{Every, every-inside}
 use Rattle.listing_text.proofs.Numbers.{FaultBelow}
 
 -- ---- fields of bytes that are known from a place on

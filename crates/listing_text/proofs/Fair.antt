@@ -7,6 +7,7 @@ use native.Mathlib.Omega.{arith}
 use borrow.Author.Tests.{ltb-false}
 use lib.Dec.{ltb, lit<}
 use lib.ListN.{length}
+use Rattle.laws.specs.Every.{Every}
 use Rattle.limits.specs.Limits.{faultRoom, textBytes, textLines, mostStatements, mostDefinitions, mostRecords, recordBytes}
 use Rattle.laws.specs.Lists.{concat-map}
 use Rattle.laws.proofs.Tests.{cond-ind}
@@ -18,7 +19,6 @@ use Rattle.model.specs.Faults.{modelFaults, orderOf}
 use Rattle.program.specs.Program.{program}
 use Rattle.translator.specs.Verdict.{Verdict, refused, faulty, translated, ifFaults, programmed, modelled, judged, verdictOf}
 use Rattle.listing_text.specs.Listing.{line}
-use Rattle.listing_text.proofs.Every.{Every}
 use Rattle.listing_text.proofs.Numbers.{ReportBelow, SaidBelow, FaultBelow, sheet-below, faults-below, said-below, definitions-below, model-below}
 use Rattle.listing_text.proofs.Back.{endedBy, RecBelow}
 use Rattle.listing_text.proofs.Ordered.{program-ends, program-below}

@@ -1,7 +1,6 @@
 pub mod Figures
 mod Rooms
 mod Shorts
-mod Every
 mod Numbers
 mod Back
 mod Ordered

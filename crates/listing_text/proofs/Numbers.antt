@@ -4,6 +4,8 @@ use mathlib.Core.Bool.{Bool, true, false, cond}
 use mathlib.Core.List.{List, [], _∷_, _++_, map}
 use native.Mathlib.Omega.{arith}
 use lib.ListN.{length}
+use Rattle.laws.specs.Every.{Every}
+use Rattle.laws.proofs.Every.{every-append, every-anywhere, every-mapped, every-concat, every-part}
 use Rattle.laws.specs.Lists.{numbers}
 use Rattle.deck.specs.Lines.{Line, linesOf, dotted, passed}
 use Rattle.deck.specs.Reading.{Statement, State, fresh, inside, goes-on, ends, after, ended, left, reading}
@@ -16,7 +18,6 @@ use Rattle.model.specs.Definitions.{Equation, equationOf, equations, noEquation
 use Rattle.order.specs.Order.{unsortable}
 use Rattle.model.specs.Faults.{faultIf, again, faults21, namedBy, initialOf, constantKeys, within, nameFault, nameFaultOf, nameFaults}
 use Rattle.model.specs.Faults.{usesIn, fault24, faults24, orElse, modelFaults}
-use Rattle.listing_text.proofs.Every.{Every, every-append, every-at, every-map, every-concat, every-part}
 
 -- the tests behind faults 22, 23 and 24: all names are defined
 abbrev defined-all : List Def → Def → Bool
@@ -78,7 +79,7 @@ module _ (b : ℕ) where
   pub sheet-below : (text : List ℕ) → length (linesOf text) < b → Every ReportBelow (sheetOf text)
   unfolding sheetOf
   sheet-below text h =
-      every-map FirstBelow ReportBelow (report told) (λ s p. p) (reading fresh 1 (linesOf text))
+      every-mapped FirstBelow ReportBelow (report told) (λ s p. p) (reading fresh 1 (linesOf text))
       (reading-below fresh 1 (linesOf text) (omega arith) tt)
 
   -- of its statement faults
@@ -121,7 +122,7 @@ module _ (b : ℕ) where
 
   -- .. and of the equation at any place
   pub equation-below : 0 < b → (ds : List Def) → Every DefBelow ds → (i : ℕ) → EquationBelow (equationAt ds i)
-  equation-below z ds p i = every-at EquationBelow noEquation z (equations ds) i (equations-below ds p)
+  equation-below z ds p i = every-anywhere EquationBelow noEquation z (equations ds) i (equations-below ds p)
 
   -- of a model fault
   if-below : (t : Bool) (l c : ℕ) → l < b → Every FaultBelow (faultIf t l c)

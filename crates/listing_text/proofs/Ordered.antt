@@ -3,6 +3,8 @@ use Prim.Native.Nat.{ℕ, _<_}
 use mathlib.Core.Path.{_≡_, refl, sym, ap₂, _∙_}
 use mathlib.Core.Bool.{Bool, true, false}
 use mathlib.Core.List.{List, [], _∷_, _++_, map, append-nil}
+use Rattle.laws.specs.Every.{Every}
+use Rattle.laws.proofs.Every.{every-append, every-concat, every-part}
 use Rattle.laws.specs.Lists.{concat-map}
 use Rattle.laws.proofs.Lists.{concat-append}
 use Rattle.laws.proofs.Concats.{concat-concat, concat-mapped, concat-same, concat-none}
@@ -13,7 +15,6 @@ use Rattle.records.specs.declared.Instr.{Instr}
 use Rattle.records.specs.Record.{Rec, rec}
 use Rattle.program.specs.Program.{instrItem, constantRecs, initialRecs, lastInstr, code, equationRecs, program}
 use Rattle.listing_text.specs.Listing.{line}
-use Rattle.listing_text.proofs.Every.{Every, every-append, every-concat, every-part}
 use Rattle.listing_text.proofs.Numbers.{DefBelow, equation-below}
 use Rattle.listing_text.proofs.Back.{endedBy, RecBelow}
 

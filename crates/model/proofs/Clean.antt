@@ -59,7 +59,7 @@ order-good ds e = order-is-first (equationCount ds) (usesIn ds) (sortable ds e) 
 -- ---- no 22 and no 23
 
 -- both tests hold
-no-name-fault : (a b : Bool) (l : ℕ) → nameFault a b l ≡ [] → (a ≡ true) × (b ≡ true)
+pub no-name-fault : (a b : Bool) (l : ℕ) → nameFault a b l ≡ [] → (a ≡ true) × (b ≡ true)
 no-name-fault false b l e = absurd (let z : _≡_ {A = ℕ} 0 1 = cc in omega arith)
 no-name-fault true false l e = absurd (let z : _≡_ {A = ℕ} 0 1 = cc in omega arith)
 no-name-fault true true l e = (refl, refl)

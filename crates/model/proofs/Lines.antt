@@ -19,6 +19,7 @@ use Rattle.order.specs.Order.{_≼_}
 use Rattle.order.proofs.Theorems.{first-by-lines}
 use Rattle.model.specs.Definitions.{What, Def, definedBy, definitions, Equation, equationOf, equations, noEquation, equationAt, equationCount}
 use Rattle.model.specs.Faults.{usesIn, GoodOrder, orderOf}
+use Rattle.model.specs.Text.{textDefinitions, lineAt}
 
 abbrev numbersOf : List Numbered → List ℕ
 numbersOf ss = map (λ (s : Numbered). s .line) ss
@@ -66,12 +67,6 @@ equations-rise b (s ∷ ss) r =
     go (state key i e) k = (r .0, k)
 
 -- ---- of a text
-abbrev pub textDefinitions : List ℕ → List Def
-textDefinitions text = definitions (said (sheetOf text))
-
-abbrev pub lineAt : List Def → ℕ → ℕ
-lineAt ds i = equationAt ds i .line
-
 pub equation-lines-rise : (text : List ℕ) (i j : ℕ) → j < equationCount (textDefinitions text) → i < j
     → lineAt (textDefinitions text) i < lineAt (textDefinitions text) j
 unfolding sheetOf

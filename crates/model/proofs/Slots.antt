@@ -11,6 +11,7 @@ use lib.ListN.{length, getD, List·getD-map}
 use lib.Ieee.{nan}
 use Rattle.laws.specs.Lists.{concat-map}
 use Rattle.laws.specs.Counts.{once, count, _∈_, has}
+use Rattle.laws.proofs.Bools.{or-false}
 use Rattle.laws.proofs.Tests.{bool-cases, not-both, eq-or-ne, lt-or-ge, cond-ind}
 use Rattle.laws.proofs.Counts.{count-append, once-same, once-other, has-true, has-false}
 use Rattle.laws.proofs.Concats.{map-append, none-left}
@@ -107,11 +108,6 @@ key-at ds i = List·getD-map (λ (e : Equation). e .key) (equations ds) i noEqua
 pub no-fault : (b : Bool) (l c : ℕ) → faultIf b l c ≡ [] → b ≡ false
 no-fault true l c e = absurd (let z : _≡_ {A = ℕ} 0 1 = cc in omega arith)
 no-fault false l c e = refl
-
--- neither of two tests
-or-false : (a b : Bool) → (a || b) ≡ false → (a ≡ false) × (b ≡ false)
-or-false true b e = absurd (not-both refl e)
-or-false false b e = (refl, e)
 
 -- keys that do not come again stand once
 not-again : (seen ks : List ℕ) → again seen ks ≡ false → Once seen → Once (seen ++ ks)

@@ -3,3 +3,4 @@ pub mod Faults
 pub mod Places
 pub mod Working
 pub mod Plan
+pub mod Text

@@ -7,6 +7,7 @@ use borrow.Author.Tests.{le-ltb}
 use lib.ListN.{length, take}
 use lib.Seq.{sets}
 use lib.Ieee.{Float}
+use Rattle.laws.proofs.Every.{every-at}
 use Rattle.limits.specs.Limits.{slots, stackPlaces, mostRecords, recordBytes}
 use Rattle.laws.specs.Counts.{_∈_}
 use Rattle.laws.proofs.Sets.{sets-back}
@@ -24,9 +25,9 @@ use Rattle.translator.specs.Verdict.{translated, verdictOf, translation}
 use Rattle.translator.proofs.Deciding.{length-program}
 use Rattle.evaluator.specs.Judge.{verdict, judge}
 use Rattle.evaluator.specs.Evaluate.{refusal}
-use Rattle.promises.specs.Meaning.{definitionAt, definitionsOf, Resolved}
+use Rattle.model.specs.Text.{textDefinitions}
+use Rattle.promises.specs.Meaning.{definitionAt, Resolved}
 use Rattle.promises.specs.Outcomes.{handedOn}
-use Rattle.promises.proofs.Every.{every-at}
 use Rattle.promises.proofs.Decoding.{program-back}
 use Rattle.promises.proofs.Texts.{FitsTree, definitions-fit, equations-fit}
 use Rattle.promises.proofs.Zero.{Clear, clear, zero-translated}
@@ -41,7 +42,7 @@ module _ {text : List ℕ} {room : ℕ} {rs : List Rec} (c : Clear text room rs)
   ss = said (sheetOf text)
 
   abbrev ds : List Def
-  ds = definitionsOf text
+  ds = textDefinitions text
 
   -- no key twice
   pub once : Once (keys ds)

@@ -29,7 +29,7 @@ use Rattle.order.specs.Order.{any, chained}
 use Rattle.order.specs.Greedy.{all, first, ready, next as nextReady, place, order}
 use Rattle.model.specs.Definitions.{placeIn}
 use Rattle.model.specs.Faults.{again, faults21, within, nameFaults, modelFaults}
-use Rattle.model.proofs.Lines.{textDefinitions}
+use Rattle.model.specs.Text.{textDefinitions}
 use Rattle.program.specs.Program.{valueIn, program}
 use Rattle.translator.specs.Verdict.{judged, verdictOf, numberOf}
 use Rattle.promises.specs.Depth.{highest, heightOf}

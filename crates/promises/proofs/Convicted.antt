@@ -16,20 +16,11 @@ use Rattle.translator.specs.declared.Verdict.{Verdict}
 use Rattle.translator.specs.declared.Verdict.the-variants.{Refused, Faulty, Translated}
 use Rattle.translator.specs.Contract.{numberIn, countIn, Translates}
 use Rattle.translator.specs.Verdict.{verdictOf, Outcome, translation}
+use Rattle.translator.proofs.Counted.{faults-few}
 use Rattle.translator.proofs.Verdicts.{by-number}
 use Rattle.promises.specs.Change.{textOf, Change, Admitted, closedSheet, faultsOf, Answered}
 use Rattle.promises.proofs.Verdicts.{sizes, convicts}
 use Rattle.promises.proofs.Demand3.{local}
-
--- at most one fault for each statement
-faults-few : (rs : Sheet) → length (statementFaults rs) ≤ length rs
-unfolding concat-map
-faults-few [] = zero-le
-faults-few (r ∷ rs) = omega (arith, length-append (faultBy (r .line) (r .what)) (statementFaults rs), one (r .line) (r .what), faults-few rs)
-  where
-    one : (l : ℕ) (t : Told) → length (faultBy l t) ≤ 1
-    one l (says x) = zero-le
-    one l (faulty c p) = omega arith
 
 -- an answer with number 5 and a count is that case of the enum
 is-faulty : (r : Verdict) (k : ℕ) → numberIn r ≡ 5 → countIn r ≡ suc k → r ≡ Faulty 5 (suc k)

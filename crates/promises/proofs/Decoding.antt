@@ -9,6 +9,7 @@ use lib.ListN.{length, getD, take, length-append}
 use lib.Seq.{drop-append-add, getD-append-add, getD-append-seam}
 use lib.Ieee.{Float, binary64, fits}
 use lib.Ieee.Bits.{ofBits-toBits, toBits-lt}
+use Rattle.laws.specs.Every.{Every}
 use Rattle.limits.specs.Limits.{slots, recordBytes}
 use Rattle.laws.specs.Lists.{concat-map}
 use Rattle.bits.specs.Low.{lowBytes, lowWord}
@@ -18,7 +19,6 @@ use Rattle.records.specs.declared.Instr.the-variants.{Constant, Initial, Value,
 use Rattle.records.specs.Fields.{kindOf, operandOf, bitsOf, byKind, instrOf}
 use Rattle.records.specs.Record.{Rec, recBytes, programBytes, instrs, field, decodeAt, decodeFrom, decoded}
 use Rattle.translator.proofs.Deciding.{length-program}
-use Rattle.promises.proofs.Every.{Every}
 
 -- an f64
 abbrev pub Double : Float → Type 0

@@ -25,7 +25,8 @@ use Rattle.order.proofs.Theorems.{sortable-iff}
 use Rattle.model.specs.Definitions.{Def, equationCount}
 use Rattle.model.specs.Faults.{faultIf, usesIn, fault24, faults24, modelFaults, GoodOrder, orderOf}
 use Rattle.model.proofs.Clean.{order-good}
-use Rattle.model.proofs.Lines.{equation-lines-rise, text-order-first, textDefinitions, lineAt}
+use Rattle.model.specs.Text.{textDefinitions, lineAt}
+use Rattle.model.proofs.Lines.{equation-lines-rise, text-order-first}
 use Rattle.records.specs.Record.{Rec}
 use Rattle.program.specs.Program.{program}
 use Rattle.translator.specs.Verdict.{Verdict, refused, faulty, translated, ifFaults, fitted, programmed, modelled, verdictOf, numberOf}

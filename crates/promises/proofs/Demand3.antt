@@ -12,8 +12,10 @@ use Rattle.limits.specs.Limits.{faultRoom}
 use Rattle.deck.specs.Lines.{Line, linesOf}
 use Rattle.deck.specs.Reading.{Statement, fresh, reading, closedIn, stateAfter}
 use Rattle.deck.specs.Reports.{Report, report}
-use Rattle.deck.proofs.Local.{reading-append, state-append, fresh-behind, later, reading-later, laterReport}
-use Rattle.deck.proofs.Whole.{Seam, lines-seam, lines-parts}
+use Rattle.deck.specs.Later.{later, laterReport}
+use Rattle.deck.proofs.Local.{reading-append, state-append, fresh-behind, reading-later, map-later}
+use Rattle.deck.specs.Later.{Seam}
+use Rattle.deck.proofs.Whole.{lines-seam, lines-parts}
 use Rattle.sheet.specs.Sheet.{Told, says, faulty, Sheet, faultBy, statementFaults}
 use Rattle.sheet.specs.Reader.{told, sheetOf}
 use Rattle.translator.specs.Verdict.{verdictOf}
@@ -108,11 +110,6 @@ module _ {A B : Type 0} (H : List A → List B) (append : (x y : List A) → H (
           new = ap H (w .new) ∙ parts front (w .between-new) tail n;
         }
 
--- reports of later statements are later reports
-report-later : (k : ℕ) (ss : List Statement) → map (report told) (map (later k) ss) ≡ map (laterReport k) (map (report told) ss)
-report-later k [] = refl
-report-later k (s ∷ ss) = ap (λ r. laterReport k (report told s) ∷ r) (report-later k ss)
-
 -- faults of later reports are later faults
 fault-later : (k l : ℕ) (t : Told) → faultBy (k + l) t ≡ map (laterFault k) (faultBy l t)
 fault-later k l (says x) = refl
@@ -176,7 +173,7 @@ module _ (pre old new a q : List ℕ) (c : Change pre old new (a ++ q)) (u : Sea
   tail-kept : Afresh pre old new a → TailKept pre old new a q
   unfolding sheetOf
   tail-kept w =
-      let sheets = share-made sheetMade (map-append (report told)) later laterReport report-later (shares w) in
+      let sheets = share-made sheetMade (map-append (report told)) later laterReport (map-later told) (shares w) in
       let faults = share-made statementFaults faults-append laterReport laterFault faults-later sheets in
       record { statements = shares w; sheet = sheets; faults = faults; shift = shifted }
 

@@ -27,7 +27,8 @@ use Rattle.sheet.specs.Reader.{parsed, scanned, sized, told, sheetOf}
 use Rattle.model.specs.Definitions.{What, constant, assigned, integral, Def, slotIn}
 use Rattle.model.specs.Definitions.{definedBy, definitions, Equation, equations, noEquation, equationAt}
 use Rattle.model.specs.Faults.{orderOf}
-use Rattle.model.proofs.Lines.{no-equations, textDefinitions}
+use Rattle.model.specs.Text.{textDefinitions}
+use Rattle.model.proofs.Lines.{no-equations}
 use Rattle.records.specs.declared.Instr.{Instr}
 use Rattle.records.specs.Record.{Rec, rec, instrs}
 use Rattle.program.specs.Program.{instrItem, constantRecs, initialRecs, lastInstr, code, equationRecs, program}

@@ -16,8 +16,9 @@ use Rattle.grammar.specs.Tree.{Tree, Initial, plain, from}
 use Rattle.model.specs.Definitions.{What, constant, assigned, integral, Def, keys}
 use Rattle.model.specs.Faults.{namedBy, initialOf, constantKey, constantKeys, within, nameFault, nameFaults}
 use Rattle.program.specs.Program.{constantValue, valueIn, initialValue}
+use Rattle.model.proofs.Clean.{no-name-fault}
 use Rattle.promises.specs.Meaning.{definitionAt, Resolved}
-use Rattle.promises.proofs.Owned.{within-in, no-name-fault}
+use Rattle.promises.proofs.Owned.{within-in}
 
 -- ---- a constant's name is that of a definition with its value
 abbrev Valued : List Def → ℕ → Float → Type 0

@@ -10,7 +10,6 @@ pub mod Depths
 pub mod Computed
 pub mod Words
 pub mod Convicted
-pub mod Every
 pub mod Decoding
 pub mod Numbers
 pub mod Texts

@@ -23,7 +23,8 @@ use Rattle.records.specs.declared.Instr.the-variants.{Constant, Initial as Star
 use Rattle.records.specs.Record.{Rec, rec}
 use Rattle.program.specs.Program.{initialValue, constantRecs, initialRecs, equationRecs, program}
 use Rattle.translator.specs.Verdict.{translated, verdictOf}
-use Rattle.promises.specs.Meaning.{noDef, definitionAt, definitionsOf, Resolved}
+use Rattle.model.specs.Text.{textDefinitions}
+use Rattle.promises.specs.Meaning.{noDef, definitionAt, Resolved}
 use Rattle.promises.specs.Recorded.{recordsFor, Within, RecordsOf, reported, NothingLost}
 use Rattle.promises.proofs.Owned.{ownEquation, locate, constant-key, at-most, own, eq-in, eq-same, slot-at, def-mine}
 use Rattle.promises.proofs.Runs.{constantPart, initialPart, orderedPart}
@@ -213,7 +214,7 @@ module _ (ds : List Def) (one : Once (keys ds)) (q : List ℕ) (g : GoodOrder ds
 pub nothing-lost : (text : List ℕ) (faults room : ℕ) (rs : List Rec) (ls : List ℕ) → verdictOf text faults room ≡ translated rs ls → NothingLost text rs
 nothing-lost text faults room rs ls e =
     let c = clear text faults room rs ls e in
-    let ds = definitionsOf text in
+    let ds = textDefinitions text in
     record {
       taken = all-taken (sheetOf text) (c .sound);
       recorded = λ i h. rw (c .written) (records-at ds (once c) (orderOf ds) (ordered c) i h (initials c i h));

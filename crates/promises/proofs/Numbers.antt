@@ -5,6 +5,8 @@ use mathlib.Core.List.{List, [], _∷_, _++_}
 use lib.Dec.{eqb}
 use lib.Ieee.{Float, binary64, neg}
 use lib.Ieee.Fits.{cond-fits, neg-fits}
+use Rattle.laws.specs.Every.{Every}
+use Rattle.laws.proofs.Every.{every-left, every-right}
 use Rattle.laws.proofs.Tests.{cond-ind}
 use Rattle.tokens.specs.Symbol.{CONST, PARAM, INCON, INTGRL, TIME, INSW, LIMIT, COMPAR, Symbol, mark, number, name, word}
 use Rattle.grammar.specs.Tree.{Two, plus, minus, times, over, compar, Tree, value, named, time, negated, two, three, Constant, Initial, plain, from}
@@ -15,7 +17,6 @@ use Rattle.grammar.specs.Grammar.{Mode, expr, term, factor, terms, factors, ope
 use Rattle.grammar.specs.Grammar.{Der, unsigned, sign, no-terms, add, a-term, no-factors, mul, a-leaf, grouped, called, opening, last, comma}
 use Rattle.grammar.specs.Grammar.{Signed, unsigned-number, signed-number, Many, one, more, Initially, of-number, of-name}
 use Rattle.grammar.specs.Grammar.{Derives, of-constants, of-assignment, of-state}
-use Rattle.promises.proofs.Every.{Every, every-left, every-right}
 use Rattle.promises.proofs.Decoding.{Double}
 
 -- ---- of tokens, trees, openings, statements: each number is a double

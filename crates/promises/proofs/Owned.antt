@@ -19,6 +19,7 @@ use Rattle.model.specs.Definitions.{What, constant, assigned, integral, Def, ke
 use Rattle.model.specs.Definitions.{equationAt, equationCount}
 use Rattle.model.specs.Faults.{initialNames, namedBy, initialOf, constantKey, constantKeys, within, nameFault, nameFaults, GoodOrder}
 use Rattle.model.proofs.Slots.{Once, place-in, place-at, place-same, place-of-at, at-same, equationKeys, count-keys, key-at}
+use Rattle.model.proofs.Clean.{no-name-fault}
 use Rattle.promises.specs.Meaning.{noDef, definitionAt}
 use Rattle.promises.proofs.Settle.{ifAssigned, ifHeld, assignedKeys, heldKeys}
 
@@ -59,12 +60,6 @@ within-in [] l e k h = absurd (omega arith)
 within-in (a ∷ ks) l e k h =
     let p = and-true (has a l) (within ks l) e in
     ⊎-elim (λ (q : k ≡ a). rw q (has-true a l (p .0))) (λ q. within-in ks l (p .1) k (omega (arith, once-other k a q))) (eq-or-ne k a)
-
--- where no fault stands both tests hold
-pub no-name-fault : (a b : Bool) (l : ℕ) → nameFault a b l ≡ [] → (a ≡ true) × (b ≡ true)
-no-name-fault false b l e = absurd (let z : _≡_ {A = ℕ} 0 1 = cc in omega arith)
-no-name-fault true false l e = absurd (let z : _≡_ {A = ℕ} 0 1 = cc in omega arith)
-no-name-fault true true l e = (refl, refl)
 
 -- what the equations name, with one more before them
 named-one : (P : ℕ → Type 0) (l k : ℕ) (w : What) (es : List Equation) → ((n : ℕ) → n ∈ namedBy w → P n)

@@ -7,6 +7,8 @@ use lib.Dec.{eqb, lit<}
 use lib.ListN.{length}
 use lib.Ieee.{Float, binary64}
 use lib.Ieee.Fits.{cond-fits, nan-fits}
+use Rattle.laws.specs.Every.{Every}
+use Rattle.laws.proofs.Every.{every-append, every-at}
 use Rattle.limits.specs.Limits.{slots, mostDefinitions}
 use Rattle.laws.specs.Lists.{concat-map}
 use Rattle.laws.specs.Counts.{count, _∈_}
@@ -19,7 +21,6 @@ use Rattle.model.specs.Faults.{usesIn, GoodOrder}
 use Rattle.model.proofs.Slots.{Once}
 use Rattle.records.specs.Record.{instrs}
 use Rattle.program.specs.Program.{instrTwo, instrThree, constantValue, valueIn, initialValue, constantRecs, initialRecs, lastInstr, program}
-use Rattle.promises.proofs.Every.{Every, every-append, every-at}
 use Rattle.promises.proofs.Decoding.{Double, Proper}
 use Rattle.promises.proofs.Numbers.{Doubles, DoubleInitial}
 use Rattle.promises.proofs.Texts.{FitsTree, FitsWhat, FitsAll, equations-fit}

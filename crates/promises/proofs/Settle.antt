@@ -7,12 +7,13 @@ use native.Mathlib.Omega.{arith}
 use lib.ListN.{length, getD, set, length-set}
 use lib.Seq.{getD-set-same, getD-set-other}
 use lib.Ieee.{Float, nan}
+use Rattle.laws.specs.Every.{Every}
+use Rattle.laws.proofs.Every.{every-map}
 use Rattle.laws.specs.Counts.{count, _∈_}
 use Rattle.laws.proofs.Counts.{once-same, count-append}
 use Rattle.grammar.specs.Tree.{names}
 use Rattle.model.specs.Definitions.{Equation}
 use Rattle.promises.specs.Meaning.{valueOf}
-use Rattle.promises.proofs.Every.{Every, every-map}
 use Rattle.promises.proofs.Postfix.{value-same}
 
 -- the key of an equation, if it is an assignment; if it is a state's

@@ -7,6 +7,8 @@ use mathlib.Core.List.{List, [], _∷_, _++_, map}
 use native.Mathlib.Omega.{arith}
 use lib.ListN.{length}
 use lib.Ieee.{Float}
+use Rattle.laws.specs.Every.{Every}
+use Rattle.laws.proofs.Every.{every-append, every-left, every-right}
 use Rattle.limits.specs.Limits.{slots, mostDefinitions}
 use Rattle.laws.specs.Lists.{concat-map}
 use Rattle.laws.specs.Counts.{count, _∈_}
@@ -18,7 +20,6 @@ use Rattle.model.specs.Definitions.{What, constant, assigned, integral, Def, ke
 use Rattle.model.specs.Faults.{constantKey, constantKeys, usesIn, GoodOrder}
 use Rattle.model.proofs.Slots.{Once, equationKeys, count-keys}
 use Rattle.promises.specs.Meaning.{valueOf, definitionAt, Holds, Solution}
-use Rattle.promises.proofs.Every.{Every, every-append, every-left, every-right}
 use Rattle.promises.proofs.Settle.{assignedKeys, heldKeys, valuesAfter, derivsAfter, Free, Met, Placed, settled}
 use Rattle.promises.proofs.Settle.{kept-values, kept-derivs, long-values, long-derivs}
 use Rattle.promises.proofs.Owned.{ownEquation, locate, constant-key, at-most, own, eq-in, eq-mine, eq-same, slot-mine, slot-at, def-mine}

@@ -20,7 +20,8 @@ use Rattle.program.specs.Program.{instrTwo, instrThree, initialValue, constantR
 use Rattle.translator.specs.Verdict.{translated, verdictOf, translation}
 use Rattle.evaluator.specs.Machine.{zero64}
 use Rattle.evaluator.specs.Evaluate.{startStep, startAll, started as starting}
-use Rattle.promises.specs.Meaning.{definitionAt, definitionsOf, Resolved, Begins, Beginning}
+use Rattle.model.specs.Text.{textDefinitions}
+use Rattle.promises.specs.Meaning.{definitionAt, Resolved, Begins, Beginning}
 use Rattle.promises.specs.Outcomes.{handedOn, Starts}
 use Rattle.promises.proofs.Postfix.{zero-same, steps}
 use Rattle.promises.proofs.Owned.{slot-at}
@@ -235,7 +236,7 @@ pub started : (text : List ℕ) (faults room : ℕ) (rs : List Rec) (ls : List �
 unfolding starting
 started text faults room rs ls e v d hv hd =
     let c = clear text faults room rs ls e in
-    let ds = definitionsOf text in
+    let ds = textDefinitions text in
     let v₀ = set v 0 zero64 in
     let w : startAll v₀ (instrs rs) ≡ startAll v₀ (instrs (initialPart ds ds)) =
     ap (λ (x : List Rec). startAll v₀ (instrs x)) (c .written) ∙ start-program ds (orderOf ds) v₀ in

@@ -3,6 +3,8 @@ use Prim.Native.Nat.{ℕ, _≤_}
 use mathlib.Core.Path.{_≡_, refl, ap}
 use mathlib.Core.Bool.{Bool}
 use mathlib.Core.List.{List, [], _∷_, List·Memᴰ, List·Memᴰ·head, List·Memᴰ·tail}
+use Rattle.laws.specs.Every.{Every}
+use Rattle.laws.proofs.Every.{every-all, every-concat, every-mapped}
 use Rattle.limits.specs.Limits.{levels, stackPlaces}
 use Rattle.deck.specs.Lines.{Line, linesOf}
 use Rattle.deck.specs.Reading.{Statement, fresh, reading}
@@ -21,7 +23,6 @@ use Rattle.grammar.proofs.Stack.{peak, peakOf, suffices}
 use Rattle.sheet.specs.Sheet.{Told, says, faulty, Numbered, saidBy, said}
 use Rattle.sheet.specs.Reader.{parsed, scanned, sized, told, sheetOf}
 use Rattle.model.specs.Definitions.{What, constant, assigned, integral, Def, definedBy, definitions, Equation, equationOf, equations}
-use Rattle.promises.proofs.Every.{Every, every-all, every-concat, every-mapped}
 use Rattle.promises.proofs.Decoding.{Double}
 use Rattle.promises.proofs.Numbers.{DoubleToken, Doubles, DoubleInitial, DoubleSays, double-says}
 

@@ -22,7 +22,8 @@ use Rattle.model.specs.Faults.{usesIn, GoodOrder, orderOf}
 use Rattle.model.proofs.Slots.{Once}
 use Rattle.records.specs.Record.{Rec}
 use Rattle.translator.specs.Verdict.{translated, verdictOf}
-use Rattle.promises.specs.Meaning.{valueOf, definitionAt, Holds, Solution, definitionsOf}
+use Rattle.model.specs.Text.{textDefinitions}
+use Rattle.promises.specs.Meaning.{valueOf, definitionAt, Holds, Solution}
 use Rattle.promises.proofs.Postfix.{value-same}
 use Rattle.promises.proofs.Owned.{ownEquation, locate, own, eq-mine, slot-at}
 use Rattle.promises.proofs.Zero.{clear}
@@ -171,9 +172,9 @@ module _ (ds : List Def) (one : Once (keys ds)) where
 
 -- ONE SOLUTION. For verdict 0 the equations have no other solution than the one that evaluating leaves
 pub one-solution : (text : List ℕ) (faults room : ℕ) (rs : List Rec) (ls : List ℕ) → verdictOf text faults room ≡ translated rs ls
-    → (v d v₁ d₁ v₂ d₂ : List Float) → Solution (definitionsOf text) v d v₁ d₁ → Solution (definitionsOf text) v d v₂ d₂
+    → (v d v₁ d₁ v₂ d₂ : List Float) → Solution (textDefinitions text) v d v₁ d₁ → Solution (textDefinitions text) v d v₂ d₂
     → (v₁ ≡ v₂) × (d₁ ≡ d₂)
 one-solution text faults room rs ls e v d v₁ d₁ v₂ d₂ a b =
     let c = clear text faults room rs ls e in
-    let ds = definitionsOf text in
+    let ds = textDefinitions text in
     only-one ds (once c) v d v₁ d₁ v₂ d₂ a b (orderOf ds) (ordered c)

@@ -15,7 +15,7 @@ use Rattle.sheet.specs.Sheet.{Numbered, Fault, said}
 use Rattle.sheet.specs.Reader.{sheetOf}
 use Rattle.model.specs.Definitions.{definitions}
 use Rattle.model.specs.Faults.{modelFaults, orderOf}
-use Rattle.model.proofs.Lines.{textDefinitions, lineAt}
+use Rattle.model.specs.Text.{textDefinitions, lineAt}
 use Rattle.program.specs.Program.{program}
 use Rattle.translator.specs.Verdict.{Verdict, refused, faulty, translated, ifFaults, modelled, judged, verdictOf, numberOf, outcomeOf, translation}
 use Rattle.promises.specs.Change.{Admitted, faultsOf, Convicts}

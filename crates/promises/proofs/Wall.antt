@@ -11,7 +11,8 @@ use Rattle.translator.specs.Verdict.{translated, verdictOf, translation}
 use Rattle.evaluator.specs.Machine.{run, begun}
 use Rattle.evaluator.specs.Judge.{verdict}
 use Rattle.evaluator.specs.Evaluate.{outcome, ran, evaluated}
-use Rattle.promises.specs.Meaning.{Solution, definitionsOf}
+use Rattle.model.specs.Text.{textDefinitions}
+use Rattle.promises.specs.Meaning.{Solution}
 use Rattle.promises.specs.Outcomes.{handedOn, Evaluates}
 use Rattle.promises.proofs.Zero.{Clear, clear}
 use Rattle.promises.proofs.Runs.{run-program}
@@ -26,9 +27,9 @@ module _ {text : List ℕ} {room : ℕ} {rs : List Rec} (c : Clear text room rs)
   evaluated-ran = rw (not-refused c v d hv hd)
 
   -- the run leaves the solution
-  ran-solves : Solution (definitionsOf text) v d (ran (programBytes rs) v d .values) (ran (programBytes rs) v d .derivs)
+  ran-solves : Solution (textDefinitions text) v d (ran (programBytes rs) v d .values) (ran (programBytes rs) v d .derivs)
   ran-solves =
-      let ds = definitionsOf text in
+      let ds = textDefinitions text in
       let e : run (begun v d) (instrs rs) ≡ _ = ap (λ (x : List Rec). run (begun v d) (instrs x)) (c .written) ∙ run-program ds (orderOf ds) v d in
       rw (read-back c, e) (solves ds (once c) (orderOf ds) (ordered c) v d (c .few) hv hd)
 

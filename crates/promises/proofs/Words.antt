@@ -20,7 +20,7 @@ use Rattle.tokens.specs.Number.{Digits, digitsFrom, Exponent, exponent, wrong, 
 use Rattle.tokens.specs.Token.{cutOf, badAt, numberEnd, numberAt, nameAt, tokenAt, cutAt}
 use Rattle.tokens.specs.Symbol.{Symbol, mark, number, name, word, keyOf, named}
 use Rattle.tokens.specs.Row.{Placed, Row, onto, ahead, rowFrom, rowOf}
-use Rattle.tokens.proofs.Values.{whole-exact, ten-exact, scaled-round, scaled-fine}
+use Rattle.tokens.proofs.Values.{range, whole-exact, ten-exact, scaled-round, scaled-fine}
 use Rattle.tokens.proofs.Words.{name-key, named-ind}
 use Rattle.tokens.proofs.Keys.{key-injective, key-below}
 use Rattle.promises.specs.Words.{InRange, RoundedOnce, IsValue, Name}
@@ -30,13 +30,8 @@ use Rattle.promises.specs.Words.{InRange, RoundedOnce, IsValue, Name}
 -- the test says the range
 in-range : (m up down : ℕ) → inRange m up down ≡ true → InRange m up down
 in-range m up down t =
-    let a = and-true (leb m mostDigits) (leb up (down + mostTens) && leb down (up + mostTens)) t in
-    let b = and-true (leb up (down + mostTens)) (leb down (up + mostTens)) (a .1) in
-    record {
-      digits = leb-true m mostDigits (a .0);
-      most = leb-true up (down + mostTens) (b .0);
-      least = leb-true down (up + mostTens) (b .1);
-    }
+    let r = range m up down t in
+    record { digits = r .0; most = r .1; least = r .2 }
 
 -- A VALUE IN RANGE is rounded once, from exact operands, and finite
 pub rounded-once : (m up down : ℕ) → inRange m up down ≡ true → RoundedOnce m up down

@@ -9,8 +9,8 @@ use Rattle.limits.specs.Limits.{faultBytes}
 use Rattle.deck.specs.Lines.{Line, linesOf, dotted}
 use Rattle.deck.specs.Reading.{Statement, fresh, reading, closedIn, stateAfter}
 use Rattle.deck.specs.Reports.{report}
-use Rattle.deck.proofs.Local.{later, laterReport}
-use Rattle.deck.proofs.Whole.{Seam}
+use Rattle.deck.specs.Later.{later, laterReport}
+use Rattle.deck.specs.Later.{Seam}
 use Rattle.sheet.specs.Sheet.{Sheet, Fault, statementFaults, faultList}
 use Rattle.sheet.specs.Reader.{told, sheetOf}
 use Rattle.translator.specs.declared.Verdict.{Verdict as Reply}

@@ -10,9 +10,7 @@ use lib.ListN.{length, getD}
 use lib.Ieee.{Float, nan, binary64, ofInt, add, sub, mul, div, neg, lt, le}
 use Rattle.grammar.specs.Tree.{Two, plus, minus, times, over, compar, Three, insw, limit, Tree, value, named, time, negated, two, three}
 use Rattle.grammar.specs.Tree.{Initial, plain, from}
-use Rattle.sheet.specs.Sheet.{said}
-use Rattle.sheet.specs.Reader.{sheetOf}
-use Rattle.model.specs.Definitions.{What, constant, assigned, integral, Def, definitions, slotIn}
+use Rattle.model.specs.Definitions.{What, constant, assigned, integral, Def, slotIn}
 
 -- ---- the value of an expression. Operators group as the tree says; each operation is IEEE 754's on f64 and rounds once
 
@@ -54,10 +52,6 @@ noDef = record { line = 0; key = 0; what = constant nan }
 -- the definition at place i
 abbrev pub definitionAt : List Def → ℕ → Def
 definitionAt ds i = getD ds i noDef
-
--- the definitions of a text's statements
-abbrev pub definitionsOf : List ℕ → List Def
-definitionsOf text = definitions (said (sheetOf text))
 
 -- y is the value of an initial: a number is itself; a name is resolved, to the value of the constant of that name
 abbrev pub Resolved : List Def → Initial → Float → Type 0

@@ -13,7 +13,7 @@ use Rattle.sheet.specs.Reader.{sheetOf}
 use Rattle.order.specs.Order.{_≼_, Unsortable}
 use Rattle.model.specs.Definitions.{Def, equationCount}
 use Rattle.model.specs.Faults.{faults21, nameFaults, usesIn, GoodOrder}
-use Rattle.model.proofs.Lines.{textDefinitions, lineAt}
+use Rattle.model.specs.Text.{textDefinitions, lineAt}
 use Rattle.program.specs.Program.{program}
 use Rattle.translator.specs.Verdict.{faulty, fitted, verdictOf, numberOf}
 use Rattle.promises.specs.Change.{Admitted}

@@ -17,7 +17,8 @@ use Rattle.records.specs.Record.{Rec, rec}
 use Rattle.program.specs.Program.{instrItem}
 use Rattle.sheet.specs.Sheet.{Told, says, Numbered, said}
 use Rattle.sheet.specs.Reader.{sheetOf}
-use Rattle.promises.specs.Meaning.{definitionAt, definitionsOf, Resolved}
+use Rattle.model.specs.Text.{textDefinitions}
+use Rattle.promises.specs.Meaning.{definitionAt, Resolved}
 
 -- the records of kind k with slot s, as they follow one another in a program
 abbrev pub isFor : ℕ → ℕ → Rec → Bool
@@ -59,5 +60,5 @@ reported s = record { line = s .line; what = says (s .says) }
 pub record NothingLost (text : List ℕ) (rs : List Rec) : Type 0 where
   pub taken : sheetOf text ≡ map reported (said (sheetOf text))
   pub recorded :
-      let ds = definitionsOf text in
+      let ds = textDefinitions text in
       (i : ℕ) → i < length ds → RecordsOf ds rs (definitionAt ds i .line) (suc i) (definitionAt ds i .what)

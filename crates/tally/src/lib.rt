@@ -1,4 +1,7 @@
 // Counting comparisons: how many were tried and how many differ, with a line printed for each that does.
+ghost use mathlib.Core.Path.{_≡_};
+ghost use lib.Dec.{eqb};
+ghost use Rattle.tally.specs.Counted.{counted};
 use libc::STDOUT_FILENO;
 
 // How many comparisons were tried, and how many of them differ.
@@ -8,7 +11,9 @@ pub struct Tally {
 }
 
 // None so far.
-pub fn none() -> Tally {
+pub fn none() -> Tally
+    ensures { λ r. ⌜ (r .tried ≡ 0) × (r .differ ≡ 0) ⌝ }
+{
     Tally {
         tried: 0,
         differ: 0,
@@ -16,7 +21,9 @@ pub fn none() -> Tally {
 }
 
 // One comparison more. If it differs its number is printed.
-pub fn right(t: Tally, same: bool) -> Tally {
+pub fn right(t: Tally, same: bool) -> Tally
+    ensures { λ r. ⌜ r ≡ counted t same ⌝ }
+{
     let tried = t.tried;
     let differ = t.differ;
     if 10000 < tried {
@@ -41,7 +48,9 @@ pub fn right(t: Tally, same: bool) -> Tally {
 }
 
 // A number is as wanted.
-pub fn number(t: Tally, got: usize, wanted: usize) -> Tally {
+pub fn number(t: Tally, got: usize, wanted: usize) -> Tally
+    ensures { λ r. ⌜ r ≡ counted t (eqb got wanted) ⌝ }
+{
     right(t, got == wanted)
 }
 

@@ -171,7 +171,7 @@ quotient-finite m k h l =
 -- ---- the value of a number in range
 
 -- m and k are in range
-range : (m up down : ℕ) → inRange m up down ≡ true → (m ≤ mostDigits) × (up ≤ down + mostTens) × (down ≤ up + mostTens)
+pub range : (m up down : ℕ) → inRange m up down ≡ true → (m ≤ mostDigits) × (up ≤ down + mostTens) × (down ≤ up + mostTens)
 range m up down t =
     let a = and-true (leb m mostDigits) (leb up (down + mostTens) && leb down (up + mostTens)) t in
     let b = and-true (leb up (down + mostTens)) (leb down (up + mostTens)) (a .1) in

@@ -85,7 +85,7 @@ model-few ss m h k =
     either (x ∷ f) g a b = a
 
 -- ---- the statements' faults, and what is said
-faults-few : (sheet : Sheet) → length (statementFaults sheet) ≤ length sheet
+pub faults-few : (sheet : Sheet) → length (statementFaults sheet) ≤ length sheet
 faults-few sheet = concat-few _ (λ r. one (r .line) (r .what)) sheet
   where
     one : (l : ℕ) (t : Told) → length (faultBy l t) ≤ 1

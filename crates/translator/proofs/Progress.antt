@@ -24,6 +24,7 @@ use Rattle.grammar.specs.Drafts.{Draft, draftsOf}
 use Rattle.sheet.specs.Sheet.{Told, says, faulty, Sheet, Numbered, said, Fault, statementFaults, faultEntry, faultList}
 use Rattle.sheet.specs.Reader.{told, sheetOf}
 use Rattle.sheet.specs.Layout.{draftsIn, boundsFrom}
+use Rattle.model.proofs.Reporting.{list-length}
 use Rattle.translator.specs.declared.Tally.{Tally}
 use Rattle.translator.specs.Working.{kindsOf, argsOf, Progress, Read}
 
@@ -80,12 +81,6 @@ bounds-snoc o (z ∷ ss) s =
     let e : o + length (draftsOf (z .says)) + length (draftsIn ss) ≡ o + length (draftsOf (z .says) ++ draftsIn ss) =
     omega (arith, length-append (draftsOf (z .says)) (draftsIn ss)) in
     ap (λ (r : List ℕ). o ∷ r) (bounds-snoc (o + length (draftsOf (z .says))) ss s ∙ rw e)
-
--- a fault has four bytes in the list
-length-list : (fs : List Fault) → length (faultList fs) ≡ 4 * length fs
-unfolding faultList faultEntry concat-map lowBytes
-length-list [] = refl
-length-list (f ∷ fs) = omega (arith, length-list fs)
 
 list-snoc : (fs : List Fault) (f : Fault) → faultList (fs ++ (f ∷ [])) ≡ faultList fs ++ faultEntry f
 unfolding faultList concat-map
@@ -171,7 +166,7 @@ module _ {text list₀ kinds args lines bounds list : List ℕ} {c : Cursor} {n 
       let new : Fault = record { line = f; code = code; place = q } in
       let more : statementFaults done ≡ old ++ (new ∷ []) = faults-snoc (p .done) (here (faulty code q)) in
       let same : said done ≡ said (p .done) = said-snoc (p .done) (here (faulty code q)) ∙ append-nil (said (p .done)) in
-      let at : n .faults * 4 ≡ 0 + length (faultList old) = omega (arith, p .faults, length-list old) in
+      let at : n .faults * 4 ≡ 0 + length (faultList old) = omega (arith, p .faults, list-length old) in
       record {
         done = done;
         split = split-next e;

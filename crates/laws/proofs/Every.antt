@@ -1,14 +1,10 @@
--- What holds of each member of a list.
+-- Laws of what holds of each member of a list.
 use Prim.Native.Nat.{ℕ, zero, suc, _<_}
 use mathlib.Core.List.{List, [], _∷_, _++_, map}
 use native.Mathlib.Omega.{arith}
 use lib.ListN.{length, getD}
+use Rattle.laws.specs.Every.{Every}
 use Rattle.laws.specs.Lists.{concat-map}
-
--- P of each
-abbrev pub Every : {A : Type 0} → (A → Type 0) → List A → Type 0
-Every P [] = Unit {0}
-Every P (a ∷ l) = P a × Every P l
 
 module _ {A : Type 0} (P : A → Type 0) where
   -- of two rows
@@ -32,6 +28,17 @@ module _ {A : Type 0} (P : A → Type 0) where
   every-at (e ∷ l) d a zero h = a .0
   every-at (e ∷ l) d a (suc i) h = every-at l d (a .1) i (omega arith)
 
+  -- of what is read at any place, if what is read past the end has it
+  pub every-anywhere : (d : A) → P d → (l : List A) (i : ℕ) → Every P l → P (getD l i d)
+  every-anywhere d z [] i a = z
+  every-anywhere d z (e ∷ l) zero a = a .0
+  every-anywhere d z (e ∷ l) (suc i) a = every-anywhere d z l i (a .1)
+
+  -- of the one between two rows
+  pub every-inside : (x : List A) (e : A) (y : List A) → Every P (x ++ e ∷ y) → P e
+  every-inside [] e y a = a .0
+  every-inside (b ∷ x) e y a = every-inside x e y (a .1)
+
   -- of all
   pub every-all : ((a : A) → P a) → (l : List A) → Every P l
   every-all f [] = tt
@@ -54,3 +61,9 @@ pub every-mapped : {A B : Type 0} (P : A → Type 0) (Q : B → Type 0) (f : A �
     → (l : List A) → Every P l → Every Q (map f l)
 every-mapped P Q f g [] a = tt
 every-mapped P Q f g (e ∷ l) a = (g e (a .0), every-mapped P Q f g l (a .1))
+
+-- of rows of any members
+pub every-part : {A B : Type 0} (Q : B → Type 0) (f : A → List B) → ((a : A) → Every Q (f a)) → (l : List A) → Every Q (concat-map f l)
+unfolding concat-map
+every-part Q f g [] = tt
+every-part Q f g (e ∷ l) = every-append Q (f e) (concat-map f l) (g e) (every-part Q f g l)
