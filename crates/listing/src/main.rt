@@ -19,11 +19,23 @@ fn write_front(out: &[u8], m: usize) {
     io::write_all(STDOUT_FILENO, &out[..m]);
 }
 
-// Reads, lists, writes.
+// Whether standard input has ended: a read gives no byte and does not fail.
+fn at_end() -> bool {
+    let mut byte = [0u8; 1];
+    libc::read(STDIN_FILENO, &mut byte) == 0
+}
+
+// Reads, lists, writes. A text whose reading failed before its end is not listed.
 fn main() {
     let mut text = [0u8; READ];
     let mut out = [0u8; LISTED];
     let n = io::read_full(STDIN_FILENO, &mut text);
+    if n < READ {
+        if !at_end() {
+            io::write_all(STDERR_FILENO, b"the text could not be read to its end\n");
+            return;
+        }
+    }
     let m = listing_text::list(&text[..n], &mut out);
     write_front(&out, m);
 }

@@ -1,0 +1,382 @@
+//! Translate a model text into a program of records, and run it.
+//!
+//! The four functions are those of the proved library `libfloesedge.a`, on slices. They allocate nothing, keep nothing
+//! between calls and always return. What the library leaves to its callers (valid, aligned pointers and buffers that do
+//! not overlap) is what Rust's slices are.
+//!
+//! ```
+//! use floesedge::{start, step, translate, Answer, Verdict, FAULT_ROOM, PROGRAM_ROOM, RECORD_BYTES, SLOTS};
+//!
+//! let mut faults = [0; FAULT_ROOM];
+//! let mut program = vec![0; PROGRAM_ROOM];
+//! let verdict = translate(b"X=INTGRL(1,-X)\n", &mut faults, &mut program);
+//! assert_eq!(verdict, Verdict::Translated { records: 4 });
+//!
+//! let program = &program[..verdict.count() * RECORD_BYTES];
+//! let (mut values, mut derivs) = ([0.0; SLOTS], [0.0; SLOTS]);
+//! assert_eq!(start(program, &mut values, &mut derivs), Answer::Done);
+//! assert_eq!(step(program, 0.25, &mut values, &mut derivs), Answer::Done);
+//! assert_eq!(values[..2], [0.25, 0.75]); // TIME and X
+//! ```
+
+use std::fmt;
+
+/// Bytes to lend for the fault list; fewer is verdict 1.
+pub const FAULT_ROOM: usize = 1024;
+/// Bytes that hold every program.
+pub const PROGRAM_ROOM: usize = MOST_RECORDS * RECORD_BYTES;
+/// Places to lend in values and in derivatives; fewer is answer 1.
+pub const SLOTS: usize = 256;
+/// Bytes of a record.
+pub const RECORD_BYTES: usize = 16;
+/// Bytes of a fault.
+pub const FAULT_BYTES: usize = 4;
+/// Most bytes of a text.
+pub const MOST_TEXT_BYTES: usize = 16_384;
+/// Most lines of a text.
+pub const MOST_LINES: usize = 512;
+/// Most statements of a text.
+pub const MOST_STATEMENTS: usize = 256;
+/// Most definitions of a text.
+pub const MOST_DEFINITIONS: usize = 255;
+/// Most records of a program.
+pub const MOST_RECORDS: usize = 4096;
+
+/// What translating says, by its number from 0 to 8.
+#[derive(Clone, Copy, Debug, PartialEq, Eq)]
+pub enum Verdict {
+    /// 0: the program is written, so many records.
+    Translated { records: usize },
+    /// 1: fewer than [`FAULT_ROOM`] bytes lent for the fault list.
+    FaultListShort,
+    /// 2: over [`MOST_TEXT_BYTES`].
+    TextTooLong,
+    /// 3: over [`MOST_LINES`].
+    TooManyLines,
+    /// 4: over [`MOST_STATEMENTS`].
+    TooManyStatements,
+    /// 5: the fault list is written, so many faults with codes 11 to 19.
+    StatementFaults { faults: usize },
+    /// 6: over [`MOST_DEFINITIONS`], doubles counted.
+    TooManyDefinitions,
+    /// 7: the fault list is written, so many faults with codes 21 to 24.
+    ModelFaults { faults: usize },
+    /// 8: over [`MOST_RECORDS`], or over the bytes lent divided by [`RECORD_BYTES`].
+    ProgramTooLarge,
+}
+
+impl Verdict {
+    /// The number, from 0 to 8.
+    pub fn number(self) -> u32 {
+        match self {
+            Verdict::Translated { .. } => 0,
+            Verdict::FaultListShort => 1,
+            Verdict::TextTooLong => 2,
+            Verdict::TooManyLines => 3,
+            Verdict::TooManyStatements => 4,
+            Verdict::StatementFaults { .. } => 5,
+            Verdict::TooManyDefinitions => 6,
+            Verdict::ModelFaults { .. } => 7,
+            Verdict::ProgramTooLarge => 8,
+        }
+    }
+
+    /// Records for 0, faults for 5 and 7, else 0.
+    pub fn count(self) -> usize {
+        match self {
+            Verdict::Translated { records } => records,
+            Verdict::StatementFaults { faults } | Verdict::ModelFaults { faults } => faults,
+            _ => 0,
+        }
+    }
+}
+
+impl fmt::Display for Verdict {
+    fn fmt(&self, f: &mut fmt::Formatter<'_>) -> fmt::Result {
+        write!(f, "verdict {}: ", self.number())?;
+        match self {
+            Verdict::Translated { records } => write!(f, "translated, {records} records"),
+            Verdict::FaultListShort => f.write_str("the fault list lent has fewer than 1024 bytes"),
+            Verdict::TextTooLong => f.write_str("the text has more than 16384 bytes"),
+            Verdict::TooManyLines => f.write_str("the text has more than 512 lines"),
+            Verdict::TooManyStatements => f.write_str("the text has more than 256 statements"),
+            Verdict::StatementFaults { faults } => write!(f, "statement faults, {faults} of them"),
+            Verdict::TooManyDefinitions => f.write_str("the text has more than 255 definitions"),
+            Verdict::ModelFaults { faults } => write!(f, "model faults, {faults} of them"),
+            Verdict::ProgramTooLarge => {
+                f.write_str("the program has more than 4096 records, or more than the bytes lent hold")
+            }
+        }
+    }
+}
+
+/// The code of a fault.
+#[derive(Clone, Copy, Debug, PartialEq, Eq)]
+#[repr(u8)]
+pub enum Code {
+    OpenEnd = 11,
+    TooManyCards = 12,
+    LineTooLong = 13,
+    BadByte = 14,
+    LongName = 15,
+    BadNumber = 16,
+    NumberRange = 17,
+    Grammar = 18,
+    TooDeep = 19,
+    DefinedTwice = 21,
+    Undefined = 22,
+    Initial = 23,
+    Unsortable = 24,
+}
+
+impl Code {
+    /// Every code, in rising order.
+    pub const ALL: [Code; 13] = [
+        Code::OpenEnd,
+        Code::TooManyCards,
+        Code::LineTooLong,
+        Code::BadByte,
+        Code::LongName,
+        Code::BadNumber,
+        Code::NumberRange,
+        Code::Grammar,
+        Code::TooDeep,
+        Code::DefinedTwice,
+        Code::Undefined,
+        Code::Initial,
+        Code::Unsortable,
+    ];
+
+    /// The code with this number.
+    pub fn from_number(number: u8) -> Option<Code> {
+        Code::ALL.into_iter().find(|code| *code as u8 == number)
+    }
+}
+
+impl fmt::Display for Code {
+    fn fmt(&self, f: &mut fmt::Formatter<'_>) -> fmt::Result {
+        let words = match self {
+            Code::OpenEnd => "the text ends while the statement continues",
+            Code::TooManyCards => "the statement has more than 4 lines",
+            Code::LineTooLong => "a line of the statement has more than 72 bytes",
+            Code::BadByte => "a byte that is no letter A to Z, digit, point, space or mark",
+            Code::LongName => "a name of more than 6 characters",
+            Code::BadNumber => "a malformed number",
+            Code::NumberRange => "a number with too many digits or too large a power of ten",
+            Code::Grammar => "the grammar: no statement goes on like this",
+            Code::TooDeep => "parentheses and calls more than 16 deep",
+            Code::DefinedTwice => "a name that is already defined",
+            Code::Undefined => "a name that nothing defines",
+            Code::Initial => "the initial name is no constant",
+            Code::Unsortable => "in a loop without a state, or behind one",
+        };
+        write!(f, "{}, {words}", *self as u8)
+    }
+}
+
+/// A fault: the first line of its statement, from 1, and its code.
+#[derive(Clone, Copy, Debug, PartialEq, Eq)]
+pub struct Fault {
+    pub line: u16,
+    pub code: Code,
+}
+
+impl fmt::Display for Fault {
+    fn fmt(&self, f: &mut fmt::Formatter<'_>) -> fmt::Result {
+        write!(f, "line {}: {}", self.line, self.code)
+    }
+}
+
+/// The faults that a verdict 5 or 7 wrote to the list; none for another verdict.
+pub fn faults_of(verdict: Verdict, list: &[u8]) -> impl Iterator<Item = Fault> + '_ {
+    let count = match verdict {
+        Verdict::StatementFaults { faults } | Verdict::ModelFaults { faults } => faults,
+        _ => 0,
+    };
+    list.chunks_exact(FAULT_BYTES).take(count).filter_map(|fault| {
+        Some(Fault {
+            line: u16::from_le_bytes([fault[0], fault[1]]),
+            code: Code::from_number(fault[2])?,
+        })
+    })
+}
+
+/// What evaluating, starting and stepping say, by its number from 0 to 4. All but [`Answer::Done`] write nothing.
+#[derive(Clone, Copy, Debug, PartialEq, Eq)]
+pub enum Answer {
+    /// 0: without refusal.
+    Done,
+    /// 1: values or derivatives have fewer than [`SLOTS`] places.
+    RoomShort,
+    /// 2: the program is no multiple of [`RECORD_BYTES`], or has over [`MOST_RECORDS`] records.
+    BadLength,
+    /// 3: the first bad record, from 0.
+    BadRecord { record: usize },
+    /// 4: the end finds a value on the stack, or a state without derivative.
+    BadEnd,
+}
+
+impl Answer {
+    /// The number, from 0 to 4.
+    pub fn number(self) -> u32 {
+        match self {
+            Answer::Done => 0,
+            Answer::RoomShort => 1,
+            Answer::BadLength => 2,
+            Answer::BadRecord { .. } => 3,
+            Answer::BadEnd => 4,
+        }
+    }
+}
+
+impl fmt::Display for Answer {
+    fn fmt(&self, f: &mut fmt::Formatter<'_>) -> fmt::Result {
+        write!(f, "answer {}: ", self.number())?;
+        match self {
+            Answer::Done => f.write_str("done"),
+            Answer::RoomShort => f.write_str("values or derivatives have fewer than 256 places"),
+            Answer::BadLength => f.write_str("the program is no multiple of 16 bytes, or has more than 4096 records"),
+            Answer::BadRecord { record } => write!(f, "record {record} is bad"),
+            Answer::BadEnd => f.write_str("the end finds a value on the stack, or a state without derivative"),
+        }
+    }
+}
+
+/// The library's own functions and answers, as include/floesedge.h has them.
+mod library {
+    #[repr(C)]
+    pub struct Verdict {
+        pub number: u32,
+        pub count: u32,
+    }
+
+    #[repr(C)]
+    pub struct Answer {
+        pub number: u32,
+        pub record: u32,
+    }
+
+    extern "C" {
+        pub fn floesedge_translate(
+            text: *const u8,
+            text_len: usize,
+            faults: *mut u8,
+            faults_len: usize,
+            program: *mut u8,
+            program_len: usize,
+        ) -> Verdict;
+        pub fn floesedge_evaluate(
+            program: *const u8,
+            program_len: usize,
+            values: *mut f64,
+            values_len: usize,
+            derivs: *mut f64,
+            derivs_len: usize,
+        ) -> Answer;
+        pub fn floesedge_start(
+            program: *const u8,
+            program_len: usize,
+            values: *mut f64,
+            values_len: usize,
+            derivs: *mut f64,
+            derivs_len: usize,
+        ) -> Answer;
+        pub fn floesedge_step(
+            program: *const u8,
+            program_len: usize,
+            h: f64,
+            values: *mut f64,
+            values_len: usize,
+            derivs: *mut f64,
+            derivs_len: usize,
+        ) -> Answer;
+    }
+}
+
+// SAFETY of the four calls: each pointer and length are those of one slice, so the pointer is aligned and not null, also
+// where the slice is empty, and valid for the length; a slice that is written to is borrowed alone, so it overlaps none.
+
+/// Translates a text. Verdict 0 writes the program and 5 and 7 write the fault list, from the front of what is lent; bytes
+/// past that, and the other buffer, stay. Any other verdict writes nothing.
+pub fn translate(text: &[u8], faults: &mut [u8], program: &mut [u8]) -> Verdict {
+    let library::Verdict { number, count } = unsafe {
+        library::floesedge_translate(
+            text.as_ptr(),
+            text.len(),
+            faults.as_mut_ptr(),
+            faults.len(),
+            program.as_mut_ptr(),
+            program.len(),
+        )
+    };
+    let count = count as usize;
+    match number {
+        0 => Verdict::Translated { records: count },
+        1 => Verdict::FaultListShort,
+        2 => Verdict::TextTooLong,
+        3 => Verdict::TooManyLines,
+        4 => Verdict::TooManyStatements,
+        5 => Verdict::StatementFaults { faults: count },
+        6 => Verdict::TooManyDefinitions,
+        7 => Verdict::ModelFaults { faults: count },
+        8 => Verdict::ProgramTooLarge,
+        _ => unreachable!("the library's verdicts are 0 to 8"),
+    }
+}
+
+/// Evaluates a program: reads slot 0 and the states, writes constants, assigned names and the states' derivatives. Other
+/// places stay.
+pub fn evaluate(program: &[u8], values: &mut [f64], derivs: &mut [f64]) -> Answer {
+    answer(unsafe {
+        library::floesedge_evaluate(
+            program.as_ptr(),
+            program.len(),
+            values.as_mut_ptr(),
+            values.len(),
+            derivs.as_mut_ptr(),
+            derivs.len(),
+        )
+    })
+}
+
+/// Starts a program: slot 0 is 0, and each state has its initial value. Other places stay.
+pub fn start(program: &[u8], values: &mut [f64], derivs: &mut [f64]) -> Answer {
+    answer(unsafe {
+        library::floesedge_start(
+            program.as_ptr(),
+            program.len(),
+            values.as_mut_ptr(),
+            values.len(),
+            derivs.as_mut_ptr(),
+            derivs.len(),
+        )
+    })
+}
+
+/// One Euler step: evaluates, then adds `h` times its derivative to each state, and `h` to slot 0.
+pub fn step(program: &[u8], h: f64, values: &mut [f64], derivs: &mut [f64]) -> Answer {
+    answer(unsafe {
+        library::floesedge_step(
+            program.as_ptr(),
+            program.len(),
+            h,
+            values.as_mut_ptr(),
+            values.len(),
+            derivs.as_mut_ptr(),
+            derivs.len(),
+        )
+    })
+}
+
+fn answer(given: library::Answer) -> Answer {
+    match given.number {
+        0 => Answer::Done,
+        1 => Answer::RoomShort,
+        2 => Answer::BadLength,
+        3 => Answer::BadRecord {
+            record: given.record as usize,
+        },
+        4 => Answer::BadEnd,
+        _ => unreachable!("the library's answers are 0 to 4"),
+    }
+}

@@ -1,0 +1,386 @@
+//! Compares the library with the peer on random texts and programs.
+//!
+//! `check N SEED [FROM]`: N texts and N programs of a seed, from case FROM on.
+
+use std::collections::BTreeMap;
+use std::process::ExitCode;
+
+use floesedge_check::random::Random;
+use floesedge_check::{library, programs, texts};
+use floesedge_peer::{self as peer, Answer, Reason, Verdict};
+
+/// How many differences are shown before the run stops.
+const SHOWN: usize = 5;
+/// Bytes or floats around each lent buffer that nobody may touch.
+const MARGIN: usize = 64;
+
+/// How often each outcome occurred.
+#[derive(Default)]
+struct Counts {
+    verdicts: BTreeMap<u32, u64>,
+    faults: BTreeMap<u8, u64>,
+    answers: BTreeMap<u32, u64>,
+    reasons: BTreeMap<Reason, u64>,
+}
+
+fn main() -> ExitCode {
+    let mut arguments = std::env::args()
+        .skip(1)
+        .map(|argument| argument.parse::<u64>());
+    let (Some(Ok(count)), Some(Ok(seed))) = (arguments.next(), arguments.next()) else {
+        eprintln!("use: check N SEED [FROM]");
+        return ExitCode::from(2);
+    };
+    let from = arguments.next().and_then(Result::ok).unwrap_or(0);
+    let mut counts = Counts::default();
+    let mut differences = 0;
+    for case in from..from + count {
+        differences += check_text(seed, case, &mut counts) as usize;
+        differences += check_program(seed, case, &mut counts) as usize;
+        if differences >= SHOWN {
+            println!("stopped at case {case} after {differences} differences");
+            return ExitCode::FAILURE;
+        }
+    }
+    let complete = report(&counts);
+    println!("{count} texts and {count} programs of seed {seed}: {differences} differences");
+    if differences > 0 || (count >= 2000 && !complete) {
+        ExitCode::FAILURE
+    } else {
+        ExitCode::SUCCESS
+    }
+}
+
+/// Prints how often each outcome occurred; false if any never did.
+fn report(counts: &Counts) -> bool {
+    let mut complete = true;
+    let mut line = |name: String, count: Option<&u64>| {
+        let count = count.copied().unwrap_or(0);
+        complete &= count > 0;
+        println!(
+            "{name:<34}{count:>10}{}",
+            if count == 0 { "  NEVER" } else { "" }
+        );
+    };
+    for number in 0..=8 {
+        line(format!("verdict {number}"), counts.verdicts.get(&number));
+    }
+    for code in (11..=19).chain(21..=24) {
+        line(format!("fault {code}"), counts.faults.get(&code));
+    }
+    for number in 0..=4 {
+        line(format!("answer {number}"), counts.answers.get(&number));
+    }
+    for reason in Reason::ALL {
+        line(format!("{reason:?}"), counts.reasons.get(&reason));
+    }
+    complete
+}
+
+// Texts.
+
+/// What a translator gave back: verdict, and both buffers whole.
+type Translated = (Verdict, Vec<u8>, Vec<u8>);
+
+/// A translator.
+type Translate = fn(&[u8], &mut [u8], &mut [u8]) -> Verdict;
+
+/// Runs a translator on buffers of given lengths, filled with a pattern and
+/// lent without their margins.
+fn run_text(translate: Translate, text: &[u8], rooms: (usize, usize), pattern: u64) -> Translated {
+    let mut faults = Random::new(pattern, 1).bytes(rooms.0 + 2 * MARGIN);
+    let mut program = Random::new(pattern, 2).bytes(rooms.1 + 2 * MARGIN);
+    let lent_faults = &mut faults[MARGIN..MARGIN + rooms.0];
+    let lent_program = &mut program[MARGIN..MARGIN + rooms.1];
+    let verdict = translate(text, lent_faults, lent_program);
+    (verdict, faults, program)
+}
+
+/// Random lengths to lend for a text.
+fn rooms(random: &mut Random, text: &[u8]) -> (usize, usize) {
+    let faults = match random.below(24) {
+        0 => random.pick(&[0, 4, 512, 1020, 1023]),
+        1..=3 => random.pick(&[1025, 1028, 1500, 2048, 4096]),
+        _ => 1024,
+    };
+    let verdict = peer::translate(text, &mut [0; 1024], &mut vec![0; 65_536]);
+    let needed = verdict.count as usize * 16;
+    let program = match random.below(10) {
+        0 if verdict.number == 0 => needed.saturating_sub(1),
+        1 if verdict.number == 0 => needed.saturating_sub(random.range(1, 40)),
+        2 | 3 if verdict.number == 0 => needed,
+        4 if verdict.number == 0 => needed + random.range(1, 40),
+        _ if verdict.number == 8 => random.pick(&[65_535, 65_536, 65_551, 65_552, 66_000, 70_000]),
+        5 => random.pick(&[0, 15, 16, 100, 4096, 65_520, 65_535]),
+        6 => 70_000,
+        _ => 65_536,
+    };
+    (faults, program)
+}
+
+/// Compares both translators on one case; true if they differ.
+fn check_text(seed: u64, case: u64, counts: &mut Counts) -> bool {
+    let mut random = Random::new(seed, case * 2);
+    let text = texts::text(&mut random);
+    let rooms = rooms(&mut random, &text);
+    let pattern = random.word();
+    let ours = run_text(peer::translate, &text, rooms, pattern);
+    let theirs = run_text(library::translate, &text, rooms, pattern);
+    *counts.verdicts.entry(ours.0.number).or_default() += 1;
+    for code in fault_codes(&ours) {
+        *counts.faults.entry(code).or_default() += 1;
+    }
+    if ours == theirs {
+        return false;
+    }
+    let differs = |text: &[u8]| {
+        run_text(peer::translate, text, rooms, pattern)
+            != run_text(library::translate, text, rooms, pattern)
+    };
+    let text = shrink(text, 1, differs);
+    println!(
+        "DIFFERENCE in text of case {case}, lent {} and {} bytes",
+        rooms.0, rooms.1
+    );
+    println!("text: {}", text.escape_ascii());
+    println!("hex: {}", hex(&text));
+    show_text("peer", &run_text(peer::translate, &text, rooms, pattern));
+    show_text(
+        "library",
+        &run_text(library::translate, &text, rooms, pattern),
+    );
+    true
+}
+
+/// The codes in a written fault list.
+fn fault_codes(translated: &Translated) -> Vec<u8> {
+    let (verdict, faults, _) = translated;
+    let written = if matches!(verdict.number, 5 | 7) {
+        verdict.count as usize
+    } else {
+        0
+    };
+    faults[MARGIN..]
+        .chunks_exact(4)
+        .take(written)
+        .map(|fault| fault[2])
+        .collect()
+}
+
+/// Prints what a translator gave back.
+fn show_text(who: &str, translated: &Translated) {
+    let (verdict, faults, program) = translated;
+    println!("{who}: verdict {} count {}", verdict.number, verdict.count);
+    let inside = |buffer: &[u8], most: usize| {
+        let end = buffer.len() - MARGIN;
+        hex(&buffer[MARGIN..end.min(MARGIN + most)])
+    };
+    let written = |kind: bool, size: usize| {
+        if kind {
+            verdict.count as usize * size
+        } else {
+            0
+        }
+    };
+    let listed = written(matches!(verdict.number, 5 | 7), 4);
+    println!("  fault list: {} ..", inside(faults, listed + 4));
+    println!(
+        "  program: {} ..",
+        inside(program, written(verdict.number == 0, 16).min(3200) + 4)
+    );
+}
+
+// Programs.
+
+/// The steps tried one after another on the same buffers.
+#[derive(Clone, Copy)]
+enum Act {
+    Evaluate,
+    Start,
+    Step(f64),
+}
+
+/// What an evaluator gave back: its answers, and the bits of both buffers
+/// after each act, margins included.
+type Evaluated = Vec<(Answer, Vec<u64>, Vec<u64>)>;
+
+/// An evaluator: its three functions.
+struct Evaluator {
+    evaluate: fn(&[u8], &mut [f64], &mut [f64]) -> Answer,
+    start: fn(&[u8], &mut [f64], &mut [f64]) -> Answer,
+    step: fn(&[u8], f64, &mut [f64], &mut [f64]) -> Answer,
+}
+
+const PEER: Evaluator = Evaluator {
+    evaluate: peer::evaluate,
+    start: peer::start,
+    step: peer::step,
+};
+const LIBRARY: Evaluator = Evaluator {
+    evaluate: library::evaluate,
+    start: library::start,
+    step: library::step,
+};
+
+/// The bits of floats, all NaNs as one.
+fn bits(floats: &[f64]) -> Vec<u64> {
+    floats
+        .iter()
+        .map(|float| {
+            if float.is_nan() {
+                f64::NAN.to_bits()
+            } else {
+                float.to_bits()
+            }
+        })
+        .collect()
+}
+
+/// Runs all acts of an evaluator on buffers of given lengths.
+fn run_program(
+    evaluator: &Evaluator,
+    program: &[u8],
+    acts: &[Act],
+    rooms: (usize, usize),
+    pattern: u64,
+) -> Evaluated {
+    let mut random = Random::new(pattern, 3);
+    let mut floats =
+        |room: usize| -> Vec<f64> { (0..room + 2 * MARGIN).map(|_| random.float()).collect() };
+    let (mut values, mut derivs) = (floats(rooms.0), floats(rooms.1));
+    let mut outcomes = Vec::new();
+    for act in acts {
+        let lent_values = &mut values[MARGIN..MARGIN + rooms.0];
+        let lent_derivs = &mut derivs[MARGIN..MARGIN + rooms.1];
+        let answer = match *act {
+            Act::Evaluate => (evaluator.evaluate)(program, lent_values, lent_derivs),
+            Act::Start => (evaluator.start)(program, lent_values, lent_derivs),
+            Act::Step(h) => (evaluator.step)(program, h, lent_values, lent_derivs),
+        };
+        outcomes.push((answer, bits(&values), bits(&derivs)));
+    }
+    outcomes
+}
+
+/// A random length to lend for values or derivatives.
+fn room(random: &mut Random) -> usize {
+    match random.below(40) {
+        0 => random.pick(&[0, 1, 254, 255]),
+        1..=4 => random.pick(&[257, 300]),
+        _ => 256,
+    }
+}
+
+/// Random acts.
+fn acts(random: &mut Random) -> Vec<Act> {
+    let mut acts = match random.below(3) {
+        0 => vec![Act::Evaluate],
+        1 => vec![Act::Start, Act::Evaluate],
+        _ => vec![Act::Evaluate, Act::Start],
+    };
+    for _ in 0..3 {
+        let h = if random.once_in(2) {
+            random.pick(&[0.1, 0.01, 1.0, 1e-9])
+        } else {
+            random.float()
+        };
+        acts.push(Act::Step(h));
+    }
+    acts
+}
+
+/// Compares both evaluators on one case; true if they differ.
+fn check_program(seed: u64, case: u64, counts: &mut Counts) -> bool {
+    let mut random = Random::new(seed, case * 2 + 1);
+    let program = programs::program(&mut random);
+    let acts = acts(&mut random);
+    let rooms = (room(&mut random), room(&mut random));
+    let pattern = random.word();
+    let ours = run_program(&PEER, &program, &acts, rooms, pattern);
+    let theirs = run_program(&LIBRARY, &program, &acts, rooms, pattern);
+    let number = ours[0].0.number;
+    *counts.answers.entry(number).or_default() += 1;
+    if let (3 | 4, Err(refusal)) = (number, peer::judge_reason(&program)) {
+        *counts.reasons.entry(refusal.reason).or_default() += 1;
+    }
+    if ours == theirs {
+        return false;
+    }
+    let differs = |program: &[u8]| {
+        run_program(&PEER, program, &acts, rooms, pattern)
+            != run_program(&LIBRARY, program, &acts, rooms, pattern)
+    };
+    let program = shrink(program, 16, differs);
+    println!(
+        "DIFFERENCE in program of case {case}, lent {} values and {} derivatives",
+        rooms.0, rooms.1
+    );
+    for record in program.chunks(16) {
+        println!("  {}", hex(record));
+    }
+    let ours = run_program(&PEER, &program, &acts, rooms, pattern);
+    let theirs = run_program(&LIBRARY, &program, &acts, rooms, pattern);
+    show_program(&acts, &ours, &theirs);
+    true
+}
+
+/// Prints where two evaluators first part.
+fn show_program(acts: &[Act], ours: &Evaluated, theirs: &Evaluated) {
+    for (i, (a, b)) in ours.iter().zip(theirs).enumerate() {
+        let name = match acts[i] {
+            Act::Evaluate => "evaluate".into(),
+            Act::Start => "start".into(),
+            Act::Step(h) => format!("step of {h:e}"),
+        };
+        println!(
+            "{name}: peer {} record {}, library {} record {}",
+            a.0.number, a.0.record, b.0.number, b.0.record
+        );
+        let parts = [("value", &a.1, &b.1), ("derivative", &a.2, &b.2)];
+        for (name, ours, theirs) in parts {
+            for slot in (0..ours.len())
+                .filter(|&slot| ours[slot] != theirs[slot])
+                .take(5)
+            {
+                let place = slot as i64 - MARGIN as i64;
+                println!(
+                    "  {name} {place}: peer {:016x}, library {:016x}",
+                    ours[slot], theirs[slot]
+                );
+            }
+        }
+        if a != b {
+            return;
+        }
+    }
+}
+
+// Showing.
+
+/// Takes pieces out of an input as long as the two still differ on it.
+fn shrink(mut input: Vec<u8>, unit: usize, differs: impl Fn(&[u8]) -> bool) -> Vec<u8> {
+    let mut size = (input.len() / 2 / unit).max(1) * unit;
+    let mut tries = 3000;
+    loop {
+        let mut at = 0;
+        while at < input.len() && tries > 0 {
+            tries -= 1;
+            let mut shorter = input.clone();
+            shorter.drain(at..(at + size).min(input.len()));
+            if differs(&shorter) {
+                input = shorter;
+            } else {
+                at += size;
+            }
+        }
+        if size == unit || tries == 0 {
+            return input;
+        }
+        size = (size / 2 / unit).max(1) * unit;
+    }
+}
+
+/// Bytes as hexadecimal digits.
+fn hex(bytes: &[u8]) -> String {
+    bytes.iter().map(|byte| format!("{byte:02x}")).collect()
+}

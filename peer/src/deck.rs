@@ -1,0 +1,222 @@
+//! Lines and statements.
+
+/// The most lines a text may have.
+pub const MAX_LINES: usize = 512;
+/// The most lines one statement may have.
+pub const STATEMENT_LINES: usize = 4;
+/// The most bytes a line of a statement may have, byte 10 aside.
+pub const LINE_BYTES: usize = 72;
+
+/// The text ends while the statement continues.
+pub const UNFINISHED: u8 = 11;
+/// A statement of more than four lines.
+pub const TOO_MANY_LINES: u8 = 12;
+/// A statement line of more than 72 bytes.
+pub const LINE_TOO_LONG: u8 = 13;
+
+/// The places in a text where its lines end, byte 10 left out.
+pub struct Lines<'a> {
+    text: &'a [u8],
+    ends: [u16; MAX_LINES],
+    count: usize,
+}
+
+impl<'a> Lines<'a> {
+    /// Finds all lines of a text of at most 65,535 bytes; none if they are over 512.
+    pub fn find(text: &'a [u8]) -> Option<Self> {
+        let mut lines = Lines {
+            text,
+            ends: [0; MAX_LINES],
+            count: 0,
+        };
+        let chunks = text.chunks_exact(8);
+        let tail = chunks.remainder();
+        let mut base = 0;
+        for chunk in chunks {
+            let mut hits = line_ends(u64::from_le_bytes(chunk.try_into().unwrap()));
+            while hits != 0 {
+                lines.add(base + hits.trailing_zeros() as usize / 8)?;
+                hits &= hits - 1;
+            }
+            base += 8;
+        }
+        for (i, &byte) in tail.iter().enumerate() {
+            if byte == b'\n' {
+                lines.add(base + i)?;
+            }
+        }
+        if text.last().is_some_and(|&byte| byte != b'\n') {
+            lines.add(text.len())?;
+        }
+        Some(lines)
+    }
+
+    /// Notes the end of one more line; none if there is no room for it.
+    fn add(&mut self, end: usize) -> Option<()> {
+        *self.ends.get_mut(self.count)? = end as u16;
+        self.count += 1;
+        Some(())
+    }
+
+    /// The line of an index from 0, without its byte 10.
+    fn line(&self, index: usize) -> &'a [u8] {
+        let begin = if index == 0 {
+            0
+        } else {
+            self.ends[index - 1] as usize + 1
+        };
+        &self.text[begin..self.ends[index] as usize]
+    }
+
+    /// How many lines there are.
+    pub fn count(&self) -> usize {
+        self.count
+    }
+
+    /// The statements of the text from the top.
+    pub fn statements(&self) -> Statements<'a, '_> {
+        Statements {
+            lines: self,
+            next: 0,
+        }
+    }
+}
+
+/// Marks with its top bit each byte of a word that is byte 10, exactly.
+fn line_ends(word: u64) -> u64 {
+    const LOW: u64 = 0x7f7f_7f7f_7f7f_7f7f;
+    let word = word ^ 0x0a0a_0a0a_0a0a_0a0a;
+    !(((word & LOW) + LOW) | word | LOW)
+}
+
+/// One statement: its number, the texts of its lines without the closing dots,
+/// and the fault that its lines alone show.
+pub struct Statement<'a> {
+    pub line: u32,
+    parts: [&'a [u8]; STATEMENT_LINES],
+    count: usize,
+    pub fault: Option<u8>,
+}
+
+impl<'a> Statement<'a> {
+    /// The parts to be joined with a space; complete if there is no fault.
+    pub fn parts(&self) -> &[&'a [u8]] {
+        &self.parts[..self.count.min(STATEMENT_LINES)]
+    }
+}
+
+/// Walks over the statements of a text.
+pub struct Statements<'a, 'b> {
+    lines: &'b Lines<'a>,
+    next: usize,
+}
+
+impl<'a> Iterator for Statements<'a, '_> {
+    type Item = Statement<'a>;
+
+    /// Passes over comments and blanks and takes one whole run of lines.
+    fn next(&mut self) -> Option<Statement<'a>> {
+        while self.next < self.lines.count && is_passed_over(self.lines.line(self.next)) {
+            self.next += 1;
+        }
+        if self.next == self.lines.count {
+            return None;
+        }
+        let line = self.next as u32 + 1;
+        let mut statement = Statement {
+            line,
+            parts: [&[]; STATEMENT_LINES],
+            count: 0,
+            fault: None,
+        };
+        let mut too_long = false;
+        let mut continues = true;
+        while continues && self.next < self.lines.count {
+            let line = self.lines.line(self.next);
+            self.next += 1;
+            too_long |= line.len() > LINE_BYTES;
+            let part;
+            (part, continues) = without_dots(line);
+            if let Some(place) = statement.parts.get_mut(statement.count) {
+                *place = part;
+            }
+            statement.count += 1;
+        }
+        statement.fault = if continues {
+            Some(UNFINISHED)
+        } else if statement.count > STATEMENT_LINES {
+            Some(TOO_MANY_LINES)
+        } else if too_long {
+            Some(LINE_TOO_LONG)
+        } else {
+            None
+        };
+        Some(statement)
+    }
+}
+
+/// Whether a fresh line is a comment or a blank.
+fn is_passed_over(line: &[u8]) -> bool {
+    line.first() == Some(&b'*') || line.iter().all(|&byte| byte == b' ')
+}
+
+/// Takes trailing spaces off a line, and closing dots if there are any,
+/// and tells whether there were.
+fn without_dots(line: &[u8]) -> (&[u8], bool) {
+    let mut line = line;
+    while let [rest @ .., b' '] = line {
+        line = rest;
+    }
+    match line {
+        [rest @ .., b'.', b'.', b'.'] => (rest, true),
+        _ => (line, false),
+    }
+}
+
+#[cfg(test)]
+mod tests {
+    use super::*;
+
+    #[test]
+    fn line_ends_are_exact() {
+        assert_eq!(
+            line_ends(u64::from_le_bytes(*b"\n\x0b\n\n\x09\x8a\x00\n")),
+            0x8000_0000_8080_0080
+        );
+    }
+
+    #[test]
+    fn a_last_line_counts_only_if_not_empty() {
+        assert_eq!(Lines::find(b"").unwrap().count(), 0);
+        assert_eq!(Lines::find(b"\n").unwrap().count(), 1);
+        assert_eq!(Lines::find(b"A\n").unwrap().count(), 1);
+        assert_eq!(Lines::find(b"A\n ").unwrap().count(), 2);
+        assert_eq!(Lines::find(b"\n\nABCDEFGHIJ\nX").unwrap().count(), 4);
+    }
+
+    #[test]
+    fn statements_are_runs() {
+        let lines = Lines::find(b"* c ...\n\n   \nA=1 ...  \n*2\n *3\n...\n\nB").unwrap();
+        let seen: Vec<_> = lines
+            .statements()
+            .map(|s| (s.line, s.parts().to_vec(), s.fault))
+            .collect();
+        assert_eq!(
+            seen,
+            vec![
+                (4, vec![&b"A=1 "[..], b"*2"], None),
+                (6, vec![&b" *3"[..]], None),
+                (7, vec![&b""[..], b""], None),
+                (9, vec![&b"B"[..]], None),
+            ]
+        );
+    }
+
+    #[test]
+    fn more_than_three_dots_leave_the_rest() {
+        assert_eq!(without_dots(b"A=1....  "), (&b"A=1."[..], true));
+        assert_eq!(without_dots(b"A=1.. ."), (&b"A=1.. ."[..], false));
+        assert_eq!(without_dots(b"..."), (&b""[..], true));
+        assert_eq!(without_dots(b"...\r"), (&b"...\r"[..], false));
+    }
+}

@@ -1,0 +1,444 @@
+//! Evaluating: judging a program, running it, its start and one Euler step.
+
+use crate::program::{
+    ADD, COMPAR, CONSTANT, DERIVATIVE, DIVIDE, INITIAL, INSW, LIMIT, MAX_RECORDS, MULTIPLY, NEGATE,
+    PUSH_SLOT, PUSH_VALUE, RECORD, STORE, SUBTRACT,
+};
+
+/// The places of the working stack.
+pub const STACK: usize = 67;
+/// The slots.
+pub const SLOTS: usize = 256;
+
+/// A place for each slot.
+type Slots = [f64; SLOTS];
+
+/// The answer of the evaluator: its number, and the record that is bad for 3.
+#[derive(Clone, Copy, Debug, PartialEq, Eq)]
+pub struct Answer {
+    pub number: u32,
+    pub record: u32,
+}
+
+impl Answer {
+    /// An answer that names no record.
+    fn bare(number: u32) -> Self {
+        Answer { number, record: 0 }
+    }
+}
+
+/// Why a program is refused with 3 (all but the last two) or with 4.
+#[derive(Clone, Copy, Debug, PartialEq, Eq, PartialOrd, Ord, Hash)]
+pub enum Reason {
+    UnknownKind,
+    ByteOne,
+    UnusedField,
+    SlotOver255,
+    ConstantLate,
+    InitialLate,
+    SlotZeroSet,
+    SetTwice,
+    ReadBeforeSet,
+    TooFewValues,
+    SixtyEighthValue,
+    StoreCount,
+    DerivativeCount,
+    DerivativeOfNoState,
+    DerivativeTwice,
+    ValueLeft,
+    StateWithoutDerivative,
+}
+
+impl Reason {
+    /// All reasons, in the order of the paper.
+    pub const ALL: [Reason; 17] = [
+        Reason::UnknownKind,
+        Reason::ByteOne,
+        Reason::UnusedField,
+        Reason::SlotOver255,
+        Reason::ConstantLate,
+        Reason::InitialLate,
+        Reason::SlotZeroSet,
+        Reason::SetTwice,
+        Reason::ReadBeforeSet,
+        Reason::TooFewValues,
+        Reason::SixtyEighthValue,
+        Reason::StoreCount,
+        Reason::DerivativeCount,
+        Reason::DerivativeOfNoState,
+        Reason::DerivativeTwice,
+        Reason::ValueLeft,
+        Reason::StateWithoutDerivative,
+    ];
+}
+
+/// A refusal by the records: the number of the bad one, or none if the end is.
+#[derive(Clone, Copy, Debug, PartialEq, Eq)]
+pub struct Refusal {
+    pub record: Option<u32>,
+    pub reason: Reason,
+}
+
+/// A record taken apart, its line left out.
+struct Record {
+    kind: u8,
+    one: u8,
+    operand: u16,
+    bits: u64,
+}
+
+impl Record {
+    /// Takes the 16 bytes of a record apart.
+    #[inline(always)]
+    fn of(bytes: &[u8]) -> Self {
+        let head = u64::from_le_bytes(bytes[..8].try_into().unwrap());
+        let bits = u64::from_le_bytes(bytes[8..RECORD].try_into().unwrap());
+        Record {
+            kind: head as u8,
+            one: (head >> 8) as u8,
+            operand: (head >> 16) as u16,
+            bits,
+        }
+    }
+
+    /// The operand of a record that is judged good.
+    #[inline(always)]
+    fn slot(&self) -> usize {
+        self.operand as u8 as usize
+    }
+
+    /// The value of a constant, an initial or a pushed value.
+    #[inline(always)]
+    fn value(&self) -> f64 {
+        f64::from_bits(self.bits)
+    }
+}
+
+/// A slot that has a value.
+const SET: u8 = 1;
+/// A slot that is a state.
+const STATE: u8 = 2;
+/// A state that has its derivative.
+const DERIVED: u8 = 4;
+
+/// What judging knows after some records.
+struct Judge {
+    /// The marks of each slot.
+    marks: [u8; SLOTS],
+    /// How many values stand on the stack.
+    values: usize,
+    /// How many states are without derivative.
+    open_states: usize,
+    /// 1 while all kinds were 1, 2 while all were 1 or 2, else 3.
+    stage: u8,
+}
+
+impl Judge {
+    /// What is known before the first record.
+    fn new() -> Self {
+        let mut marks = [0; SLOTS];
+        marks[0] = SET;
+        Judge {
+            marks,
+            values: 0,
+            open_states: 0,
+            stage: 1,
+        }
+    }
+
+    /// Judges the next record.
+    #[inline(always)]
+    fn record(&mut self, record: &Record) -> Result<(), Reason> {
+        if record.one != 0 && (CONSTANT..=DERIVATIVE).contains(&record.kind) {
+            return Err(Reason::ByteOne);
+        }
+        match record.kind {
+            CONSTANT => {
+                let slot = any_slot(record)?;
+                demand(self.stage == 1, Reason::ConstantLate)?;
+                self.set(slot)
+            }
+            INITIAL => {
+                let slot = any_slot(record)?;
+                demand(self.stage <= 2, Reason::InitialLate)?;
+                self.stage = 2;
+                self.set(slot)?;
+                self.marks[slot] |= STATE;
+                self.open_states += 1;
+                Ok(())
+            }
+            PUSH_VALUE => {
+                demand(record.operand == 0, Reason::UnusedField)?;
+                self.push()
+            }
+            PUSH_SLOT => {
+                let slot = slot_only(record)?;
+                demand(self.marks[slot] & SET != 0, Reason::ReadBeforeSet)?;
+                self.push()
+            }
+            ADD..=COMPAR => {
+                demand(record.operand == 0 && record.bits == 0, Reason::UnusedField)?;
+                self.stage = 3;
+                let taken = match record.kind {
+                    NEGATE => 1,
+                    INSW | LIMIT => 3,
+                    _ => 2,
+                };
+                demand(self.values >= taken, Reason::TooFewValues)?;
+                self.values -= taken - 1;
+                Ok(())
+            }
+            STORE => {
+                let slot = slot_only(record)?;
+                self.stage = 3;
+                self.set(slot)?;
+                demand(self.values == 1, Reason::StoreCount)?;
+                self.values = 0;
+                Ok(())
+            }
+            DERIVATIVE => {
+                let slot = slot_only(record)?;
+                self.stage = 3;
+                demand(self.values == 1, Reason::DerivativeCount)?;
+                self.values = 0;
+                let marks = self.marks[slot];
+                demand(marks & STATE != 0, Reason::DerivativeOfNoState)?;
+                demand(marks & DERIVED == 0, Reason::DerivativeTwice)?;
+                self.marks[slot] |= DERIVED;
+                self.open_states -= 1;
+                Ok(())
+            }
+            _ => Err(Reason::UnknownKind),
+        }
+    }
+
+    /// Sets a slot that is not yet set.
+    #[inline(always)]
+    fn set(&mut self, slot: usize) -> Result<(), Reason> {
+        demand(slot != 0, Reason::SlotZeroSet)?;
+        demand(self.marks[slot] & SET == 0, Reason::SetTwice)?;
+        self.marks[slot] |= SET;
+        Ok(())
+    }
+
+    /// Puts a value on the stack.
+    #[inline(always)]
+    fn push(&mut self) -> Result<(), Reason> {
+        self.stage = 3;
+        demand(self.values < STACK, Reason::SixtyEighthValue)?;
+        self.values += 1;
+        Ok(())
+    }
+
+    /// Judges the end of the program.
+    fn end(&self) -> Result<(), Reason> {
+        demand(self.values == 0, Reason::ValueLeft)?;
+        demand(self.open_states == 0, Reason::StateWithoutDerivative)
+    }
+}
+
+/// Refuses with a reason unless a condition holds.
+#[inline(always)]
+fn demand(holds: bool, reason: Reason) -> Result<(), Reason> {
+    if holds {
+        Ok(())
+    } else {
+        Err(reason)
+    }
+}
+
+/// The operand as a slot.
+#[inline(always)]
+fn any_slot(record: &Record) -> Result<usize, Reason> {
+    demand(record.operand <= 255, Reason::SlotOver255)?;
+    Ok(record.slot())
+}
+
+/// The operand as a slot of a record without value.
+#[inline(always)]
+fn slot_only(record: &Record) -> Result<usize, Reason> {
+    demand(record.bits == 0, Reason::UnusedField)?;
+    any_slot(record)
+}
+
+/// Judges all records of a program whose length is right.
+pub fn judge_reason(program: &[u8]) -> Result<(), Refusal> {
+    let mut judge = Judge::new();
+    for (index, bytes) in program.chunks_exact(RECORD).enumerate() {
+        if let Err(reason) = judge.record(&Record::of(bytes)) {
+            return Err(Refusal {
+                record: Some(index as u32),
+                reason,
+            });
+        }
+    }
+    judge.end().map_err(|reason| Refusal {
+        record: None,
+        reason,
+    })
+}
+
+/// Looks at all that is lent, and gives the places of the slots or the refusal.
+fn accept<'a>(
+    program: &[u8],
+    values: &'a mut [f64],
+    derivs: &'a mut [f64],
+) -> Result<(&'a mut Slots, &'a mut Slots), Answer> {
+    let (Some(values), Some(derivs)) = (values.first_chunk_mut(), derivs.first_chunk_mut()) else {
+        return Err(Answer::bare(1));
+    };
+    if !program.len().is_multiple_of(RECORD) || program.len() / RECORD > MAX_RECORDS {
+        return Err(Answer::bare(2));
+    }
+    match judge_reason(program) {
+        Ok(()) => Ok((values, derivs)),
+        Err(Refusal {
+            record: Some(record),
+            ..
+        }) => Err(Answer { number: 3, record }),
+        Err(Refusal { record: None, .. }) => Err(Answer::bare(4)),
+    }
+}
+
+/// Runs a program that is judged good. The last value pushed is kept aside, so
+/// that the stack holds those below it.
+fn run(program: &[u8], values: &mut Slots, derivs: &mut Slots) {
+    let mut stack = [0.0; STACK];
+    let mut count = 0;
+    let mut top = 0.0;
+    for bytes in program.chunks_exact(RECORD) {
+        let record = Record::of(bytes);
+        match record.kind {
+            CONSTANT => values[record.slot()] = record.value(),
+            PUSH_VALUE => {
+                stack[count] = top;
+                count += 1;
+                top = record.value();
+            }
+            PUSH_SLOT => {
+                stack[count] = top;
+                count += 1;
+                top = values[record.slot()];
+            }
+            ADD => {
+                count -= 1;
+                top += stack[count];
+            }
+            SUBTRACT => {
+                count -= 1;
+                top = stack[count] - top;
+            }
+            MULTIPLY => {
+                count -= 1;
+                top *= stack[count];
+            }
+            DIVIDE => {
+                count -= 1;
+                top = stack[count] / top;
+            }
+            NEGATE => top = -top,
+            INSW => {
+                count -= 2;
+                top = insw(stack[count], stack[count + 1], top);
+            }
+            LIMIT => {
+                count -= 2;
+                top = limit(stack[count], stack[count + 1], top);
+            }
+            COMPAR => {
+                count -= 1;
+                top = compar(stack[count], top);
+            }
+            STORE => {
+                count = 0;
+                values[record.slot()] = top;
+            }
+            DERIVATIVE => {
+                count = 0;
+                derivs[record.slot()] = top;
+            }
+            _ => {}
+        }
+    }
+}
+
+/// A if P is below 0, else B.
+fn insw(p: f64, a: f64, b: f64) -> f64 {
+    if p < 0.0 {
+        a
+    } else {
+        b
+    }
+}
+
+/// L if X is below L, else U if X is above U, else X.
+fn limit(l: f64, u: f64, x: f64) -> f64 {
+    if x < l {
+        l
+    } else if x > u {
+        u
+    } else {
+        x
+    }
+}
+
+/// 1 if A is not below B, else 0; 0 with a NaN.
+fn compar(a: f64, b: f64) -> f64 {
+    if a >= b {
+        1.0
+    } else {
+        0.0
+    }
+}
+
+/// The slot and initial value of each state of a program that is judged good.
+fn initials(program: &[u8]) -> impl Iterator<Item = (usize, f64)> + '_ {
+    let records = program.chunks_exact(RECORD);
+    let behind = records.skip_while(|bytes| bytes[0] == CONSTANT);
+    let initials = behind.take_while(|bytes| bytes[0] == INITIAL);
+    initials.map(|bytes| {
+        let record = Record::of(bytes);
+        (record.slot(), record.value())
+    })
+}
+
+/// Evaluates a program at the lent time and states.
+pub fn evaluate(program: &[u8], values: &mut [f64], derivs: &mut [f64]) -> Answer {
+    match accept(program, values, derivs) {
+        Ok((values, derivs)) => {
+            run(program, values, derivs);
+            Answer::bare(0)
+        }
+        Err(answer) => answer,
+    }
+}
+
+/// Sets the time to 0 and the states to their initial values.
+pub fn start(program: &[u8], values: &mut [f64], derivs: &mut [f64]) -> Answer {
+    match accept(program, values, derivs) {
+        Ok((values, _)) => {
+            values[0] = 0.0;
+            for (slot, value) in initials(program) {
+                values[slot] = value;
+            }
+            Answer::bare(0)
+        }
+        Err(answer) => answer,
+    }
+}
+
+/// Evaluates, then goes on by one Euler step of h.
+pub fn step(program: &[u8], h: f64, values: &mut [f64], derivs: &mut [f64]) -> Answer {
+    match accept(program, values, derivs) {
+        Ok((values, derivs)) => {
+            run(program, values, derivs);
+            for (slot, _) in initials(program) {
+                let product = h * derivs[slot];
+                values[slot] += product;
+            }
+            values[0] += h;
+            Answer::bare(0)
+        }
+        Err(answer) => answer,
+    }
+}

@@ -1,0 +1,369 @@
+//! The grammar: reads the tokens of one statement and adds what it says to
+//! the model, its expression already in postfix.
+
+use crate::model::{Definition, Equation, Model, Sort};
+use crate::program::{
+    Item, ADD, COMPAR, DERIVATIVE, DIVIDE, INSW, LIMIT, MULTIPLY, NEGATE, STORE, SUBTRACT,
+};
+use crate::tokens::{pack, Name, Token};
+
+/// No statement of the grammar goes on here.
+pub const GRAMMAR: u8 = 18;
+/// The seventeenth level is opened.
+pub const TOO_DEEP: u8 = 19;
+
+/// How deep parentheses and function calls may stand.
+const LEVELS: u32 = 16;
+
+/// The reserved words.
+mod word {
+    use super::{pack, Name};
+    pub const CONST: Name = pack(b"CONST");
+    pub const PARAM: Name = pack(b"PARAM");
+    pub const INCON: Name = pack(b"INCON");
+    pub const INTGRL: Name = pack(b"INTGRL");
+    pub const TIME: Name = pack(b"TIME");
+    pub const INSW: Name = pack(b"INSW");
+    pub const LIMIT: Name = pack(b"LIMIT");
+    pub const COMPAR: Name = pack(b"COMPAR");
+}
+
+/// Whether a name token is a reserved word.
+fn is_reserved(name: Name) -> bool {
+    matches!(
+        name,
+        word::CONST
+            | word::PARAM
+            | word::INCON
+            | word::INTGRL
+            | word::TIME
+            | word::INSW
+            | word::LIMIT
+            | word::COMPAR
+    )
+}
+
+/// Reads one whole statement, its tokens closed by the end token, or gives
+/// the code of its fault. After a fault the model is of no use any more.
+pub fn read(tokens: &[Token], line: u32, model: &mut Model) -> Result<(), u8> {
+    let mut reader = Reader {
+        tokens,
+        at: 0,
+        line,
+        model,
+    };
+    match reader.next() {
+        Token::Name(word::CONST | word::PARAM | word::INCON) => reader.constants(),
+        Token::Name(name) if !is_reserved(name) => reader.equation(name),
+        _ => Err(GRAMMAR),
+    }
+}
+
+/// Reads tokens from the left.
+struct Reader<'a> {
+    tokens: &'a [Token],
+    at: usize,
+    line: u32,
+    model: &'a mut Model,
+}
+
+impl Reader<'_> {
+    /// The token at the front, the end if all are read.
+    fn peek(&self) -> Token {
+        self.tokens.get(self.at).copied().unwrap_or(Token::End)
+    }
+
+    /// Takes the token at the front.
+    fn next(&mut self) -> Token {
+        let token = self.peek();
+        self.at += 1;
+        token
+    }
+
+    /// Takes this token, and nothing else will do.
+    fn expect(&mut self, token: Token) -> Result<(), u8> {
+        if self.next() == token {
+            Ok(())
+        } else {
+            Err(GRAMMAR)
+        }
+    }
+
+    /// Takes a name that is no reserved word.
+    fn name(&mut self) -> Result<Name, u8> {
+        match self.next() {
+            Token::Name(name) if !is_reserved(name) => Ok(name),
+            _ => Err(GRAMMAR),
+        }
+    }
+
+    /// Takes a sign if there is one, and tells whether it is a minus.
+    fn minus(&mut self) -> bool {
+        let token = self.peek();
+        let minus = token == Token::Mark(b'-');
+        self.at += (minus || token == Token::Mark(b'+')) as usize;
+        minus
+    }
+
+    /// Takes a number with an optional sign.
+    fn signed_number(&mut self) -> Result<f64, u8> {
+        let minus = self.minus();
+        match self.next() {
+            Token::Number(value) => Ok(if minus { -value } else { value }),
+            _ => Err(GRAMMAR),
+        }
+    }
+
+    /// Reads the list of a constants statement, behind its first word.
+    fn constants(&mut self) -> Result<(), u8> {
+        loop {
+            let name = self.name()?;
+            self.expect(Token::Mark(b'='))?;
+            let value = self.signed_number()?;
+            let sort = Sort::Constant;
+            self.model.definitions.push(Definition {
+                name,
+                line: self.line,
+                sort,
+                value,
+            });
+            match self.next() {
+                Token::Mark(b',') => {}
+                Token::End => return Ok(()),
+                _ => return Err(GRAMMAR),
+            }
+        }
+    }
+
+    /// Reads an assignment or a state statement, behind its name.
+    fn equation(&mut self, name: Name) -> Result<(), u8> {
+        self.expect(Token::Mark(b'='))?;
+        let (items, uses) = self.lengths();
+        let definition = self.model.definitions.len() as u16;
+        let slot = definition + 1;
+        let state = self.peek() == Token::Name(word::INTGRL);
+        let mut value = 0.0;
+        let mut initial = None;
+        if state {
+            self.at += 1;
+            self.expect(Token::Mark(b'('))?;
+            if let Token::Name(_) = self.peek() {
+                initial = Some(self.name()?);
+            } else {
+                value = self.signed_number()?;
+            }
+            self.expect(Token::Mark(b','))?;
+            self.expression(0)?;
+            self.expect(Token::Mark(b')'))?;
+        } else {
+            self.expression(0)?;
+        }
+        self.expect(Token::End)?;
+        let (kind, sort) = if state {
+            (DERIVATIVE, Sort::State)
+        } else {
+            (STORE, Sort::Assigned(self.model.equations.len() as u16))
+        };
+        self.emit(Item {
+            kind,
+            slot,
+            bits: 0,
+        });
+        let end = self.lengths();
+        let (items, uses) = ((items, end.0), (uses, end.1));
+        let line = self.line;
+        self.model.definitions.push(Definition {
+            name,
+            line,
+            sort,
+            value,
+        });
+        self.model.equations.push(Equation {
+            line,
+            items,
+            uses,
+            definition,
+            initial,
+        });
+        Ok(())
+    }
+
+    /// Reads an expression that stands at this level.
+    fn expression(&mut self, level: u32) -> Result<(), u8> {
+        let minus = self.minus();
+        self.term(level)?;
+        if minus {
+            self.emit(Item::plain(NEGATE));
+        }
+        loop {
+            let kind = match self.peek() {
+                Token::Mark(b'+') => ADD,
+                Token::Mark(b'-') => SUBTRACT,
+                _ => return Ok(()),
+            };
+            self.at += 1;
+            self.term(level)?;
+            self.emit(Item::plain(kind));
+        }
+    }
+
+    /// Reads a term that stands at this level.
+    fn term(&mut self, level: u32) -> Result<(), u8> {
+        self.factor(level)?;
+        loop {
+            let kind = match self.peek() {
+                Token::Mark(b'*') => MULTIPLY,
+                Token::Mark(b'/') => DIVIDE,
+                _ => return Ok(()),
+            };
+            self.at += 1;
+            self.factor(level)?;
+            self.emit(Item::plain(kind));
+        }
+    }
+
+    /// Reads a factor that stands at this level.
+    fn factor(&mut self, level: u32) -> Result<(), u8> {
+        match self.next() {
+            Token::Number(value) => self.emit(Item::number(value)),
+            Token::Name(word::TIME) => self.emit(Item::time()),
+            Token::Name(word::INSW) => self.call(INSW, 3, level)?,
+            Token::Name(word::LIMIT) => self.call(LIMIT, 3, level)?,
+            Token::Name(word::COMPAR) => self.call(COMPAR, 2, level)?,
+            Token::Name(name) if !is_reserved(name) => {
+                self.model.uses.push(self.model.items.len() as u32);
+                self.emit(Item::name(name));
+            }
+            Token::Mark(b'(') => {
+                if level == LEVELS {
+                    return Err(TOO_DEEP);
+                }
+                self.expression(level + 1)?;
+                self.expect(Token::Mark(b')'))?;
+            }
+            _ => return Err(GRAMMAR),
+        }
+        Ok(())
+    }
+
+    /// Reads a function's arguments in their parentheses, behind its word.
+    fn call(&mut self, kind: u8, arguments: u32, level: u32) -> Result<(), u8> {
+        self.expect(Token::Mark(b'('))?;
+        if level == LEVELS {
+            return Err(TOO_DEEP);
+        }
+        self.expression(level + 1)?;
+        for _ in 1..arguments {
+            self.expect(Token::Mark(b','))?;
+            self.expression(level + 1)?;
+        }
+        self.expect(Token::Mark(b')'))?;
+        self.emit(Item::plain(kind));
+        Ok(())
+    }
+
+    /// How many items and uses the model has.
+    fn lengths(&self) -> (u32, u32) {
+        (self.model.items.len() as u32, self.model.uses.len() as u32)
+    }
+
+    /// Adds an item to the postfix of the statement.
+    fn emit(&mut self, item: Item) {
+        self.model.items.push(item);
+    }
+}
+
+#[cfg(test)]
+mod tests {
+    use super::*;
+    use crate::tokens::cut;
+
+    /// Reads one statement, giving the kinds of its items or the code.
+    fn kinds(text: &str) -> Result<Vec<u8>, u8> {
+        let mut tokens = Vec::new();
+        cut(text.as_bytes(), &mut tokens)?;
+        tokens.push(Token::End);
+        let mut model = Model::default();
+        read(&tokens, 1, &mut model)?;
+        Ok(model.items.iter().map(|item| item.kind).collect())
+    }
+
+    #[test]
+    fn postfix() {
+        assert_eq!(kinds("Y=-A*B+C").unwrap(), [4, 4, 7, 9, 4, 5, 13]);
+        assert_eq!(kinds("Y=+A-B-C").unwrap(), [4, 4, 6, 4, 6, 13]);
+        assert_eq!(kinds("Y=A-B*C/D").unwrap(), [4, 4, 4, 7, 4, 8, 6, 13]);
+        assert_eq!(kinds("Y=A-(-B)").unwrap(), [4, 4, 9, 6, 13]);
+        assert_eq!(kinds("Y=INSW(A,-1,TIME)").unwrap(), [4, 3, 9, 4, 10, 13]);
+        assert_eq!(kinds("Y=INTGRL(-2,COMPAR(A,B))").unwrap(), [4, 4, 12, 14]);
+        assert_eq!(kinds("CONST A=1,B=-2").unwrap(), []);
+    }
+
+    #[test]
+    fn grammar_faults() {
+        for text in [
+            "",
+            "A",
+            "A=",
+            "A=+",
+            "A=1+",
+            "A=--1",
+            "A=1+-1",
+            "A=TIME*-2",
+            "TIME=1",
+            "INTGRL=1",
+            "A==1",
+            "A=1=2",
+            "A=1 2",
+            "A=()",
+            "A=(1",
+            "A=1)",
+            "A=B C",
+            "A=INSW(1,2)",
+            "A=INSW(1,2,3,4)",
+            "A=COMPAR(1)",
+            "A=COMPAR(1,2,3)",
+            "A=LIMIT 1",
+            "A=CONST",
+            "A=INTGRL",
+            "A=INTGRL(1)",
+            "A=INTGRL(1,2",
+            "A=INTGRL(1,2)+1",
+            "A=INTGRL(-B,2)",
+            "A=INTGRL(TIME,2)",
+            "A=INTGRL((1),2)",
+            "A=-INTGRL(1,2)",
+            "A=1+INTGRL(1,2)",
+            "CONST",
+            "CONST A",
+            "CONST A=",
+            "CONST A=B",
+            "CONST A=1,",
+            "CONST A=1 B=2",
+            "CONST TIME=1",
+            "CONST A=--1",
+            "CONST A=1+2",
+            "CONST=1",
+            "1=A",
+            "=",
+        ] {
+            assert_eq!(kinds(text), Err(GRAMMAR), "{text}");
+        }
+    }
+
+    #[test]
+    fn levels() {
+        let nested = |open: &str, n: usize, rest: &str| format!("A={}1{rest}", open.repeat(n));
+        assert!(kinds(&nested("(", 16, &")".repeat(16))).is_ok());
+        assert_eq!(kinds(&nested("(", 17, "")), Err(TOO_DEEP));
+        assert_eq!(kinds(&nested("COMPAR(", 17, "")), Err(TOO_DEEP));
+        assert_eq!(kinds(&nested("(", 16, "*INSW(")), Err(TOO_DEEP));
+        assert_eq!(kinds(&nested("(", 16, "*INSW)")), Err(GRAMMAR));
+        assert_eq!(kinds(&nested("(", 16, ")(((")), Err(GRAMMAR));
+        assert_eq!(kinds(&format!("A=({}", nested("", 0, ""))), Err(GRAMMAR));
+        let inside = format!("A=INTGRL(0,{}1{})", "(".repeat(16), ")".repeat(16));
+        assert!(kinds(&inside).is_ok());
+        let inside = format!("A=INTGRL(0,{}1{})", "(".repeat(17), ")".repeat(17));
+        assert_eq!(kinds(&inside), Err(TOO_DEEP));
+    }
+}

@@ -1,0 +1,22 @@
+//! The peer: a second, independent implementation of the Floesedge translator
+//! and evaluator, written from the paper alone, in safe Rust without any
+//! dependency. It exists to disagree with the proved library; `check` compares
+//! the two and `bench` measures them side by side.
+//!
+//! One module stands for each section of the paper.
+
+#![forbid(unsafe_code)]
+
+pub mod deck;
+pub mod evaluate;
+pub mod grammar;
+pub mod listing;
+pub mod model;
+pub mod order;
+pub mod program;
+pub mod tokens;
+pub mod translate;
+
+pub use evaluate::{evaluate, judge_reason, start, step, Answer, Reason};
+pub use listing::listing;
+pub use translate::{translate, Verdict};

@@ -1,0 +1,41 @@
+//! The listing.
+
+use std::io::Write;
+
+use crate::program::{DERIVATIVE, RECORD, STORE};
+use crate::translate::translate;
+
+/// The bytes lent for the fault list.
+const FAULTS: usize = 1024;
+/// The bytes lent for the program.
+const PROGRAM: usize = 65_536;
+
+/// What the listing program prints for a text.
+pub fn listing(text: &[u8]) -> Vec<u8> {
+    let mut faults = vec![0; FAULTS];
+    let mut program = vec![0; PROGRAM];
+    let verdict = translate(text, &mut faults, &mut program);
+    let count = verdict.count as usize;
+    let mut out = Vec::new();
+    if verdict.number == 0 {
+        print(&mut out, format_args!("OK {count}"));
+        for record in program.chunks_exact(RECORD).take(count) {
+            if matches!(record[0], STORE | DERIVATIVE) {
+                let line = u32::from_le_bytes(record[4..8].try_into().unwrap());
+                print(&mut out, format_args!("{line}"));
+            }
+        }
+    } else {
+        print(&mut out, format_args!("NO {}", verdict.number));
+        for fault in faults.chunks_exact(4).take(count) {
+            let line = u16::from_le_bytes([fault[0], fault[1]]);
+            print(&mut out, format_args!("{line} {}", fault[2]));
+        }
+    }
+    out
+}
+
+/// Adds one line closed by byte 10; writing to memory never fails.
+fn print(out: &mut Vec<u8>, line: std::fmt::Arguments) {
+    let _ = writeln!(out, "{line}");
+}

@@ -1,0 +1,116 @@
+//! The program: records of 16 bytes.
+
+use crate::model::{Model, Sort};
+use crate::tokens::Name;
+
+/// The bytes of a record.
+pub const RECORD: usize = 16;
+/// The most records of a program.
+pub const MAX_RECORDS: usize = 4096;
+
+pub const CONSTANT: u8 = 1;
+pub const INITIAL: u8 = 2;
+pub const PUSH_VALUE: u8 = 3;
+pub const PUSH_SLOT: u8 = 4;
+pub const ADD: u8 = 5;
+pub const SUBTRACT: u8 = 6;
+pub const MULTIPLY: u8 = 7;
+pub const DIVIDE: u8 = 8;
+pub const NEGATE: u8 = 9;
+pub const INSW: u8 = 10;
+pub const LIMIT: u8 = 11;
+pub const COMPAR: u8 = 12;
+pub const STORE: u8 = 13;
+pub const DERIVATIVE: u8 = 14;
+
+/// A record of an equation before its line is put in. While names are not yet
+/// resolved, the bits of an item that pushes what a name stands for are the name.
+#[derive(Clone, Copy, Debug)]
+pub struct Item {
+    pub kind: u8,
+    pub slot: u16,
+    pub bits: u64,
+}
+
+impl Item {
+    /// An item without operands.
+    pub fn plain(kind: u8) -> Self {
+        Item {
+            kind,
+            slot: 0,
+            bits: 0,
+        }
+    }
+
+    /// Pushes a number.
+    pub fn number(value: f64) -> Self {
+        Item {
+            kind: PUSH_VALUE,
+            slot: 0,
+            bits: value.to_bits(),
+        }
+    }
+
+    /// Pushes what a name stands for.
+    pub fn name(name: Name) -> Self {
+        Item {
+            kind: PUSH_SLOT,
+            slot: 0,
+            bits: name,
+        }
+    }
+
+    /// Pushes the time.
+    pub fn time() -> Self {
+        Item::plain(PUSH_SLOT)
+    }
+}
+
+/// The bytes of one record.
+pub fn record(kind: u8, slot: u16, line: u32, bits: u64) -> [u8; RECORD] {
+    let head = kind as u64 | (slot as u64) << 16 | (line as u64) << 32;
+    let mut bytes = [0; RECORD];
+    bytes[..8].copy_from_slice(&head.to_le_bytes());
+    bytes[8..].copy_from_slice(&bits.to_le_bytes());
+    bytes
+}
+
+/// How many records a model needs.
+pub fn records_needed(model: &Model) -> usize {
+    let assigned = |sort| matches!(sort, Sort::Assigned(_));
+    let valued = model
+        .definitions
+        .iter()
+        .filter(|definition| !assigned(definition.sort))
+        .count();
+    valued + model.items.len()
+}
+
+/// Writes the whole program into a lent buffer that has room for it.
+pub fn write(model: &Model, order: &[u16], program: &mut [u8]) {
+    let mut room = program.chunks_exact_mut(RECORD);
+    let mut put = |bytes: [u8; RECORD]| {
+        if let Some(place) = room.next() {
+            place.copy_from_slice(&bytes);
+        }
+    };
+    for (kind, sort) in [(CONSTANT, Sort::Constant), (INITIAL, Sort::State)] {
+        for (index, definition) in model.definitions.iter().enumerate() {
+            if definition.sort == sort {
+                let slot = index as u16 + 1;
+                put(record(
+                    kind,
+                    slot,
+                    definition.line,
+                    definition.value.to_bits(),
+                ));
+            }
+        }
+    }
+    for &index in order {
+        let equation = &model.equations[index as usize];
+        for item in model.items_of(equation) {
+            put(record(item.kind, item.slot, equation.line, item.bits));
+        }
+    }
+}

@@ -1,0 +1,245 @@
+//! Evaluating, worked out by hand.
+
+mod common;
+use common::*;
+use floesedge_peer::{evaluate, judge_reason, start, step, Answer, Reason};
+
+/// Slots all filled with a mark.
+fn slots(mark: f64) -> Vec<f64> {
+    vec![mark; 256]
+}
+
+const OK: Answer = Answer {
+    number: 0,
+    record: 0,
+};
+
+#[test]
+fn tank_runs() {
+    let program = good(TANK);
+    let (mut values, mut derivs) = (slots(-7.0), slots(-8.0));
+    assert_eq!(start(&program, &mut values, &mut derivs), OK);
+    let mut expected = slots(-7.0);
+    (expected[0], expected[3]) = (0.0, 1.0);
+    assert_eq!(values, expected);
+    assert_eq!(derivs, slots(-8.0));
+    // K = 2, Q = 2, F = limit of 0 = 0, so H' = -2.
+    assert_eq!(evaluate(&program, &mut values, &mut derivs), OK);
+    (expected[1], expected[2], expected[4]) = (2.0, 2.0, 0.0);
+    assert_eq!(values, expected);
+    let mut rates = slots(-8.0);
+    rates[3] = -2.0;
+    assert_eq!(derivs, rates);
+    // One step of 0.25: H = 1 - 0.5, TIME = 0.25.
+    assert_eq!(step(&program, 0.25, &mut values, &mut derivs), OK);
+    (expected[0], expected[3]) = (0.25, 0.5);
+    assert_eq!(values, expected);
+    // And one more: Q = 1, F = 0.25, H' = -0.75.
+    assert_eq!(step(&program, 0.25, &mut values, &mut derivs), OK);
+    (expected[0], expected[2], expected[3], expected[4]) = (0.5, 1.0, 0.5 - 0.1875, 0.25);
+    rates[3] = -0.75;
+    assert_eq!(values, expected);
+    assert_eq!(derivs, rates);
+}
+
+/// The value that a text's only assignment of A stores.
+fn value_of(expression: &str) -> f64 {
+    let program = good(&format!("A={expression}"));
+    let (mut values, mut derivs) = (slots(0.0), slots(0.0));
+    values[0] = f64::NAN;
+    assert_eq!(evaluate(&program, &mut values, &mut derivs), OK);
+    values[1]
+}
+
+#[test]
+fn operations() {
+    for (expression, value) in [
+        ("7-2-1", 4.0),
+        ("8/4/2", 1.0),
+        ("2+3*4", 14.0),
+        ("-2*3+1", -5.0),
+        ("INSW(-1,2,3)", 2.0),
+        ("INSW(0,2,3)", 3.0),
+        ("INSW(-0,2,3)", 3.0),
+        ("INSW(TIME,2,3)", 3.0),
+        ("LIMIT(1,2,0)", 1.0),
+        ("LIMIT(1,2,3)", 2.0),
+        ("LIMIT(1,2,1.5)", 1.5),
+        ("LIMIT(2,1,1.5)", 2.0),
+        ("LIMIT(2,1,2.5)", 1.0),
+        ("LIMIT(TIME,1,5)", 1.0),
+        ("COMPAR(1,1)", 1.0),
+        ("COMPAR(0,1)", 0.0),
+        ("COMPAR(TIME,1)", 0.0),
+        ("COMPAR(TIME,TIME)", 0.0),
+        ("0.1+0.2", 0.1 + 0.2),
+        ("1/0", f64::INFINITY),
+    ] {
+        assert_eq!(value_of(expression), value, "{expression}");
+    }
+    assert!(value_of("LIMIT(1,2,TIME)").is_nan());
+    assert!(value_of("-(0)").is_sign_negative());
+}
+
+#[test]
+fn lent_places() {
+    let program = good(TANK);
+    for (values, derivs) in [(255, 256), (256, 255), (0, 0)] {
+        let (mut values, mut derivs) = (vec![1.0; values], vec![1.0; derivs]);
+        let answer = Answer {
+            number: 1,
+            record: 0,
+        };
+        assert_eq!(evaluate(&program[1..], &mut values, &mut derivs), answer);
+        assert_eq!(start(&program, &mut values, &mut derivs), answer);
+        assert_eq!(step(&program, 1.0, &mut values, &mut derivs), answer);
+        assert!(values.iter().chain(&derivs).all(|&x| x == 1.0));
+    }
+    let (mut values, mut derivs) = (vec![1.0; 300], vec![1.0; 301]);
+    assert_eq!(evaluate(&program, &mut values, &mut derivs), OK);
+    assert!(values[256..].iter().all(|&x| x == 1.0));
+}
+
+#[test]
+fn program_length() {
+    let (mut values, mut derivs) = (slots(1.0), slots(1.0));
+    let answer = Answer {
+        number: 2,
+        record: 0,
+    };
+    assert_eq!(evaluate(&[0; 15], &mut values, &mut derivs), answer);
+    assert_eq!(evaluate(&[0; 65_552], &mut values, &mut derivs), answer);
+    assert_eq!(evaluate(&[], &mut values, &mut derivs), OK);
+    // 4,096 records: each of 2,048 pushes but the first, and 2,047 sums, and a store.
+    let mut list = vec![(3, 0, 0, 1.0)];
+    for _ in 0..2047 {
+        list.extend([(3, 0, 0, 1.0), (5, 0, 0, 0.0)]);
+    }
+    list.push((13, 1, 0, 0.0));
+    assert_eq!(list.len(), 4096);
+    assert_eq!(evaluate(&records(&list), &mut values, &mut derivs), OK);
+    assert_eq!(values[1], 2048.0);
+}
+
+/// The first bad record and why, of a program of records.
+fn bad(list: &[(u8, u16, u32, f64)]) -> (Option<u32>, Reason) {
+    reason(&records(list))
+}
+
+/// The same, of the bytes of a program.
+fn reason(program: &[u8]) -> (Option<u32>, Reason) {
+    let refusal = judge_reason(program).unwrap_err();
+    let (mut values, mut derivs) = (slots(1.0), slots(2.0));
+    let answer = match refusal.record {
+        Some(record) => Answer { number: 3, record },
+        None => Answer {
+            number: 4,
+            record: 0,
+        },
+    };
+    assert_eq!(evaluate(program, &mut values, &mut derivs), answer);
+    assert_eq!(start(program, &mut values, &mut derivs), answer);
+    assert_eq!(step(program, 1.0, &mut values, &mut derivs), answer);
+    assert_eq!((values, derivs), (slots(1.0), slots(2.0)));
+    (refusal.record, refusal.reason)
+}
+
+#[test]
+fn each_bad_record() {
+    use Reason::*;
+    let p = (3, 0, 0, 1.0);
+    for kind in [0, 15, 255] {
+        assert_eq!(bad(&[p, (kind, 0, 0, 0.0)]), (Some(1), UnknownKind));
+    }
+    for kind in 1..=14 {
+        let mut bytes = record(kind, 1, 0, 0.0);
+        bytes[1] = 1;
+        assert_eq!(reason(&bytes), (Some(0), ByteOne));
+    }
+    assert_eq!(bad(&[(3, 1, 0, 1.0)]), (Some(0), UnusedField));
+    assert_eq!(bad(&[(4, 0, 0, 1.0)]), (Some(0), UnusedField));
+    assert_eq!(bad(&[(4, 0, 0, -0.0)]), (Some(0), UnusedField));
+    for kind in 5..=12 {
+        assert_eq!(bad(&[p, p, p, (kind, 1, 0, 0.0)]), (Some(3), UnusedField));
+        assert_eq!(bad(&[p, p, p, (kind, 0, 0, 1.0)]), (Some(3), UnusedField));
+    }
+    assert_eq!(bad(&[p, (13, 1, 0, -0.0)]), (Some(1), UnusedField));
+    assert_eq!(
+        bad(&[(2, 1, 0, 0.0), p, (14, 1, 0, -0.0)]),
+        (Some(2), UnusedField)
+    );
+    for kind in [1, 2, 4] {
+        assert_eq!(bad(&[(kind, 256, 0, 0.0)]), (Some(0), SlotOver255));
+    }
+    assert_eq!(bad(&[p, (13, 257, 0, 0.0)]), (Some(1), SlotOver255));
+    assert_eq!(
+        bad(&[(2, 1, 0, 0.0), p, (14, 257, 0, 0.0)]),
+        (Some(2), SlotOver255)
+    );
+    assert_eq!(
+        bad(&[(2, 1, 0, 0.0), (1, 2, 0, 0.0)]),
+        (Some(1), ConstantLate)
+    );
+    assert_eq!(
+        bad(&[p, (13, 1, 0, 0.0), (1, 2, 0, 0.0)]),
+        (Some(2), ConstantLate)
+    );
+    assert_eq!(bad(&[p, (2, 1, 0, 0.0)]), (Some(1), InitialLate));
+    assert_eq!(bad(&[(1, 0, 0, 0.0)]), (Some(0), SlotZeroSet));
+    assert_eq!(bad(&[(2, 0, 0, 0.0)]), (Some(0), SlotZeroSet));
+    assert_eq!(bad(&[p, (13, 0, 0, 0.0)]), (Some(1), SlotZeroSet));
+    assert_eq!(bad(&[(1, 1, 0, 0.0), (1, 1, 0, 0.0)]), (Some(1), SetTwice));
+    assert_eq!(bad(&[(1, 1, 0, 0.0), (2, 1, 0, 0.0)]), (Some(1), SetTwice));
+    assert_eq!(
+        bad(&[(2, 1, 0, 0.0), p, (13, 1, 0, 0.0)]),
+        (Some(2), SetTwice)
+    );
+    assert_eq!(bad(&[(4, 1, 0, 0.0)]), (Some(0), ReadBeforeSet));
+    assert_eq!(bad(&[p, p, (13, 1, 0, 0.0)]), (Some(2), StoreCount));
+    assert_eq!(bad(&[(13, 1, 0, 0.0)]), (Some(0), StoreCount));
+    for (kind, taken) in [
+        (5, 2),
+        (6, 2),
+        (7, 2),
+        (8, 2),
+        (9, 1),
+        (10, 3),
+        (11, 3),
+        (12, 2),
+    ] {
+        let mut list = vec![p; taken - 1];
+        list.push((kind, 0, 0, 0.0));
+        assert_eq!(bad(&list), (Some(taken as u32 - 1), TooFewValues));
+    }
+    assert_eq!(bad(&[p; 68]), (Some(67), SixtyEighthValue));
+    assert_eq!(bad(&[p; 67]), (None, ValueLeft));
+    assert_eq!(
+        bad(&[(2, 1, 0, 0.0), (14, 1, 0, 0.0)]),
+        (Some(1), DerivativeCount)
+    );
+    assert_eq!(
+        bad(&[(2, 1, 0, 0.0), p, p, (14, 1, 0, 0.0)]),
+        (Some(3), DerivativeCount)
+    );
+    assert_eq!(
+        bad(&[(1, 1, 0, 0.0), p, (14, 1, 0, 0.0)]),
+        (Some(2), DerivativeOfNoState)
+    );
+    assert_eq!(bad(&[p, (14, 0, 0, 0.0)]), (Some(1), DerivativeOfNoState));
+    let twice = [(2, 1, 0, 0.0), p, (14, 1, 0, 0.0), p, (14, 1, 0, 0.0)];
+    assert_eq!(bad(&twice), (Some(4), DerivativeTwice));
+    assert_eq!(bad(&[(2, 1, 0, 0.0)]), (None, StateWithoutDerivative));
+}
+
+#[test]
+fn each_operation_rounds_once() {
+    // x + h * d with d = 0.1 and h = 0.1: a fused sum would differ.
+    let program = good("X=INTGRL(-.01,.1)");
+    let (mut values, mut derivs) = (slots(0.0), slots(0.0));
+    start(&program, &mut values, &mut derivs);
+    step(&program, 0.1, &mut values, &mut derivs);
+    let product: f64 = 0.1 * 0.1;
+    assert_eq!(values[1], -0.01 + product);
+    assert_ne!(values[1], 0.1f64.mul_add(0.1, -0.01));
+    assert_eq!(values[0], 0.1);
+}
