@@ -15,10 +15,11 @@ use Rattle.evaluator.specs.Contract.{told}
 use Rattle.evaluator.specs.Judge.{verdict}
 use Rattle.translator.specs.Contract.{Reply}
 use Rattle.translator.specs.Verdict.{Outcome}
+use Rattle.tally.specs.declared.Tally.{Tally}
 use Rattle.floesedge.specs.declared.Answer.{Answer as CAnswer}
 use Rattle.floesedge.specs.declared.Verdict.{Verdict as CVerdict}
 use Rattle.promises.specs.Agreement.{Agree2, Bits, Deck, Tokens, Grammar, Order, Records, Model, Program, Evaluator}
-use Rattle.promises.specs.Agreement.{Translator, Listing, Library}
+use Rattle.promises.specs.Agreement.{Translator, Listing, Library, Counting}
 
 -- ---- what a contract gives as an equation
 
@@ -144,4 +145,13 @@ library =
       evaluate = λ p v d r s a b c e x y. library-runs r s a b c e (x ∙ sym y);
       start = λ p v d r s a b c e x y. library-runs r s a b c e (x ∙ sym y);
       step = λ p h v d r s a b c e x y. library-runs r s a b c e (x ∙ sym y);
+    }
+
+-- ---- the tally: an answer is its two counts
+pub counting : Counting
+counting =
+    record {
+      none = λ r s x y. ap₂ (λ (i j : ℕ). record { tried = i; differ = j }) (x .0 ∙ sym (y .0)) (x .1 ∙ sym (y .1));
+      right = λ t same. one _;
+      number = λ t got wanted. one _;
     }

@@ -4,6 +4,7 @@ use Prim.Native.Nat.{ℕ, _<_, _^_, min}
 use mathlib.Core.Path.{_≡_}
 use mathlib.Core.Bool.{Bool}
 use mathlib.Core.List.{List}
+use lib.Dec.{eqb}
 use lib.ListN.{length, take}
 use lib.Seq.{sets}
 use lib.Ieee.{Float, binary64, toBits, ofBits}
@@ -30,6 +31,8 @@ use Rattle.model.specs.Plan.{Plans}
 use Rattle.program.specs.Written.{recordCount, writtenProgram}
 use Rattle.evaluator.specs.declared.Answer.{Answer}
 use Rattle.evaluator.specs.Contract.{Evaluated, Started, Stepped}
+use Rattle.tally.specs.declared.Tally.{Tally}
+use Rattle.tally.specs.Counted.{counted}
 use Rattle.translator.specs.declared.Verdict.{Verdict}
 use Rattle.translator.specs.Contract.{Translates}
 use Rattle.listing_text.specs.Contract.{Lists}
@@ -124,3 +127,9 @@ pub record Library : Type 0 where
   pub evaluate : (p : List ℕ) (v d : List Float) → Agree3 (λ (r : CAnswer) (v′ d′ : List Float). Evaluates p v d r v′ d′)
   pub start : (p : List ℕ) (v d : List Float) → Agree3 (λ (r : CAnswer) (v′ d′ : List Float). Starts p v d r v′ d′)
   pub step : (p : List ℕ) (h : Float) (v d : List Float) → Agree3 (λ (r : CAnswer) (v′ d′ : List Float). Steps p h v d r v′ d′)
+
+-- none, right, number
+pub record Counting : Type 0 where
+  pub none : Agree (λ (r : Tally). (r .tried ≡ 0) × (r .differ ≡ 0))
+  pub right : (t : Tally) (same : Bool) → Agree (λ (r : Tally). r ≡ counted t same)
+  pub number : (t : Tally) (got wanted : ℕ) → Agree (λ (r : Tally). r ≡ counted t (eqb got wanted))
