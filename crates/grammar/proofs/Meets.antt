@@ -18,7 +18,7 @@ use Rattle.grammar.specs.declared.Part.the-variants.{Passed, Stopped}
 use Rattle.grammar.specs.Drafts.{Draft, draft}
 use Rattle.grammar.specs.Look.{next, rest, byteOf}
 use Rattle.grammar.specs.Parser.{End, got, bad, Res, give, stop, tell, onward, bind, when, need}
-use Rattle.grammar.specs.Contract.{Outcome, outcome, wrote, partOf, partWrote, Meets}
+use Rattle.grammar.specs.Contract.{Outcome, outcome, wrote, opDrafts, PutsOp, partOf, partWrote, Meets}
 use Rattle.grammar.proofs.Outcome.{clash}
 use Rattle.grammar.proofs.Clauses.{rest-at, left-at}
 use Rattle.grammar.proofs.Room.{Fits, FitsEnd}
@@ -144,6 +144,15 @@ module _ {ks us : List ℕ} where
       let y = x (drop i (heldRow ks us)) in
       let n : p + suc (length (y .out)) ≡ p + 1 + length (y .out) = omega arith in
       record { same = rw (n, wrote-one _ k a (y .out) p l u, ← e, ← f) (h .same) }
+
+  -- behind the draft of an operator
+  pub meets-op : {A : Type 0} {i p q : ℕ} {l u : List ℕ} {r : Part} {l₁ u₁ l₂ u₂ : List ℕ} {x : List Symbol → Res A} {k : ℕ}
+      → PutsOp k p l u q l₁ u₁ → Meets ks us x i q l₁ u₁ r l₂ u₂ → Meets ks us (λ s. tell (opDrafts k) (x s)) i p l u r l₂ u₂
+  unfolding bind
+  meets-op {i = i} {p = p} {q = q} {l = l} {u = u} {l₁ = l₁} {u₁ = u₁} {x = x} {k = k} w h =
+      let row = drop i (heldRow ks us) in
+      let y : Res (List Symbol) = record { out = opDrafts k; end = got row row } in
+      record { same = h .same ∙ bind-wrote (length ks) y (λ _ _. x row) row row p q l u l₁ u₁ refl (w .place) (w .kinds) (w .args) }
 
   -- a part that stops stops the whole
   pub meets-bad : {A B : Type 0} {i p c j : ℕ} {l u : List ℕ} {r : Part} {l₁ u₁ : List ℕ} {x : List Symbol → Res A} (k : A → List Symbol → Res B)

@@ -8,25 +8,25 @@ use native.Mathlib.Nat.{add-zero}
 use native.Mathlib.Omega.{arith}
 use borrow.Author.Tests.{ne-eqb}
 use lib.Dec.{eqb}
-use lib.ListN.{length, getD, set, length-set, drop}
+use lib.ListN.{length, getD, drop}
 use lib.Seq.{length-sets}
 use Rattle.tokens.specs.Symbol.{Symbol, mark}
 use Rattle.tokens.specs.Held.{symbolOf, heldRow}
 use Rattle.tokens.proofs.Holding.{held-length}
 use Rattle.grammar.specs.declared.Part.{Part}
 use Rattle.grammar.specs.declared.Part.the-variants.{Passed, Stopped}
-use Rattle.grammar.specs.Tree.{Two, plus, minus, times, over, compar, Tree, two, negated}
-use Rattle.grammar.specs.Drafts.{draft, kindTwo}
-use Rattle.grammar.specs.Look.{next, rest, byteOf, Op, none, op, addOp, mulOp, signed}
+use Rattle.grammar.specs.Tree.{Two, plus, minus, times, over, compar, Tree, time, two}
+use Rattle.grammar.specs.Drafts.{Draft, draft, kindTwo}
+use Rattle.grammar.specs.Look.{next, rest, byteOf, Op, none, op, addOp, mulOp, isMinus, signed}
 use Rattle.grammar.specs.Grammar.{Mode, expr, term, factor, terms, factors}
 use Rattle.grammar.specs.Parser.{Res, give, tell, bind, byOp, behindSign, signDrafts, reads}
 use Rattle.grammar.specs.Codes.{kindOp, skipOf}
-use Rattle.grammar.specs.Contract.{Ready, Meets, Parses}
+use Rattle.grammar.specs.Contract.{opDrafts, PutsOp, Ready, Meets, Parses}
 use Rattle.grammar.proofs.Outcome.{clash}
 use Rattle.grammar.proofs.Clauses.{rest-at, reads-expr, reads-terms, reads-term, reads-factors}
 use Rattle.grammar.proofs.Room.{reads-fits}
 use Rattle.grammar.proofs.Seen.{token-at, stands, add-seen, mul-seen}
-use Rattle.grammar.proofs.Meets.{went, meets-by, meets-rest, meets-give, meets-tell, meets-bad, meets-bind}
+use Rattle.grammar.proofs.Meets.{went, meets-by, meets-rest, meets-give, meets-op, meets-bad, meets-bind}
 
 -- ---- a part that has passed
 
@@ -71,19 +71,7 @@ module _ {B : Type 0} {ks us : List ℕ} {m : Mode} {d i p : ℕ} {l u : List �
       → ((e : Tree) → Meets ks us (k e) j q l₁ u₁ r l₂ u₂) → Meets ks us (λ s. bind (reads m d s) k) i p l u r l₂ u₂
   goes-on w e h g = meets-bind k (reads-fits m d (drop i (heldRow ks us))) (w .even) (w .within) e (h .meets) λ x _. g x
 
--- with room for one draft more, behind that draft
-ready-set : {ks us : List ℕ} {j : ℕ} {l u l₁ u₁ : List ℕ} (q k a : ℕ) → Ready ks us j (q + 1) l u → l₁ ≡ set l q k → u₁ ≡ set u q a
-    → Ready ks us j (q + 1) l₁ u₁
-ready-set {l = l} {u = u} {l₁ = l₁} {u₁ = u₁} q k a w e f =
-    let x : length l₁ ≡ length l = ap length e ∙ simp length-set in
-    let y : length u₁ ≡ length u = ap length f ∙ simp length-set in
-    record { even = w .even; within = w .within; room-kinds = omega (arith, w .room-kinds); room-args = omega (arith, w .room-args) }
-
--- ---- an expression: s tokens of a sign, a term, and terms
-
--- what follows the first term
-abbrev sign-then : ℕ → Op → Tree → List Symbol → Res Tree
-sign-then d o e t = tell (signDrafts o) (reads (terms (signed o e)) d t)
+-- ---- the sign of an expression
 
 -- behind a sign, or not
 pub behind-at : (row : List Symbol) (i : ℕ) (o : Op) → behindSign o (drop i row) ≡ drop (i + skipOf o) row
@@ -95,13 +83,22 @@ op-stands : (look : Symbol → Op) (ks : List ℕ) (i k : ℕ) → k ≡ getD ks
 op-stands look ks i k ek bare {o} h = stands ks i λ z. let y : look (mark k) ≡ none = ap (λ (x : ℕ). look (mark x)) (ek ∙ z) ∙ bare in clash (cc)
 
 -- only a minus writes
-plain-sign : (k : ℕ) → (k ≡ 45 → ⊥) → signDrafts (addOp (mark k)) ≡ []
+pub plain-sign : (k : ℕ) → (k ≡ 45 → ⊥) → signDrafts (addOp (mark k)) ≡ []
 unfolding byteOf
 plain-sign k n = rw (ne-eqb k 45 n) (go (eqb k 43))
   where
     go : (t : Bool) → signDrafts (cond t (op plus) none) ≡ []
     go true = refl
     go false = refl
+
+-- a sign writes at most one draft for its token
+sign-pays : (o : Op) → length (signDrafts o) ≤ skipOf o
+sign-pays none = omega arith
+sign-pays (op o) = go (isMinus o)
+  where
+    go : (t : Bool) → length (cond t (draft 9 0 ∷ []) []) ≤ 1
+    go true = omega arith
+    go false = omega arith
 
 -- the place behind the sign is within
 pub skip-within : (ks : List ℕ) (i k s : ℕ) → i ≤ length ks → k ≡ getD ks i 0 → s ≡ skipOf (addOp (mark k)) → i + s ≤ length ks
@@ -112,106 +109,24 @@ skip-within ks i k s le ek es = rw es (go (addOp (mark k)) refl)
     go none h = omega arith
     go (op o) h = let a = op-stands addOp ks i k ek refl h in omega arith
 
+pub sign-within : {ks us : List ℕ} {i p k s : ℕ} {l u : List ℕ} → Ready ks us i p l u → k ≡ getD ks i 0 → s ≡ skipOf (addOp (mark k)) → i + s ≤ length ks
+sign-within {ks} {i = i} {k = k} {s = s} w ek es = skip-within ks i k s (w .within) ek es
+
 -- the sign there
 pub sign-at : (ks us : List ℕ) (i k : ℕ) → length us ≡ length ks → k ≡ getD ks i 0 → addOp (next (drop i (heldRow ks us))) ≡ addOp (mark k)
 sign-at ks us i k even ek =
     ap addOp (token-at ks us i even) ∙ add-seen (getD ks i 0) (getD us i 0) ∙ ap (λ (x : ℕ). addOp (mark x)) (sym ek)
 
-module _ {ks us : List ℕ} {i p k s : ℕ} {l u : List ℕ} (w : Ready ks us i p l u) (ek : k ≡ getD ks i 0) (es : s ≡ skipOf (addOp (mark k))) where
-  pub sign-within : i + s ≤ length ks
-  sign-within = skip-within ks i k s (w .within) ek es
+-- ---- a chain of parts: the terms of an expression, the factors of a term
 
-  pub expr-enter : {t : ℕ} → 3 + 5 * (length ks - i) ≡ t → (2 + 5 * (length ks - (i + s)) < t) × Ready ks us (i + s) p l u
-  expr-enter h =
-      let a = w .room-kinds in
-      let b = w .room-args in
-      (omega arith, record { even = w .even; within = sign-within; room-kinds = omega arith; room-args = omega arith })
-
-  -- the reading behind the sign
-  signed-at : (d : ℕ) → reads expr d (drop i (heldRow ks us)) ≡ bind (reads term d (drop (i + s) (heldRow ks us))) (sign-then d (addOp (mark k)))
-  signed-at d =
-      let row = heldRow ks us in
-      let a : addOp (next (drop i row)) ≡ addOp (mark k) =
-      ap addOp (token-at ks us i (w .even)) ∙ add-seen (getD ks i 0) (getD us i 0) ∙ ap (λ (x : ℕ). addOp (mark x)) (sym ek) in
-      reads-expr d (drop i row) ∙ rw (a, es, ← behind-at row i (addOp (mark k)))
-
-  pub expr-stopped : {d c j : ℕ} {r : Part} {l₁ u₁ : List ℕ} → r ≡ Stopped c j → Parses ks us term d (i + s) p l u r l₁ u₁
-      → Parses ks us expr d i p l u r l₁ u₁
-  expr-stopped {d} e h = record { meets = meets-by (reads expr d) (signed-at d) (stops (sign-then d (addOp (mark k))) e h) }
-
-  module _ {d j q : ℕ} {r : Part} {l₁ u₁ : List ℕ} (e : r ≡ Passed j q) (h : Parses ks us term d (i + s) p l u r l₁ u₁) where
-    expr-passed : {r : Part} {l₂ u₂ : List ℕ} → ((e : Tree) → Meets ks us (sign-then d (addOp (mark k)) e) j q l₁ u₁ r l₂ u₂)
-        → Parses ks us expr d i p l u r l₂ u₂
-    expr-passed g =
-        record { meets = meets-by (reads expr d) (signed-at d) (goes-on (sign-then d (addOp (mark k))) (expr-enter refl .1) e h g) }
-
-    -- no minus: nothing is written
-    pub expr-plain : {r : Part} {l₂ u₂ : List ℕ} → (k ≡ 45 → ⊥) → ((e : Tree) → Parses ks us (terms e) d j q l₁ u₁ r l₂ u₂)
-        → Parses ks us expr d i p l u r l₂ u₂
-    expr-plain n g =
-        let o = addOp (mark k) in
-        let row = heldRow ks us in
-        expr-passed λ x. meets-by (sign-then d o x) (ap (λ is. tell is (reads (terms (signed o x)) d (drop j row))) (plain-sign k n)) (g (signed o x) .meets)
-
-    -- a minus: its draft stands behind the term
-    pub expr-minus : {r : Part} {l₂ u₂ l₃ u₃ : List ℕ} → k ≡ 45 → l₂ ≡ set l₁ q 9 → u₂ ≡ set u₁ q 0
-        → ((e : Tree) → Parses ks us (terms e) d j (q + 1) l₂ u₂ r l₃ u₃) → Parses ks us expr d i p l u r l₃ u₃
-    unfolding byteOf
-    expr-minus z a b g = expr-passed (rw z λ x. meets-tell 9 0 a b (g (negated x) .meets))
-
-    -- what is called behind the term
-    term-after : After (length ks) (i + s) p l u j q l₁ u₁
-    term-after = after (expr-enter refl .1) e h
-
-    pub plain-on : {t : ℕ} → 3 + 5 * (length ks - i) ≡ t → (5 * (length ks - j) < t) × Ready ks us j q l₁ u₁
-    plain-on m = let a = term-after in (omega arith, ready-on (expr-enter refl .1) e h)
-
-    -- with room for the minus's draft, which its token pays for
-    minus-ready : k ≡ 45 → Ready ks us j (q + 1) l₁ u₁
-    unfolding byteOf
-    minus-ready z =
-        let o : s ≡ 1 = rw (es, z) in
-        let a = term-after in
-        let n = sign-within in
-        record { even = w .even; within = a .inside; room-kinds = omega (arith, w .room-kinds); room-args = omega (arith, w .room-args) }
-
-    pub minus-room : k ≡ 45 → (q < length l₁) × (q < length u₁)
-    minus-room z = let a = minus-ready z in (omega (arith, a .room-kinds), omega (arith, a .room-args))
-
-    pub minus-under : k ≡ 45 → q < length l
-    minus-under z = let a = minus-room z in let b = term-after in omega arith
-
-    pub minus-on : {t : ℕ} {l₂ u₂ : List ℕ} → 3 + 5 * (length ks - i) ≡ t → k ≡ 45 → l₂ ≡ set l₁ q 9 → u₂ ≡ set u₁ q 0
-        → (5 * (length ks - j) < t) × Ready ks us j (q + 1) l₂ u₂
-    minus-on m z f g = let a = term-after in (omega arith, ready-set q 9 0 (minus-ready z) f g)
-
--- ---- a term: a factor, and factors
-
-module _ {ks us : List ℕ} {d i p : ℕ} {l u : List ℕ} where
-  pub term-stopped : {c j : ℕ} {r : Part} {l₁ u₁ : List ℕ} → r ≡ Stopped c j → Parses ks us factor d i p l u r l₁ u₁ → Parses ks us term d i p l u r l₁ u₁
-  term-stopped e h =
-      record { meets = meets-by (reads term d) (reads-term d (drop i (heldRow ks us))) (stops (λ x. reads (factors x) d) e h) }
-
-  pub term-passed : {j q : ℕ} {r r₁ : Part} {l₁ u₁ l₂ u₂ : List ℕ} → Ready ks us i p l u → r₁ ≡ Passed j q → Parses ks us factor d i p l u r₁ l₁ u₁
-      → ((e : Tree) → Parses ks us (factors e) d j q l₁ u₁ r l₂ u₂) → Parses ks us term d i p l u r l₂ u₂
-  term-passed w e h g =
-      let row = heldRow ks us in
-      record { meets = meets-by (reads term d) (reads-term d (drop i row)) (goes-on (λ x. reads (factors x) d) w e h λ x. g x .meets) }
-
-  pub term-on : {t j q : ℕ} {r : Part} {l₁ u₁ : List ℕ} → Ready ks us i p l u → 2 + 5 * (length ks - i) ≡ t → r ≡ Passed j q
-      → Parses ks us factor d i p l u r l₁ u₁ → (5 * (length ks - j) < t) × Ready ks us j q l₁ u₁
-  term-on w m e h = let a = after w e h in (omega arith, ready-on w e h)
-
--- ---- the terms and the factors that follow: an operator, a part, and again
-
--- what follows a part, behind the operator o and the tree l
-abbrev chain-then : ℕ → (Tree → Mode) → Two → Tree → Tree → List Symbol → Res Tree
-chain-then d chain o l e t = tell (draft (kindTwo o) 0 ∷ []) (reads (chain (two o l e)) d t)
+-- what follows a part: the drafts of what stands before it, and the chain with the tree that f makes of the part's
+abbrev chain-then : ℕ → (Tree → Mode) → List Draft → (Tree → Tree) → Tree → List Symbol → Res Tree
+chain-then d chain is f e t = tell is (reads (chain (f e)) d t)
 
 -- a chain of parts, with the look at its operators
 pub record Chain (look : Symbol → Op) (part : Mode) (chain : Tree → Mode) : Type 0 where
   pub clause : (d : ℕ) (s : List Symbol) (l : Tree) → reads (chain l) d s
-      ≡ byOp (look (next s)) (λ _. give l s) λ o. bind (reads part d (rest s)) (chain-then d chain o l)
+      ≡ byOp (look (next s)) (λ _. give l s) λ o. bind (reads part d (rest s)) (chain-then d chain (draft (kindTwo o) 0 ∷ []) (two o l))
   pub seen : (k a : ℕ) → look (symbolOf k a) ≡ look (mark k)
   pub bare : look (mark 0) ≡ none
 
@@ -236,6 +151,13 @@ some-op : (o : Op) → (kindOp o ≡ 0 → ⊥) → (n : Two) × (o ≡ op n)
 some-op none h = absurd (h refl)
 some-op (op n) h = (n, refl)
 
+-- the draft of an operator
+op-draft : (k : ℕ) → (k ≡ 0 → ⊥) → opDrafts k ≡ draft k 0 ∷ []
+op-draft k n = rw (ne-eqb k 0 n)
+
+pub op-place : {p n : ℕ} (k : ℕ) → (k ≡ 0 → ⊥) → p + length (opDrafts k) ≤ n → p < n
+op-place k z h = let e : length (opDrafts k) ≡ 1 = ap length (op-draft k z) in omega arith
+
 module _ {look : Symbol → Op} {part : Mode} {chain : Tree → Mode} (c : Chain look part chain) {ks us : List ℕ} {i p k o : ℕ} {l u : List ℕ}
     (w : Ready ks us i p l u) (ek : k ≡ getD ks i 0) (eo : o ≡ kindOp (look (mark k))) where
   -- the look at the token
@@ -243,7 +165,7 @@ module _ {look : Symbol → Op} {part : Mode} {chain : Tree → Mode} (c : Chain
   look-at = ap look (token-at ks us i (w .even)) ∙ c .seen (getD ks i 0) (getD us i 0) ∙ ap (λ (x : ℕ). look (mark x)) (sym ek)
 
   -- no operator: it ends
-  pub chain-end : {d : ℕ} → o ≡ 0 → (x : Tree) → Parses ks us (chain x) d i p l u (Passed i p) l u
+  chain-end : {d : ℕ} → o ≡ 0 → (x : Tree) → Parses ks us (chain x) d i p l u (Passed i p) l u
   chain-end {d} z x =
       let row = heldRow ks us in
       let n = look-at ∙ no-op (look (mark k)) (sym eo ∙ z) in
@@ -254,53 +176,145 @@ module _ {look : Symbol → Op} {part : Mode} {chain : Tree → Mode} (c : Chain
     found : (n : Two) × (look (mark k) ≡ op n)
     found = some-op (look (mark k)) λ e. z (eo ∙ e)
 
-    pub chain-inside : i < length ks
+    chain-inside : i < length ks
     chain-inside = op-stands look ks i k ek (c .bare) (found .1)
 
-    -- a part stands behind it
-    pub chain-enter : {t g : ℕ} → g < 5 → 5 * (length ks - i) ≡ t → (g + 5 * (length ks - (i + 1)) < t) × Ready ks us (i + 1) p l u
-    chain-enter b m =
-        let a = chain-inside in
-        let x = w .room-kinds in
-        let y = w .room-args in
-        (omega arith, record { even = w .even; within = omega arith; room-kinds = omega arith; room-args = omega arith })
-
-    ready-part : Ready ks us (i + 1) p l u
-    ready-part = chain-enter {g = 0} (omega arith) refl .1
-
+    -- a part behind it goes on
     chain-by : {d : ℕ} {r : Part} {l₁ u₁ : List ℕ} (x : Tree)
-        → Meets ks us (λ s. bind (reads part d s) (chain-then d chain (found .0) x)) (i + 1) p l u r l₁ u₁
+        → Meets ks us (λ s. bind (reads part d s) (chain-then d chain (opDrafts o) (two (found .0) x))) (i + 1) p l u r l₁ u₁
         → Parses ks us (chain x) d i p l u r l₁ u₁
-    chain-by {d} x h =
+    chain-by {d} {r} {l₁} {u₁} x h =
         let row = heldRow ks us in
-        record { meets = meets-by (reads (chain x) d) (c .clause d (drop i row) x ∙ rw (look-at ∙ found .1)) (meets-rest h) }
+        let n = found .0 in
+        let f : opDrafts o ≡ draft (kindTwo n) 0 ∷ [] = op-draft o z ∙ ap (λ (y : ℕ). draft y 0 ∷ []) (eo ∙ ap kindOp (found .1)) in
+        let y : List Symbol → Res Tree = λ s. bind (reads part d s) (chain-then d chain (draft (kindTwo n) 0 ∷ []) (two n x)) in
+        let g : Meets ks us y (i + 1) p l u r l₁ u₁ = rw (← f) h in
+        record { meets = meets-by (reads (chain x) d) (c .clause d (drop i row) x ∙ rw (look-at ∙ found .1)) (meets-rest g) }
 
-    pub chain-stopped : {d b j : ℕ} {r : Part} {l₁ u₁ : List ℕ} → r ≡ Stopped b j → Parses ks us part d (i + 1) p l u r l₁ u₁
-        → (x : Tree) → Parses ks us (chain x) d i p l u r l₁ u₁
-    chain-stopped {d} e h x = chain-by x (stops (chain-then d chain (found .0) x) e h)
+-- ---- a chain on its way
 
-    module _ {d j q : ℕ} {r : Part} {l₁ u₁ : List ℕ} (e : r ≡ Passed j q) (h : Parses ks us part d (i + 1) p l u r l₁ u₁) where
-      -- the operator's draft, and again
-      pub chain-passed : {r : Part} {l₂ u₂ l₃ u₃ : List ℕ} → l₂ ≡ set l₁ q o → u₂ ≡ set u₁ q 0
-          → ((e : Tree) → Parses ks us (chain e) d j (q + 1) l₂ u₂ r l₃ u₃) → (x : Tree) → Parses ks us (chain x) d i p l u r l₃ u₃
-      chain-passed a b g x =
-          let n = found .0 in
-          let f : o ≡ kindTwo n = eo ∙ ap kindOp (found .1) in
-          chain-by x (goes-on (chain-then d chain n x) ready-part e h
-          λ y. meets-tell (kindTwo n) 0 (rw (← f) a) b (g (two n x y) .meets))
+-- Of the whole, begun in the mode m at token i and draft p, the part at token j is next; behind it stands the draft of the operator o. What the
+-- rest gives, the whole gives.
+pub record Going (ks us : List ℕ) (m part : Mode) (chain : Tree → Mode) (d i p : ℕ) (l u : List ℕ) (o j q : ℕ) (l₁ u₁ : List ℕ) : Type 0 where
+  pub on : i ≤ j
+  pub long-kinds : length l₁ ≡ length l
+  pub long-args : length u₁ ≡ length u
+  pub ready : Ready ks us j (q + length (opDrafts o)) l₁ u₁
+  pub joins : Tree → Tree → Tree
+  pub whole : {r : Part} {l₂ u₂ : List ℕ}
+      → ((x : Tree) → Meets ks us (λ s. bind (reads part d s) (chain-then d chain (opDrafts o) (joins x))) j q l₁ u₁ r l₂ u₂)
+      → Parses ks us m d i p l u r l₂ u₂
 
-      part-ready : Ready ks us j (q + 1) l₁ u₁
-      part-ready =
-          let a = after ready-part e h in
-          let b = chain-inside in
-          record { even = w .even; within = a .inside; room-kinds = omega (arith, w .room-kinds); room-args = omega (arith, w .room-args) }
+abbrev pub GoingTerms : List ℕ → List ℕ → ℕ → ℕ → ℕ → List ℕ → List ℕ → ℕ → ℕ → ℕ → List ℕ → List ℕ → Type 0
+GoingTerms ks us = Going ks us expr term terms
 
-      pub chain-room : (q < length l₁) × (q < length u₁)
-      chain-room = let a = part-ready in (omega (arith, a .room-kinds), omega (arith, a .room-args))
+abbrev pub GoingFactors : List ℕ → List ℕ → ℕ → ℕ → ℕ → List ℕ → List ℕ → ℕ → ℕ → ℕ → List ℕ → List ℕ → Type 0
+GoingFactors ks us = Going ks us term factor factors
 
-      pub chain-under : q < length l
-      chain-under = let a = chain-room in let b = after ready-part e h in omega arith
+-- a term begins with its first factor
+pub term-first : {ks us : List ℕ} {d i p : ℕ} {l u : List ℕ} → Ready ks us i p l u → Going ks us term factor factors d i p l u 0 i p l u
+term-first {ks} {us} {d} {i} w =
+    record {
+      on = omega arith;
+      long-kinds = refl;
+      long-args = refl;
+      ready = record { even = w .even; within = w .within; room-kinds = omega (arith, w .room-kinds); room-args = omega (arith, w .room-args) };
+      joins = λ x y. y;
+      whole = λ g. record { meets = meets-by (reads term d) (reads-term d (drop i (heldRow ks us))) (g time) };
+    }
 
-      pub chain-on : {t : ℕ} {l₂ u₂ : List ℕ} → 5 * (length ks - i) ≡ t → l₂ ≡ set l₁ q o → u₂ ≡ set u₁ q 0
-          → (5 * (length ks - j) < t) × Ready ks us j (q + 1) l₂ u₂
-      chain-on m f g = let a = after ready-part e h in let b = chain-inside in (omega arith, ready-set q o 0 part-ready f g)
+module _ {ks us : List ℕ} {i p k s : ℕ} {l u : List ℕ} (o : ℕ) (w : Ready ks us i p l u) (ek : k ≡ getD ks i 0) (eo : opDrafts o ≡ signDrafts (addOp (mark k)))
+    (es : s ≡ skipOf (addOp (mark k))) where
+  -- the reading behind the sign
+  signed-at : (d : ℕ) → reads expr d (drop i (heldRow ks us))
+      ≡ bind (reads term d (drop (i + s) (heldRow ks us))) (chain-then d terms (opDrafts o) (signed (addOp (mark k))))
+  signed-at d =
+      let row = heldRow ks us in
+      reads-expr d (drop i row) ∙ rw (sign-at ks us i k (w .even) ek, eo, es, ← behind-at row i (addOp (mark k)))
+
+  -- an expression begins with its first term
+  pub expr-first : {d : ℕ} → Going ks us expr term terms d i p l u o (i + s) p l u
+  expr-first {d} =
+      let n = sign-within w ek es in
+      let a : length (opDrafts o) ≤ s = rw (eo, es) (sign-pays (addOp (mark k))) in
+      record {
+        on = omega arith;
+        long-kinds = refl;
+        long-args = refl;
+        ready = record { even = w .even; within = n; room-kinds = omega (arith, w .room-kinds); room-args = omega (arith, w .room-args) };
+        joins = λ x. signed (addOp (mark k));
+        whole = λ g. record { meets = meets-by (reads expr d) (signed-at d) (g time) };
+      }
+
+module _ {ks us : List ℕ} {m part : Mode} {chain : Tree → Mode} {d i p : ℕ} {l u : List ℕ} {o j q : ℕ} {l₁ u₁ : List ℕ}
+    (z : Going ks us m part chain d i p l u o j q l₁ u₁) where
+  part-ready : Ready ks us j q l₁ u₁
+  part-ready =
+      let w = z .ready in
+      record { even = w .even; within = w .within; room-kinds = omega (arith, w .room-kinds); room-args = omega (arith, w .room-args) }
+
+  -- the part can be called; t is the measure of the whole
+  pub part-enter : {t : ℕ} (g : ℕ) → g + 1 + 5 * (length ks - i) ≡ t → (g + 5 * (length ks - j) < t) × Ready ks us j q l₁ u₁
+  part-enter g h = let a = z .on in (omega arith, part-ready)
+
+  -- a part that stops stops the whole
+  pub part-stopped : {c b : ℕ} {r : Part} {l₂ u₂ : List ℕ} → r ≡ Stopped c b → Parses ks us part d j q l₁ u₁ r l₂ u₂ → Parses ks us m d i p l u r l₂ u₂
+  part-stopped e h = z .whole λ x. stops (chain-then d chain (opDrafts o) (z .joins x)) e h
+
+  module _ {j₁ q₁ : ℕ} {r : Part} {l₂ u₂ : List ℕ} (e : r ≡ Passed j₁ q₁) (h : Parses ks us part d j q l₁ u₁ r l₂ u₂) where
+    -- there is room for the operator's draft
+    pub op-room : (q₁ + length (opDrafts o) ≤ length l₂) × (q₁ + length (opDrafts o) ≤ length u₂)
+    op-room =
+        let a = after part-ready e h in
+        let w = z .ready in
+        (omega (arith, w .room-kinds), omega (arith, w .room-args))
+
+    module _ {q₂ : ℕ} {l₃ u₃ : List ℕ} (w : PutsOp o q₁ l₂ u₂ q₂ l₃ u₃) where
+      op-long : (length l₃ ≡ length l) × (length u₃ ≡ length u)
+      op-long =
+          let a = after part-ready e h in
+          let x : length l₃ ≡ length l₂ = ap length (w .kinds) ∙ simp length-sets in
+          let y : length u₃ ≡ length u₂ = ap length (w .args) ∙ simp length-sets in
+          (x ∙ a .long-kinds ∙ z .long-kinds, y ∙ a .long-args ∙ z .long-args)
+
+      op-ready : Ready ks us j₁ q₂ l₃ u₃
+      op-ready =
+          let a = after part-ready e h in
+          let b = z .ready in
+          let x = op-long in
+          let n = w .place in
+          record { even = b .even; within = a .inside; room-kinds = omega (arith, b .room-kinds, z .long-kinds); room-args = omega (arith, b .room-args, z .long-args) }
+
+      -- what the chain gives from there on, the whole gives
+      op-whole : {r : Part} {l₄ u₄ : List ℕ} → ((x : Tree) → Parses ks us (chain x) d j₁ q₂ l₃ u₃ r l₄ u₄) → Parses ks us m d i p l u r l₄ u₄
+      op-whole g =
+          z .whole λ x. goes-on (chain-then d chain (opDrafts o) (z .joins x)) part-ready e h λ y. meets-op w (g (z .joins x y) .meets)
+
+      module _ {look : Symbol → Op} (c : Chain look part chain) {k o₁ : ℕ} (ek : k ≡ getD ks j₁ 0) (eo : o₁ ≡ kindOp (look (mark k))) where
+        -- no operator: the whole ends
+        pub part-last : o₁ ≡ 0 → Parses ks us m d i p l u (Passed j₁ q₂) l₃ u₃
+        part-last n = op-whole λ x. chain-end c op-ready ek eo n x
+
+        module _ (n : o₁ ≡ 0 → ⊥) where
+          pub part-inside : j₁ < length ks
+          part-inside = chain-inside c op-ready ek eo n
+
+          pub part-less : length ks - (j₁ + 1) < length ks - j
+          part-less = let a = after part-ready e h in let b = part-inside in omega arith
+
+          -- another part is next
+          pub part-again : Going ks us m part chain d i p l u o₁ (j₁ + 1) q₂ l₃ u₃
+          part-again =
+              let a = after part-ready e h in
+              let b = part-inside in
+              let s = z .on in
+              let v = op-ready in
+              let f : length (opDrafts o₁) ≡ 1 = ap length (op-draft o₁ n) in
+              record {
+                on = omega arith;
+                long-kinds = op-long .0;
+                long-args = op-long .1;
+                ready = record { even = v .even; within = omega arith; room-kinds = omega (arith, v .room-kinds); room-args = omega (arith, v .room-args) };
+                joins = two (found c op-ready ek eo n .0);
+                whole = λ g. op-whole λ x. chain-by c op-ready ek eo n x (g x);
+              }

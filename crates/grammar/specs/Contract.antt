@@ -2,7 +2,7 @@
 use Prim.Native.Nat.{ℕ, _+_, _-_, _≤_, _<_}
 use mathlib.Core.Path.{_≡_}
 use mathlib.Core.Bool.{cond, _&&_}
-use mathlib.Core.List.{List, map}
+use mathlib.Core.List.{List, [], _∷_, map}
 use lib.ListN.{length, drop}
 use lib.Seq.{sets}
 use lib.Dec.{eqb, leb}
@@ -32,6 +32,16 @@ outcome r l u = record { reply = r; kinds = l; args = u }
 -- these drafts stand from place p on
 unfoldable pub wrote : {R : Type 0} → R → List Draft → ℕ → List ℕ → List ℕ → Outcome R
 wrote r o p l u = outcome r (sets l p (map (λ (x : Draft). x .kind) o)) (sets u p (map (λ (x : Draft). x .arg) o))
+
+-- the draft that an operator of this kind writes; of 0 none
+abbrev pub opDrafts : ℕ → List Draft
+opDrafts k = cond (eqb k 0) [] (draft k 0 ∷ [])
+
+-- what `put_op` gives: that draft from place p on, and the place behind it
+pub record PutsOp (k p : ℕ) (l u : List ℕ) (r : ℕ) (l′ u′ : List ℕ) : Type 0 where
+  pub place : r ≡ p + length (opDrafts k)
+  pub kinds : l′ ≡ sets l p (map (λ (x : Draft). x .kind) (opDrafts k))
+  pub args : u′ ≡ sets u p (map (λ (x : Draft). x .arg) (opDrafts k))
 
 -- ---- the entry
 

@@ -1,17 +1,17 @@
 // The grammar of statements: a row of tokens is read, and its drafts are written.
 ghost use mathlib.Core.Path.{_≡_};
-ghost use Prim.Native.Nat.{ℕ, _+_, _-_, _<_};
+ghost use Prim.Native.Nat.{ℕ, _+_, _≤_, _<_};
 ghost use lib.ListN.{length, getD, set};
 ghost use lib.Dec.{ltb};
 ghost use Rattle.limits.specs.Limits.{levels};
 ghost use Rattle.tokens.specs.Symbol.{mark};
 ghost use Rattle.tokens.specs.Held.{symbolOf, heldRow};
-ghost use Rattle.grammar.specs.Tree.{Tree, Initial};
+ghost use Rattle.grammar.specs.Tree.{Initial};
 ghost use Rattle.grammar.specs.Look.{addOp, mulOp, Opening, shapeOf};
-ghost use Rattle.grammar.specs.Grammar.{expr, term, factor, terms, factors, opened, list};
-ghost use Rattle.grammar.specs.Parser.{assigned, rated, integrated, statement, calls};
+ghost use Rattle.grammar.specs.Grammar.{expr, term, factor, opened, list};
+ghost use Rattle.grammar.specs.Parser.{signDrafts, assigned, rated, integrated, statement, calls};
 ghost use Rattle.grammar.specs.Codes.{kindOp, skipOf, wantOf, kindOpening, closerOf, leafArg, faceOf};
-ghost use Rattle.grammar.specs.Contract.{Ready, Within, Meets, Parses, Lists, numberAt, initialAt, ParsesRow};
+ghost use Rattle.grammar.specs.Contract.{opDrafts, PutsOp, Ready, Within, Meets, Parses, Lists, numberAt, initialAt, ParsesRow};
 
 // The answer for a row: the place behind its drafts, a fault's code and its token's place, or a buffer too short.
 pub enum Parsed {
@@ -123,7 +123,26 @@ fn emit(drafts: &mut [u8], values: &mut [u64], place: usize, kind: u8, arg: u64)
     values[place] = arg;
 }
 
-// An expression: a sign or none, a term, and the terms behind it. A minus writes its draft behind the whole first term.
+// The kind of the draft that a sign writes behind the first term: 9 of a minus, 0 of any other token.
+fn sign_op(k: u8) -> u8
+    ensures { λ r. ⌜ opDrafts r ≡ signDrafts (addOp (mark k)) ⌝ }
+{
+    if k == b'-' { 9 } else { 0 }
+}
+
+// Writes the draft of an operator, if there is one; the place behind it.
+fn put_op(drafts: &mut [u8], values: &mut [u64], place: usize, op: u8) -> usize
+    requires { ⌜ (place + length (opDrafts op) ≤ length (now drafts)) × (place + length (opDrafts op) ≤ length (now values)) ⌝ }
+    ensures { λ r. ⌜ PutsOp op place (now (drafts .entry)) (now (values .entry)) r (now (drafts .exit)) (now (values .exit)) ⌝ }
+{
+    if op == 0 {
+        return place;
+    }
+    emit(drafts, values, place, op, 0);
+    place + 1
+}
+
+// An expression: a sign or none, a term, and more terms, each behind + or -. Behind each term stands the draft of what stands before it.
 fn expression(
     kinds: &[u8],
     args: &[u64],
@@ -138,46 +157,24 @@ fn expression(
         (now (drafts .entry)) (now (values .entry)) r (now (drafts .exit)) (now (values .exit)) ⌝ }
 {
     let k = peek(kinds, at);
-    let start = at + skip_of(k);
-    let r = term(kinds, args, start, allowed, drafts, values, place);
-    let Part::Passed { next, place: p } = r else {
-        return r;
-    };
-    if k == b'-' {
-        emit(drafts, values, p, 9, 0);
-        more_terms(kinds, args, next, allowed, drafts, values, p + 1)
-    } else {
-        more_terms(kinds, args, next, allowed, drafts, values, p)
+    let mut op = sign_op(k);
+    let mut i = at + skip_of(k);
+    let mut w = place;
+    loop {
+        let r = term(kinds, args, i, allowed, &mut *drafts, &mut *values, w);
+        let Part::Passed { next, place: p } = r else {
+            return r;
+        };
+        w = put_op(&mut *drafts, &mut *values, p, op);
+        op = add_op(peek(kinds, next));
+        if op == 0 {
+            return Part::Passed { next, place: w };
+        }
+        i = next + 1;
     }
 }
 
-// The terms that follow one, each behind + or -.
-fn more_terms(
-    kinds: &[u8],
-    args: &[u64],
-    at: usize,
-    allowed: usize,
-    drafts: &mut [u8],
-    values: &mut [u64],
-    place: usize,
-) -> Part
-    requires { ⌜ Ready (now kinds) (now args) at place (now drafts) (now values) ⌝ }
-    ensures { λ r. ⌜ ((e : Tree) → Parses (now (kinds .entry)) (now (args .entry)) (terms e) allowed at place
-        (now (drafts .entry)) (now (values .entry)) r (now (drafts .exit)) (now (values .exit))) ⌝ }
-{
-    let op = add_op(peek(kinds, at));
-    if op == 0 {
-        return Part::Passed { next: at, place };
-    }
-    let r = term(kinds, args, at + 1, allowed, drafts, values, place);
-    let Part::Passed { next, place: p } = r else {
-        return r;
-    };
-    emit(drafts, values, p, op, 0);
-    more_terms(kinds, args, next, allowed, drafts, values, p + 1)
-}
-
-// A term: a factor, and the factors behind it.
+// A term: factors, each but the first behind * or /, with its draft behind the factor.
 fn term(
     kinds: &[u8],
     args: &[u64],
@@ -191,37 +188,21 @@ fn term(
     ensures { λ r. ⌜ Parses (now (kinds .entry)) (now (args .entry)) term allowed at place
         (now (drafts .entry)) (now (values .entry)) r (now (drafts .exit)) (now (values .exit)) ⌝ }
 {
-    let r = factor(kinds, args, at, allowed, drafts, values, place);
-    let Part::Passed { next, place: p } = r else {
-        return r;
-    };
-    more_factors(kinds, args, next, allowed, drafts, values, p)
-}
-
-// The factors that follow one, each behind * or /.
-fn more_factors(
-    kinds: &[u8],
-    args: &[u64],
-    at: usize,
-    allowed: usize,
-    drafts: &mut [u8],
-    values: &mut [u64],
-    place: usize,
-) -> Part
-    requires { ⌜ Ready (now kinds) (now args) at place (now drafts) (now values) ⌝ }
-    ensures { λ r. ⌜ ((e : Tree) → Parses (now (kinds .entry)) (now (args .entry)) (factors e) allowed at place
-        (now (drafts .entry)) (now (values .entry)) r (now (drafts .exit)) (now (values .exit))) ⌝ }
-{
-    let op = mul_op(peek(kinds, at));
-    if op == 0 {
-        return Part::Passed { next: at, place };
+    let mut op: u8 = 0;
+    let mut i = at;
+    let mut w = place;
+    loop {
+        let r = factor(kinds, args, i, allowed, &mut *drafts, &mut *values, w);
+        let Part::Passed { next, place: p } = r else {
+            return r;
+        };
+        w = put_op(&mut *drafts, &mut *values, p, op);
+        op = mul_op(peek(kinds, next));
+        if op == 0 {
+            return Part::Passed { next, place: w };
+        }
+        i = next + 1;
     }
-    let r = factor(kinds, args, at + 1, allowed, drafts, values, place);
-    let Part::Passed { next, place: p } = r else {
-        return r;
-    };
-    emit(drafts, values, p, op, 0);
-    more_factors(kinds, args, next, allowed, drafts, values, p + 1)
 }
 
 // A factor, by what its token begins.
