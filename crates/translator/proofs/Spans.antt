@@ -11,13 +11,14 @@ use Rattle.laws.proofs.Tests.{cond-ind}
 use Rattle.limits.specs.Limits.{cardBytes}
 use Rattle.deck.specs.Lines.{Line, cut, linesOf, dotted, passed}
 use Rattle.deck.specs.Joined.{partOf, joined}
-use Rattle.deck.specs.Next.{runOf, nextOf, Lawful, foundFrom, cardsAt}
+use Rattle.deck.specs.Next.{width, runOf, nextOf, Lawful, foundFrom, cardsAt}
 use Rattle.deck.specs.declared.Cursor.{Cursor}
 use Rattle.deck.specs.declared.Found.{Found}
 use Rattle.deck.specs.declared.Found.the-variants.{Statement, End}
-use Rattle.deck.proofs.Bytes.{lines-some, lines-tail}
+use Rattle.deck.proofs.Bytes.{lineOf, line-at, lines-some, lines-tail}
 use Rattle.deck.proofs.Parts.{part-le}
 use Rattle.deck.proofs.Steps.{found-next}
+use Rattle.translator.specs.Working.{Stands}
 
 -- the bytes of lines, a byte 10 behind each
 unfoldable pub spread : List Line → ℕ
@@ -120,6 +121,54 @@ span t c h b {f} {s} {k} {d} {g} {nx} e = go (cardsAt t s k) refl
     go (l ∷ ls) q =
         let m : spread (cardsAt t s k) ≡ spread (l ∷ ls) = ap spread q in
         omega (arith, w .0, w .1, few, joined-spread l ls)
+
+-- ---- a statement of one line
+
+-- the joined text of a closed statement of one line stands before the next cursor
+abbrev Alone : List ℕ → Found → Type 0
+Alone t End = Unit {0}
+Alone t (Statement f s k d g nx) = k ≡ 1 → d ≡ true → Stands t s (nx .at) (joined (cardsAt t s k))
+
+-- with a line read already it stays open, or has more lines
+run-never : (t : List ℕ) (f s at k : ℕ) (long : Bool) (ls : List Line) → 0 < k → Alone t (runOf f s at k long ls)
+unfolding runOf
+run-never t f s at k long [] h = λ n e. absurd (let z : _≡_ {A = ℕ} 0 1 = cc in omega arith)
+run-never t f s at k long (l ∷ ls) h =
+    cond-ind (Alone t) (dotted l) _ _ (λ _. run-never t f s (at + length l + 1) (k + 1) (long || ltb cardBytes (length l)) ls (omega arith))
+    (λ _ n e. absurd (omega arith))
+
+-- the first line of the lines from a place on stands there
+line-stands : (t : List ℕ) (s : ℕ) (l : Line) (ls : List Line) → linesOf (drop s t) ≡ l ∷ ls → (take (length l) (drop s t) ≡ l) × (s + length l ≤ length t)
+line-stands t s l ls q =
+    let e = s + width (drop s t) in
+    let a = line-at t s e (lines-some t s l ls q) refl in
+    let h : l ≡ lineOf t s e = cc (sym q ∙ a .lines) in
+    let n : length l ≡ e - s = ap length h ∙ a .long in
+    (ap (λ (m : ℕ). take m (drop s t)) n ∙ sym h, omega (arith, a .from, a .upto))
+
+-- without dots it is the joined text
+run-alone : (t : List ℕ) (f s : ℕ) (l : Line) (ls : List Line) → linesOf (drop s t) ≡ l ∷ ls → Alone t (runOf f s s 0 false (l ∷ ls))
+unfolding runOf joined partOf
+run-alone t f s l ls q =
+    let w = line-stands t s l ls q in
+    let m : s + length l + 1 - 1 - s ≡ length l = omega arith in
+    cond-ind (Alone t) (dotted l) _ _ (λ _. run-never t f s (s + length l + 1) 1 (ltb cardBytes (length l)) ls (omega arith))
+    (λ e _ _. record { from = omega arith; upto = omega (arith, w .1); same = rw (m, q, e) (w .0) })
+
+-- from a fresh line on
+next-alone : (t : List ℕ) (at n : ℕ) (ls : List Line) → linesOf (drop at t) ≡ ls → Alone t (nextOf at n ls)
+unfolding nextOf
+next-alone t at n [] q = tt
+next-alone t at n (l ∷ ls) q =
+    let more = next-alone t (at + length l + 1) (n + 1) ls (lines-tail t at l ls q) in
+    cond-ind (Alone t) (passed l) _ _ (λ _. more) (λ _. run-alone t n at l ls q)
+
+-- from a lawful cursor on
+pub alone : (t : List ℕ) (c : Cursor) → Lawful c → {f s k : ℕ} {d g : Bool} {nx : Cursor} → foundFrom t c ≡ Statement f s k d g nx → k ≡ 1 → d ≡ true
+    → Stands t s (nx .at) (joined (cardsAt t s k))
+alone t c h e =
+    let n : Alone t (foundFrom t c) = rw (found-next t c h) (next-alone t (c .at) (c .line) (linesOf (drop (c .at) t)) refl) in
+    rw e at n
 
 -- ---- how large a statement's number is
 

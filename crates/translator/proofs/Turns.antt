@@ -1,15 +1,16 @@
 -- One turn of reading after the other, in buffers that keep their lengths.
 use Prim.Native.Nat.{ℕ, suc, _+_, _-_, _≤_, _<_}
 use mathlib.Core.Path.{_≡_, refl, ap, _∙_}
-use mathlib.Core.Bool.{Bool}
+use mathlib.Core.Bool.{Bool, true, false}
 use mathlib.Core.List.{List, [], _∷_, _++_, map}
 use native.Mathlib.Omega.{arith}
-use lib.ListN.{length, length-append, length-set}
+use lib.ListN.{length, replicate, length-append, length-set}
 use lib.Seq.{length-sets}
 use Rattle.laws.specs.Lists.{concat-map}
 use Rattle.limits.specs.Limits.{mostStatements}
 use Rattle.deck.specs.Joined.{joined}
 use Rattle.deck.specs.Reading.{Statement as Found}
+use Rattle.deck.specs.Codes.{sizeCode, joinedRoom}
 use Rattle.deck.specs.Reports.{report}
 use Rattle.deck.specs.Next.{foundFrom, statementsFrom, cardsAt}
 use Rattle.deck.specs.declared.Cursor.{Cursor}
@@ -20,7 +21,7 @@ use Rattle.sheet.specs.Reader.{told, sheetOf}
 use Rattle.translator.specs.declared.Tally.{Tally}
 use Rattle.translator.specs.Working.{Able, AddsOf, Adds, Progress, Room, Read}
 use Rattle.translator.proofs.Parsing.{drafts-few}
-use Rattle.translator.proofs.Spans.{span, first-near}
+use Rattle.translator.proofs.Spans.{span, alone, first-near}
 use Rattle.translator.proofs.Progress.{progress-first, progress-said, progress-faulty, progress-last}
 
 -- each report is a statement without fault, or a fault
@@ -33,6 +34,11 @@ counts (r ∷ done) = go (r .what) (counts done)
         → length (saidBy (r .line) t ++ said done) + length (faultBy (r .line) t ++ statementFaults done) ≡ suc (length done)
     go (says x) h = omega arith
     go (faulty c q) h = omega arith
+
+-- a statement without fault for size is closed
+closed : (k : ℕ) (d long : Bool) → sizeCode k d long ≡ 0 → d ≡ true
+closed k true long h = refl
+closed k false long h = absurd (omega arith)
 
 -- what is read so far; the buffers are as long as those of the beginning
 pub record Going (text kinds₀ args₀ lines₀ bounds₀ list₀ kinds args lines bounds list : List ℕ) (n : Tally) (c : Cursor) : Type 0 where
@@ -88,9 +94,9 @@ module _ {text kinds₀ args₀ lines₀ bounds₀ list₀ kinds args lines boun
         let many = length-append (p .done) (report told one ∷ map (report told) (statementsFrom text nx)) in
         omega (arith, ap length all, many, counts (p .done), p .statements, p .faults, room .few)
 
-    -- what reading it asks
-    pub going-able : Able text f s k d long n kinds args lines bounds
-    going-able =
+    -- what reading it asks, with two rows of room
+    pub going-able : {ks us : List ℕ} → joinedRoom ≤ length ks → joinedRoom ≤ length us → Able text f s k d long (nx .at) n ks us kinds args lines bounds
+    going-able hk hu =
         let p = g .progress in
         let short = near .1 in
         record {
@@ -98,6 +104,9 @@ module _ {text kinds₀ args₀ lines₀ bounds₀ list₀ kinds args lines boun
           before =
               record {
                 short = step .short;
+                alone = λ z one. alone text c (p .lawful) e one (closed k d long z);
+                row-kinds = hk;
+                row-args = hu;
                 room-kinds = omega (arith, p .short, short, room .kinds-room, g .long-kinds);
                 room-args = omega (arith, p .short, short, room .args-room, g .long-args);
               };
@@ -128,7 +137,8 @@ module _ {text kinds₀ args₀ lines₀ bounds₀ list₀ kinds args lines boun
         go (says x) q (en, ek, ea, el, eb, ef) =
             let few = drafts-few (cardsAt text s k) d x q in
             let p = g .progress in
-            let a = going-able in
+            let row : List ℕ = replicate joinedRoom 0 in
+            let a = going-able {ks = row} {us = row} (omega arith) (omega arith) in
             let more : Progress text list₀ nx _ _ _ _ _ list =
             progress-said p step x q (omega (arith, p .short, near .0)) (omega (arith, p .short, near .1))
             (omega (arith, a .before .room-kinds)) (omega (arith, a .before .room-args)) (a .lines-room) (a .bounds-room) in

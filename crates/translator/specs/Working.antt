@@ -1,10 +1,10 @@
 -- What the parts of `translate` meet.
-use Prim.Native.Nat.{ℕ, suc, _+_, _*_, _≤_, _<_}
+use Prim.Native.Nat.{ℕ, suc, _+_, _-_, _*_, _≤_, _<_}
 use mathlib.Core.Path.{_≡_}
 use mathlib.Core.Bool.{Bool, true, false}
 use mathlib.Core.List.{List, [], _∷_, _++_, map}
 use lib.Dec.{ltb}
-use lib.ListN.{length, take, set}
+use lib.ListN.{length, take, drop, set}
 use lib.Seq.{sets}
 use Rattle.limits.specs.Limits.{mostStatements, mostDefinitions, textBytes, faultRoom}
 use Rattle.deck.specs.declared.Cursor.{Cursor}
@@ -62,11 +62,32 @@ pub record RowRoom (ks us : List ℕ) (p : ℕ) (l u : List ℕ) : Type 0 where
 abbrev pub Size : List Line → Bool → ℕ → Type 0
 Size cards closed code = sizeFlaw cards closed ≡ flawOf closed code
 
--- what reading the statement of these lines asks: its joined text has room, and so have its drafts
-pub record Before (cards : List Line) (code p : ℕ) (l u : List ℕ) : Type 0 where
-  pub short : code ≡ 0 → length (joined cards) ≤ joinedRoom
-  pub room-kinds : p + length (joined cards) ≤ length l
-  pub room-args : p + length (joined cards) ≤ length u
+-- what reading a joined text asks: a place in each row for each byte, and so many for drafts
+pub record JoinedRoom (body ks us : List ℕ) (p : ℕ) (l u : List ℕ) : Type 0 where
+  pub row-kinds : length body ≤ length ks
+  pub row-args : length body ≤ length us
+  pub room-kinds : p + length body ≤ length l
+  pub room-args : p + length body ≤ length u
+
+-- the same where it is still to be joined
+pub record CardsRoom (body ks us : List ℕ) (p : ℕ) (l u : List ℕ) : Type 0 where
+  pub short : length body ≤ joinedRoom
+  pub room : JoinedRoom body ks us p l u
+
+-- the bytes from a place up to one before another are these
+pub record Stands (text : List ℕ) (start next : ℕ) (body : List ℕ) : Type 0 where
+  pub from : start < next
+  pub upto : next ≤ length text + 1
+  pub same : take (next - 1 - start) (drop start text) ≡ body
+
+-- what reading the statement of so many lines asks: its joined text has room, and so have its drafts; of one line it is what stands there
+pub record Before (text : List ℕ) (start cards next code : ℕ) (ks us : List ℕ) (p : ℕ) (l u : List ℕ) : Type 0 where
+  pub short : code ≡ 0 → length (joined (cardsAt text start cards)) ≤ joinedRoom
+  pub alone : code ≡ 0 → cards ≡ 1 → Stands text start next (joined (cardsAt text start cards))
+  pub row-kinds : joinedRoom ≤ length ks
+  pub row-args : joinedRoom ≤ length us
+  pub room-kinds : p + length (joined (cardsAt text start cards)) ≤ length l
+  pub room-args : p + length (joined (cardsAt text start cards)) ≤ length u
 
 -- a fault's four bytes
 abbrev pub entryOf : ℕ → ℕ → List ℕ
@@ -75,9 +96,9 @@ entryOf line code = lowBytes 2 line ++ (code ∷ 0 ∷ [])
 -- ---- one statement more
 
 -- what it asks of the arrays besides
-pub record Able (text : List ℕ) (first start cards : ℕ) (closed long : Bool) (n : Tally) (kinds args lines bounds : List ℕ) : Type 0 where
+pub record Able (text : List ℕ) (first start cards : ℕ) (closed long : Bool) (next : ℕ) (n : Tally) (ks us kinds args lines bounds : List ℕ) : Type 0 where
   pub size : Size (cardsAt text start cards) closed (sizeCode cards closed long)
-  pub before : Before (cardsAt text start cards) (sizeCode cards closed long) (n .drafts) kinds args
+  pub before : Before text start cards next (sizeCode cards closed long) ks us (n .drafts) kinds args
   pub first-fits : first < 65536
   pub kinds-fit : length kinds < 65536
   pub lines-room : n .statements < length lines

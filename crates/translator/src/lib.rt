@@ -2,16 +2,16 @@
 ghost use mathlib.Core.Path.{_≡_};
 ghost use mathlib.Core.Bool.{Bool};
 ghost use mathlib.Core.List.{List};
-ghost use Prim.Native.Nat.{_+_, _*_, _<_, _≤_};
-ghost use lib.ListN.{length};
+ghost use Prim.Native.Nat.{_*_, _<_};
 ghost use lib.Seq.{sets};
 ghost use Rattle.tokens.specs.Held.{heldRow};
 ghost use Rattle.tokens.specs.Row.{Placed, symbols, rowOf};
 ghost use Rattle.grammar.specs.Parser.{readRow};
-ghost use Rattle.deck.specs.Codes.{joinedRoom};
+ghost use Rattle.deck.specs.Joined.{joined};
 ghost use Rattle.deck.specs.Next.{cardsAt};
 ghost use Rattle.sheet.specs.Reader.{parsed, tokened, told};
-ghost use Rattle.translator.specs.Working.{Tells, RowRoom, Size, Before, entryOf, Able, Adds, Room, Read};
+ghost use Rattle.translator.specs.Working.{Tells, RowRoom, JoinedRoom, CardsRoom, Size, Before};
+ghost use Rattle.translator.specs.Working.{entryOf, Able, Adds, Room, Read};
 ghost use Rattle.translator.specs.Contract.{Translates};
 
 mod finish;
@@ -63,15 +63,20 @@ fn parse(row: &[u8], values: &[u64], kinds: &mut [u8], args: &mut [u64], place: 
     }
 }
 
-// What a joined text says, or its fault.
-fn read_joined(body: &[u8], kinds: &mut [u8], args: &mut [u64], place: usize) -> Told
-    requires { ⌜ (length (now body) ≤ joinedRoom) × (place + length (now body) ≤ length (now kinds)) × (place + length (now body) ≤ length (now args)) ⌝ }
+// What a joined text says, or its fault; its tokens are held in two lent rows.
+fn read_joined(
+    body: &[u8],
+    row_kinds: &mut [u8],
+    row_args: &mut [u64],
+    kinds: &mut [u8],
+    args: &mut [u64],
+    place: usize,
+) -> Told
+    requires { ⌜ JoinedRoom (now body) (now «row_kinds») (now «row_args») place (now kinds) (now args) ⌝ }
     ensures { λ r. ⌜ Tells (tokened (rowOf (now (body .entry)))) place (now (kinds .entry)) (now (args .entry))
         r (now (kinds .exit)) (now (args .exit)) ⌝ }
 {
-    let mut row_kinds = [0u8; deck::JOINED_BYTES];
-    let mut row_args = [0u64; deck::JOINED_BYTES];
-    let end = tokens::row(body, &mut row_kinds, &mut row_args);
+    let end = tokens::row(body, &mut *row_kinds, &mut *row_args);
     match end {
         RowEnd::NoRoom => Told::Faulty(0),
         RowEnd::Fault {
@@ -83,17 +88,40 @@ fn read_joined(body: &[u8], kinds: &mut [u8], args: &mut [u64], place: usize) ->
     }
 }
 
-// What the statement of so many lines from a place on says, or its fault; code is its fault for size.
-fn read_statement(
+// What so many lines from a place on say, or their fault.
+fn read_cards(
     text: &[u8],
     start: usize,
     cards: usize,
-    code: u8,
+    row_kinds: &mut [u8],
+    row_args: &mut [u64],
     kinds: &mut [u8],
     args: &mut [u64],
     place: usize,
 ) -> Told
-    requires { ⌜ Before (cardsAt (now text) start cards) code place (now kinds) (now args) ⌝ }
+    requires { ⌜ CardsRoom (joined (cardsAt (now text) start cards)) (now «row_kinds») (now «row_args») place (now kinds) (now args) ⌝ }
+    ensures { λ r. ⌜ Tells (tokened (rowOf (joined (cardsAt (now (text .entry)) start cards)))) place (now (kinds .entry)) (now (args .entry))
+        r (now (kinds .exit)) (now (args .exit)) ⌝ }
+{
+    let mut body = [0u8; deck::JOINED_BYTES];
+    let n = deck::join(text, start, cards, &mut body);
+    read_joined(&body[..n], row_kinds, row_args, kinds, args, place)
+}
+
+// What the statement of so many lines from a place on says, or its fault; code is its fault for size. The text of one line is its joined text.
+fn read_statement(
+    text: &[u8],
+    start: usize,
+    cards: usize,
+    next: usize,
+    code: u8,
+    row_kinds: &mut [u8],
+    row_args: &mut [u64],
+    kinds: &mut [u8],
+    args: &mut [u64],
+    place: usize,
+) -> Told
+    requires { ⌜ Before (now text) start cards next code (now «row_kinds») (now «row_args») place (now kinds) (now args) ⌝ }
     ensures { λ r. ⌜ ((closed : Bool) → Size (cardsAt (now (text .entry)) start cards) closed code
         → Tells (told (cardsAt (now (text .entry)) start cards) closed) place (now (kinds .entry)) (now (args .entry))
         r (now (kinds .exit)) (now (args .exit))) ⌝ }
@@ -101,9 +129,11 @@ fn read_statement(
     if code != 0 {
         return Told::Faulty(code);
     }
-    let mut body = [0u8; deck::JOINED_BYTES];
-    let n = deck::join(text, start, cards, &mut body);
-    read_joined(&body[..n], kinds, args, place)
+    if cards == 1 {
+        let end = next - 1;
+        return read_joined(&text[start..end], row_kinds, row_args, kinds, args, place);
+    }
+    read_cards(text, start, cards, row_kinds, row_args, kinds, args, place)
 }
 
 // Writes a fault to the list, behind so many others.
@@ -124,14 +154,17 @@ fn read_one(
     cards: usize,
     closed: bool,
     long: bool,
+    next: usize,
     n: Tally,
+    row_kinds: &mut [u8],
+    row_args: &mut [u64],
     kinds: &mut [u8],
     args: &mut [u64],
     lines: &mut [u16],
     bounds: &mut [u16],
     list: &mut [u8],
 ) -> Tally
-    requires { ⌜ Able (now text) first start cards closed long n (now kinds) (now args) (now lines) (now bounds) ⌝ }
+    requires { ⌜ Able (now text) first start cards closed long next n (now «row_kinds») (now «row_args») (now kinds) (now args) (now lines) (now bounds) ⌝ }
     ensures { λ r. ⌜ Adds (told (cardsAt (now (text .entry)) start cards) closed) first n
         (now (kinds .entry)) (now (args .entry)) (now (lines .entry)) (now (bounds .entry)) (now (list .entry))
         r (now (kinds .exit)) (now (args .exit)) (now (lines .exit)) (now (bounds .exit)) (now (list .exit)) ⌝ }
@@ -140,7 +173,18 @@ fn read_one(
     let s = n.statements;
     let f = n.faults;
     let d = n.drafts;
-    let r = read_statement(text, start, cards, code, kinds, args, d);
+    let r = read_statement(
+        text,
+        start,
+        cards,
+        next,
+        code,
+        row_kinds,
+        row_args,
+        kinds,
+        args,
+        d,
+    );
     match r {
         Told::Says(end) => {
             lines[s] = first as u16;
@@ -180,6 +224,8 @@ fn read_all(
         drafts: 0,
         faults: 0,
     };
+    let mut row_kinds = [0u8; deck::JOINED_BYTES];
+    let mut row_args = [0u64; deck::JOINED_BYTES];
     let mut c = Cursor { at: 0, line: 1 };
     loop {
         let found = deck::next_statement(text, c);
@@ -201,7 +247,10 @@ fn read_all(
             cards,
             closed,
             long,
+            next.at,
             n,
+            &mut row_kinds,
+            &mut row_args,
             &mut *kinds,
             &mut *args,
             &mut *lines,

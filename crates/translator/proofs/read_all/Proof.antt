@@ -1,8 +1,10 @@
 -- One statement after the other, from the first byte to the last.
 use Prim.Native.Nat.{_-_}
-use mathlib.Core.Path.{_≡_, sym, _∙_}
+use mathlib.Core.Path.{_≡_, refl, sym, _∙_}
+use native.Mathlib.Omega.{arith}
 use borrow.Author.Needs.{needs}
 use lib.ListN.{length}
+use Rattle.deck.specs.Codes.{joinedRoom}
 use Rattle.deck.specs.Next.{foundFrom}
 use Rattle.deck.specs.declared.Found.{Found}
 use Rattle.translator.proofs.Turns.{Going, going-first, going-list, going-last, going-less, going-able, going-next}
@@ -10,11 +12,11 @@ use Rattle.translator.proofs.read_all.Statement.{statement}
 use Rattle.translator.proofs.read_all.Tie as tie
 
 abbrev Inv-loop : tie.InvT-loop
-Inv-loop text kinds₀ args₀ lines₀ bounds₀ list₀ n₀ c₀ kinds args lines bounds list n c =
-    Going text kinds₀ args₀ lines₀ bounds₀ list₀ kinds args lines bounds list n c
+Inv-loop text kinds₀ args₀ lines₀ bounds₀ list₀ n₀ row-kinds₀ row-args₀ c₀ kinds args lines bounds list n row-kinds row-args c =
+    Going text kinds₀ args₀ lines₀ bounds₀ list₀ kinds args lines bounds list n c × (length row-kinds ≡ joinedRoom) × (length row-args ≡ joinedRoom)
 
 abbrev μ-loop : tie.MeasureT-loop
-μ-loop text kinds₀ args₀ lines₀ bounds₀ list₀ n₀ c₀ kinds args lines bounds list n c = length text - c .at
+μ-loop text kinds₀ args₀ lines₀ bounds₀ list₀ n₀ row-kinds₀ row-args₀ c₀ kinds args lines bounds list n row-kinds row-args c = length text - c .at
 
 -- where the function begins, and the loop that found a statement
 abbrev B : tie.At-loop Inv-loop μ-loop → tie.Start Inv-loop μ-loop
@@ -29,53 +31,47 @@ found : {r : Found} (x : tie.After-next-statement Inv-loop μ-loop) → x .next-
 found x e = sym (x .next-statement .ensures .0) ∙ e
 
 loop-holds : tie.Need-loop-holds Inv-loop μ-loop
-loop-holds c = going-first (c .before .before .before .before .before .before .pre)
-
-next-statement-requires : tie.Need-next-statement-requires Inv-loop μ-loop
-next-statement-requires c κs = search needs
-
-enum-known-found : tie.Need-enum-known-found Inv-loop μ-loop
-enum-known-found c = search needs
-
-enum-told : tie.Need-enum-told Inv-loop μ-loop
-enum-told c = search needs
+loop-holds c = (going-first (c .before .before .before .before .before .before .pre), refl, refl)
 
 same-length : tie.Need-same-length Inv-loop μ-loop
-same-length c = c .before .before .before .loop .inv .long-kinds
+same-length c = c .before .before .before .loop .inv .0 .long-kinds
 
 same-length-2 : tie.Need-same-length-2 Inv-loop μ-loop
-same-length-2 c = c .before .before .before .loop .inv .long-args
+same-length-2 c = c .before .before .before .loop .inv .0 .long-args
 
 same-length-3 : tie.Need-same-length-3 Inv-loop μ-loop
-same-length-3 c = c .before .before .before .loop .inv .long-lines
+same-length-3 c = c .before .before .before .loop .inv .0 .long-lines
 
 same-length-4 : tie.Need-same-length-4 Inv-loop μ-loop
-same-length-4 c = c .before .before .before .loop .inv .long-bounds
+same-length-4 c = c .before .before .before .loop .inv .0 .long-bounds
 
 same-length-5 : tie.Need-same-length-5 Inv-loop μ-loop
-same-length-5 c = let l = c .before .before .before in going-list (B l .pre) (l .loop .inv)
+same-length-5 c = let l = c .before .before .before in going-list (B l .pre) (l .loop .inv .0)
 
 returns : tie.Need-returns Inv-loop μ-loop
 returns c =
     let x = c .before .before in
-    going-last (B (x .before) .pre) (x .before .loop .inv) (found x (c .enum-told .given .1))
+    going-last (B (x .before) .pre) (x .before .loop .inv .0) (found x (c .enum-told .given .1))
 
 read-one-requires : tie.Need-read-one-requires Inv-loop μ-loop
 read-one-requires c κs =
-    let f = c .before .before .before .before .before .before in
-    going-able (B (L f) .pre) (L f .loop .inv) (found (f .before .before) (f .found .given .1))
+    let f = c .before .before .before .before .before .before .before .before in
+    let i = L f .loop .inv in
+    going-able (B (L f) .pre) (L f .loop .inv .0) (found (f .before .before) (f .found .given .1)) (omega (arith, i .1)) (omega (arith, i .2))
 
 loop-less : tie.Need-loop-less Inv-loop μ-loop
 loop-less c =
-    let r = c .before .before .before .before .before .before .before .before .before .before in
-    let f = r .before .before .before .before .before .before .before in
-    going-less (B (L f) .pre) (L f .loop .inv) (found (f .before .before) (f .found .given .1))
+    let r = c .before .before .before .before .before .before .before .before .before .before .before .before in
+    let f = r .before .before .before .before .before .before .before .before .before in
+    going-less (B (L f) .pre) (L f .loop .inv .0) (found (f .before .before) (f .found .given .1))
 
 loop-again : tie.Need-loop-again Inv-loop μ-loop
 loop-again c =
-    let r = c .before .before .before .before .before .before .before .before .before .before in
-    let f = r .before .before .before .before .before .before .before in
-    going-next (B (L f) .pre) (L f .loop .inv) (found (f .before .before) (f .found .given .1)) (r .read-one .ensures)
+    let r = c .before .before .before .before .before .before .before .before .before .before .before .before in
+    let f = r .before .before .before .before .before .before .before .before .before in
+    let i = L f .loop .inv in
+    (going-next (B (L f) .pre) (i .0) (found (f .before .before) (f .found .given .1)) (r .read-one .ensures),
+    omega (arith, i .1, r .read-one .kept), omega (arith, i .2, r .read-one .kept))
 
 pub read-all-spec : {M : Type 1} → statement M
 read-all-spec =
@@ -84,15 +80,17 @@ read-all-spec =
     Inv-loop
     μ-loop
     loop-holds
-    next-statement-requires
-    enum-known-found
-    enum-told
+    (λ c κs. search needs)
+    (λ c. search needs)
+    (λ c. search needs)
     same-length
     same-length-2
     same-length-3
     same-length-4
     same-length-5
     returns
+    (λ c. search needs)
+    (λ c. search needs)
     read-one-requires
     loop-less
     loop-again)

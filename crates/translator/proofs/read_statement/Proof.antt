@@ -1,89 +1,113 @@
--- A fault for size is the answer; else the joined text stands in front of an array that has room for it.
-use Prim.Native.Nat.{ℕ, _≤_}
+-- A fault for size is the answer; else what one line says, or what its lines say.
+use Prim.Native.Nat.{ℕ}
 use mathlib.Core.Path.{_≡_, sym, ap, subst, _∙_}
 use mathlib.Core.List.{List}
 use native.Mathlib.Omega.{arith}
 use borrow.Author.Needs.{needs}
-use lib.ListN.{length, take, replicate}
-use lib.Seq.{length-take-le}
+use lib.ListN.{length}
 use Rattle.deck.specs.Lines.{Line}
 use Rattle.deck.specs.Joined.{joined}
-use Rattle.deck.specs.Codes.{joinedRoom}
 use Rattle.deck.specs.Next.{cardsAt}
 use Rattle.tokens.specs.Row.{rowOf}
 use Rattle.sheet.specs.Reader.{tokened}
-use Rattle.translator.specs.Working.{Size}
-use Rattle.translator.proofs.Telling.{tells-of, tells-fault, taken, told-sized, told-joined}
+use Rattle.translator.specs.Working.{Size, Stands}
+use Rattle.translator.proofs.Telling.{tells-of, tells-fault, told-sized, told-joined}
 use Rattle.translator.proofs.read_statement.Statement.{statement}
 use Rattle.translator.proofs.read_statement.Tie as tie
 
--- where the function begins, and the lines of the statement
-abbrev B : tie.After-join → tie.Start
-B j = j .before .before .before .before .before .before
-
+-- the lines of the statement, where the function begins
 abbrev C : tie.Start → List Line
 C s = cardsAt (s .args .text .now) (s .args .start) (s .args .cards)
 
--- without a fault for size its joined text has room, and is what was written
-short : (j : tie.After-join) → length (joined (C (B j))) ≤ joinedRoom
-short j = B j .pre .short (j .before .before .if1 .left)
+-- where it begins, seen from one line
+abbrev A : tie.Then2 → tie.Start
+A t = t .before .before .before .before .before .before .before
 
-body : (j : tie.After-join) → take (j .join .result) (j .join .last .1 .1 .1 .0) ≡ joined (C (B j))
-body j = taken (replicate joinedRoom 0) (joined (C (B j))) (j .join .last .1 .1 .1 .0) (j .join .ensures .0) (short j) (j .join .ensures .1)
-
-within : (j : tie.After-join) → j .join .result ≤ length (j .join .last .1 .1 .1 .0)
-within j = omega (arith, short j, j .join .ensures .0, j .join .kept)
+-- the line that stands there is the joined text
+stands : (t : tie.Then2) → let s = A t in Stands (s .args .text .now) (s .args .start) (s .args .next) (joined (C s))
+stands t = A t .pre .alone (t .before .if1 .left) (t .if2 .taken)
 
 returns : tie.Need-returns
 returns c closed size =
-    let s = c .before .before .before .before in
+    let s = c .before .before .before .before .before .before in
     tells-fault _ (told-sized (C s) closed (s .args .code) size (c .if1 .taken))
 
-slice-aggregate-join : tie.Need-slice-aggregate-join
-slice-aggregate-join c = search needs
+sub-end : tie.Need-sub-end
+sub-end c = let w = stands c in omega (arith, w .from)
 
-join-requires : tie.Need-join-requires
-join-requires c κs = search needs
+sub-read-joined : tie.Need-sub-read-joined
+sub-read-joined c = let w = stands c in omega (arith, w .from)
 
-array-share-prefix-body : tie.Need-array-share-prefix-body
-array-share-prefix-body c = within (c .before)
+part-read-joined-start : tie.Need-part-read-joined-start
+part-read-joined-start c = let w = stands c in omega (arith, w .from)
 
-slice-aggregate-read-joined : tie.Need-slice-aggregate-read-joined
-slice-aggregate-read-joined c =
-    let j = c .before .before in
-    sym (length-take-le (j .join .result) (j .join .last .1 .1 .1 .0) (within j))
+part-read-joined-end : tie.Need-part-read-joined-end
+part-read-joined-end c = let w = stands c in omega (arith, w .from, w .upto)
 
 read-joined-requires : tie.Need-read-joined-requires
 read-joined-requires c κs =
-    let j = c .before .before .before .before in
-    let l = ap length (body j) in
-    let p = B j .pre in
-    (omega (arith, short j), omega (arith, p .room-kinds), omega (arith, p .room-args))
-
-same-length : tie.Need-same-length
-same-length c = search needs
-
-same-length-2 : tie.Need-same-length-2
-same-length-2 c = search needs
+    let t = c .before .before .before .before .before in
+    let p = A t .pre in
+    let z = p .short (t .before .if1 .left) in
+    let l = ap length (stands t .same) in
+    record {
+      row-kinds = omega (arith, z, l, p .row-kinds);
+      row-args = omega (arith, z, l, p .row-args);
+      room-kinds = omega (arith, l, p .room-kinds);
+      room-args = omega (arith, l, p .room-args);
+    }
 
 returns-2 : tie.Need-returns-2
 returns-2 c closed size =
-    let r = c .before .before .before .before in
-    let j = r .before .before .before .before .before in
-    let z : Size (C (B j)) closed 0 = subst (Size (C (B j)) closed) (j .before .before .if1 .left) size in
-    let e = told-joined (C (B j)) closed z ∙ ap (λ (b : List ℕ). tokened (rowOf b)) (sym (body j)) in
+    let r = c .before .before .before .before .before .before .before .before in
+    let t = r .before .before .before .before .before .before in
+    let s = A t in
+    let z : Size (C s) closed 0 = subst (Size (C s) closed) (t .before .if1 .left) size in
+    let e = told-joined (C s) closed z ∙ ap (λ (b : List ℕ). tokened (rowOf b)) (sym (stands t .same)) in
     tells-of e (r .read-joined .ensures)
+
+read-cards-requires : tie.Need-read-cards-requires
+read-cards-requires c κs =
+    let f = c .before .before .before .before in
+    let p = f .before .before .before .before .before .before .before .pre in
+    let z = p .short (f .before .if1 .left) in
+    record {
+      short = z;
+      room =
+          record {
+            row-kinds = omega (arith, p .row-kinds);
+            row-args = omega (arith, p .row-args);
+            room-kinds = p .room-kinds;
+            room-args = p .room-args;
+          };
+    }
+
+returns-3 : tie.Need-returns-3
+returns-3 c closed size =
+    let r = c .before .before .before .before .before .before .before .before in
+    let f = r .before .before .before .before .before in
+    let s = f .before .before .before .before .before .before .before in
+    let z : Size (C s) closed 0 = subst (Size (C s) closed) (f .before .if1 .left) size in
+    tells-of (told-joined (C s) closed z) (r .read-cards .ensures)
 
 pub read-statement-spec : {M : Type 1} → statement M
 read-statement-spec =
     tie.close
     (tie.spec
     returns
-    slice-aggregate-join
-    join-requires
-    array-share-prefix-body
-    slice-aggregate-read-joined
+    sub-end
+    sub-read-joined
+    part-read-joined-start
+    part-read-joined-end
     read-joined-requires
-    same-length
-    same-length-2
-    returns-2)
+    (λ c. search needs)
+    (λ c. search needs)
+    (λ c. search needs)
+    (λ c. search needs)
+    returns-2
+    read-cards-requires
+    (λ c. search needs)
+    (λ c. search needs)
+    (λ c. search needs)
+    (λ c. search needs)
+    returns-3)
