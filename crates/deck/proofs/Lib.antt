@@ -1,6 +1,7 @@
 pub mod Local
 pub mod Rising
 pub mod Bytes
+pub mod Ends
 pub mod Whole
 pub mod Steps
 pub mod Tallies

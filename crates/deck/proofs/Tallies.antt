@@ -4,8 +4,9 @@ use mathlib.Core.Path.{_≡_, refl, ap, _∙_}
 use mathlib.Core.Bool.{Bool, true, false, cond}
 use mathlib.Core.List.{List, [], _∷_, _++_}
 use native.Mathlib.Omega.{arith}
+use lib.Dec.{eqb}
 use lib.ListN.{length, drop}
-use Rattle.deck.specs.Lines.{Line, linesOf, dotted, passed}
+use Rattle.deck.specs.Lines.{Line, cut, linesOf, dotted, passed}
 use Rattle.deck.specs.Reading.{State, fresh, inside, goes-on, ends, after, ended, left, reading}
 use Rattle.deck.specs.Survey.{sizesOf, begun, tallied}
 use Rattle.deck.specs.declared.Tally.{Tally}
@@ -40,6 +41,31 @@ begun-reading (inside f cs) n (l ∷ ls) = go (dotted l) (λ s. begun-reading s 
         → length (ends d f (cs ++ (l ∷ [])) ++ reading (goes-on d f (cs ++ (l ∷ []))) (suc n) ls) ≡ 1 + begun d ls
     go true ih = ih (inside f (cs ++ (l ∷ [])))
     go false ih = omega (arith, ih fresh)
+
+-- there are no more statements than lines, and no more lines than bytes
+begun-le : (b : Bool) (ls : List Line) → begun b ls ≤ length ls
+unfolding begun
+begun-le true [] = omega arith
+begun-le false [] = omega arith
+begun-le true (l ∷ ls) = omega (arith, begun-le (dotted l) ls)
+begun-le false (l ∷ ls) = go (passed l) (begun-le false ls) (begun-le (dotted l) ls)
+  where
+    go : (p : Bool) → begun false ls ≤ length ls → begun (dotted l) ls ≤ length ls → cond p (begun false ls) (suc (begun (dotted l) ls)) ≤ suc (length ls)
+    go true h k = omega arith
+    go false h k = omega arith
+
+pub statements-le : (ls : List Line) → length (reading fresh 1 ls) ≤ length ls
+statements-le ls = omega (arith, begun-reading fresh 1 ls, begun-le false ls)
+
+pub lines-le : (t : List ℕ) → length (linesOf t) ≤ length t
+unfolding linesOf
+lines-le [] = omega arith
+lines-le (b ∷ t) = go (eqb b 10) (linesOf t) (lines-le t)
+  where
+    go : (f : Bool) (ls : List Line) → length ls ≤ length t → length (cut f b ls) ≤ suc (length t)
+    go true ls h = omega arith
+    go false [] h = omega arith
+    go false (l ∷ ls) h = omega arith
 
 -- one line more is counted, and one less is left
 tally-step : (n : Tally) (l : Line) (ls : List Line)

@@ -1,5 +1,6 @@
 -- What the code finds from a cursor on, over the lines that are left. at is the place of the next line's first byte, n its number.
 use Prim.Native.Nat.{ℕ, suc, _+_, _<_, _≤_}
+use mathlib.Core.Path.{_≡_}
 use mathlib.Core.Bool.{Bool, true, false, cond, _||_}
 use mathlib.Core.List.{List, [], _∷_}
 use lib.ListN.{length, take, drop}
@@ -15,6 +16,12 @@ use Rattle.deck.specs.declared.Found.the-variants.{Statement, End}
 unfoldable pub width : List ℕ → ℕ
 width [] = 0
 width (b ∷ t) = cond (eqb b 10) 0 (suc (width t))
+
+-- between two places of a text no byte 10 stands: from both it is the same line's end
+pub record Passes (t : List ℕ) (at i : ℕ) : Type 0 where
+  pub from : at ≤ i
+  pub upto : i ≤ length t
+  pub same : i + width (drop i t) ≡ at + width (drop at t)
 
 -- inside the statement that starts at start with line first: k of its lines are read, and long says whether one has more than 72 bytes
 unfoldable pub runOf : ℕ → ℕ → ℕ → ℕ → Bool → List Line → Found

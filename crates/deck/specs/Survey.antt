@@ -2,11 +2,18 @@
 use Prim.Native.Nat.{ℕ, suc, _+_}
 use mathlib.Core.Bool.{Bool, true, false, cond}
 use mathlib.Core.List.{List, [], _∷_}
+use lib.Dec.{eqb}
 use lib.ListN.{length}
+use Rattle.laws.specs.Counts.{once}
 use Rattle.deck.specs.Lines.{Line, linesOf, dotted, passed}
 use Rattle.deck.specs.Reading.{fresh, reading}
 use Rattle.deck.specs.declared.Sizes.{Sizes}
 use Rattle.deck.specs.declared.Tally.{Tally}
+
+-- how many bytes 10 it has
+unfoldable pub endsOf : List ℕ → ℕ
+endsOf [] = 0
+endsOf (b ∷ t) = once (eqb b 10) + endsOf t
 
 -- all its lines, and all its statements
 abbrev pub sizesOf : List ℕ → Sizes

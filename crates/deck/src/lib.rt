@@ -3,13 +3,15 @@ ghost use mathlib.Core.Path.{_≡_};
 ghost use mathlib.Core.Bool.{false};
 ghost use mathlib.Core.List.{_∷_};
 ghost use Prim.Native.Nat.{_+_, _-_, _<_, _≤_, _^_, min};
+ghost use lib.Dec.{eqb};
 ghost use lib.ListN.{length, drop};
 ghost use lib.Seq.{sets};
+ghost use Rattle.laws.specs.Counts.{once};
 ghost use Rattle.deck.specs.Lines.{linesOf, trimmed, dotsAt, dotted, passed};
 ghost use Rattle.deck.specs.Joined.{partOf, joined};
-ghost use Rattle.deck.specs.Next.{width, runOf, foundFrom, Further, cardsAt};
+ghost use Rattle.deck.specs.Next.{width, Passes, runOf, foundFrom, Further, cardsAt};
 ghost use Rattle.deck.specs.Codes.{sizeCode, spaced};
-ghost use Rattle.deck.specs.Survey.{sizesOf, tallied};
+ghost use Rattle.deck.specs.Survey.{endsOf, sizesOf, tallied};
 
 // Where the next line begins, and its number.
 pub struct Cursor {
@@ -34,10 +36,75 @@ pub enum Found {
 // The most bytes of a joined text where no fault 11, 12 or 13 stands.
 pub const JOINED_BYTES: usize = limits::CARDS * (limits::CARD_BYTES + 1) - 1;
 
+// How many bytes are searched at once for a byte 10, and how many are counted at once: fewer than 256.
+const STRIDE: usize = 8;
+
+const PART: usize = 192;
+
 // How many lines and how many statements a text has.
 pub struct Sizes {
     pub lines: usize,
     pub statements: usize,
+}
+
+// ---- bytes 10
+
+// A byte as an index.
+fn wide(b: u8) -> usize
+    ensures { λ r. ⌜ (r ≡ b) × (r < 256) ⌝ }
+{
+    b as usize
+}
+
+// 1 of a byte 10, 0 of any other.
+fn one_of(b: u8) -> u8
+    ensures { λ r. ⌜ (r ≡ once (eqb b 10)) × (r ≤ 1) ⌝ }
+{
+    if b == 10 { 1 } else { 0 }
+}
+
+// How many bytes 10 a short part has.
+fn ends_in(part: &[u8]) -> u8
+    requires { ⌜ length (now part) < 256 ⌝ }
+    ensures { λ r. ⌜ r ≡ endsOf (now (part .entry)) ⌝ }
+{
+    let mut n: u8 = 0;
+    let mut i: usize = 0;
+    while i < part.len() {
+        n += one_of(part[i]);
+        i += 1;
+    }
+    n
+}
+
+// How many bytes 10 a text has, counted part by part.
+fn count_ends(text: &[u8]) -> usize
+    ensures { λ r. ⌜ (r ≡ endsOf (now (text .entry))) × (r ≤ length (now (text .entry))) ⌝ }
+{
+    let mut n: usize = 0;
+    let mut i: usize = 0;
+    while PART <= text.len() - i {
+        let e = i + PART;
+        n += wide(ends_in(&text[i..e]));
+        i = e;
+    }
+    n + wide(ends_in(&text[i..]))
+}
+
+// A place before which no byte 10 stands, from a place on: many bytes are passed at once.
+fn pass(text: &[u8], at: usize) -> usize
+    requires { ⌜ at ≤ length (now text) ⌝ }
+    ensures { λ r. ⌜ Passes (now (text .entry)) at r ⌝ }
+{
+    let mut i = at;
+    while STRIDE <= text.len() - i {
+        let e = i + STRIDE;
+        if ends_in(&text[i..e]) != 0 {
+            return i;
+        }
+        i = e;
+    }
+    i
 }
 
 // ---- lines
@@ -48,7 +115,7 @@ fn line_end(text: &[u8], at: usize) -> usize
     ensures value { λ r. ⌜ r ≡ at + width (drop at (now (text .entry))) ⌝ }
     ensures within { λ r. ⌜ (at ≤ r) × (r ≤ length (now (text .entry))) ⌝ }
 {
-    let mut i = at;
+    let mut i = pass(text, at);
     while i < text.len() {
         if text[i] == 10 {
             return i;
@@ -216,6 +283,21 @@ fn counted(n: Tally, line: &[u8]) -> Tally
         statements: statements + 1,
         more,
     }
+}
+
+// How many lines a text has.
+pub fn line_count(text: &[u8]) -> usize
+    ensures { λ r. ⌜ r ≡ length (linesOf (now (text .entry))) ⌝ }
+{
+    let n = count_ends(text);
+    let size = text.len();
+    if size == 0 {
+        return n;
+    }
+    if text[size - 1] == 10 {
+        return n;
+    }
+    n + 1
 }
 
 // How many lines and how many statements a text has.

@@ -1,13 +1,14 @@
 -- What the parts of `translate` meet.
 use Prim.Native.Nat.{ℕ, suc, _+_, _-_, _*_, _≤_, _<_}
 use mathlib.Core.Path.{_≡_}
-use mathlib.Core.Bool.{Bool, true, false}
+use mathlib.Core.Bool.{Bool, true, false, cond}
 use mathlib.Core.List.{List, [], _∷_, _++_, map}
 use lib.Dec.{ltb}
 use lib.ListN.{length, take, drop, set}
 use lib.Seq.{sets}
-use Rattle.limits.specs.Limits.{mostStatements, mostDefinitions, textBytes, faultRoom}
+use Rattle.limits.specs.Limits.{mostStatements, mostDefinitions, textBytes, textLines, faultRoom}
 use Rattle.deck.specs.declared.Cursor.{Cursor}
+use Rattle.deck.specs.declared.Sizes.{Sizes}
 use Rattle.bits.specs.Low.{lowBytes}
 use Rattle.deck.specs.Lines.{Line}
 use Rattle.deck.specs.Joined.{joined}
@@ -192,6 +193,10 @@ pub record Planned (p : Plan) (lines bounds kinds args : List ℕ) : Type 0 wher
 -- the answer r and the buffers f′ and p′ are what the verdict on the model of the statements gives for the buffers f and p
 abbrev pub Concludes : List Numbered → List ℕ → List ℕ → Verdict → List ℕ → List ℕ → Type 0
 Concludes ss f p r f′ p′ = reply r f′ p′ ≡ replyOf (modelled (length p) ss) f p
+
+-- the refusal for the count of lines or statements, 0 where there is none
+abbrev pub sizeNumber : Sizes → ℕ
+sizeNumber n = cond (ltb textLines (n .lines)) 3 (cond (ltb mostStatements (n .statements)) 4 0)
 
 -- ---- the working room
 

@@ -9,9 +9,10 @@ ghost use Rattle.tokens.specs.Row.{Placed, symbols, rowOf};
 ghost use Rattle.grammar.specs.Parser.{readRow};
 ghost use Rattle.deck.specs.Joined.{joined};
 ghost use Rattle.deck.specs.Next.{cardsAt};
+ghost use Rattle.deck.specs.Survey.{sizesOf};
 ghost use Rattle.sheet.specs.Reader.{parsed, tokened, told};
 ghost use Rattle.translator.specs.Working.{Tells, RowRoom, JoinedRoom, CardsRoom, Size, Before};
-ghost use Rattle.translator.specs.Working.{entryOf, Able, Adds, Room, Read};
+ghost use Rattle.translator.specs.Working.{entryOf, Able, Adds, Room, Read, sizeNumber};
 ghost use Rattle.translator.specs.Contract.{Translates};
 
 mod finish;
@@ -24,7 +25,6 @@ use limits::FAULT_ROOM;
 use limits::STATEMENTS;
 use limits::TEXT_BYTES;
 use limits::TEXT_LINES;
-use room::SMALL;
 use tokens::RowEnd;
 
 // The verdict: refused with its number; faulty with its number and the count of faults; translated into so many records.
@@ -263,6 +263,26 @@ fn read_all(
 
 // ---- the entry
 
+// The refusal for the count of lines or statements, 3 or 4, or 0. Where a text has few bytes or lines, it has few statements.
+fn size_number(text: &[u8]) -> u8
+    ensures { λ r. ⌜ r ≡ sizeNumber (sizesOf (now (text .entry))) ⌝ }
+{
+    if text.len() <= STATEMENTS {
+        return 0;
+    }
+    if deck::line_count(text) <= STATEMENTS {
+        return 0;
+    }
+    let sizes = deck::survey(text);
+    if TEXT_LINES < sizes.lines {
+        return 3;
+    }
+    if STATEMENTS < sizes.statements {
+        return 4;
+    }
+    0
+}
+
 // The verdict on a text: its number, the count, and the fault list or the program written to the front of what is lent.
 pub fn translate(text: &[u8], faults: &mut [u8], program: &mut [u8]) -> Verdict
     ensures { λ r. ⌜ Translates (now (text .entry)) (now (faults .entry)) (now (program .entry)) r (now (faults .exit)) (now (program .exit)) ⌝ }
@@ -273,15 +293,9 @@ pub fn translate(text: &[u8], faults: &mut [u8], program: &mut [u8]) -> Verdict
     if TEXT_BYTES < text.len() {
         return Verdict::Refused(2);
     }
-    let sizes = deck::survey(text);
-    if TEXT_LINES < sizes.lines {
-        return Verdict::Refused(3);
+    let number = size_number(text);
+    if number != 0 {
+        return Verdict::Refused(number);
     }
-    if STATEMENTS < sizes.statements {
-        return Verdict::Refused(4);
-    }
-    if text.len() < SMALL {
-        return room::in_small_room(text, faults, program);
-    }
-    room::in_large_room(text, faults, program)
+    room::in_some_room(text, faults, program)
 }

@@ -1,4 +1,4 @@
-// The working room of a translation: arrays in which the text's drafts stand, of two sizes.
+// The working room of a translation: arrays in which the text's drafts stand, of four sizes.
 ghost use Prim.Native.Nat.{_≤_, _<_};
 ghost use lib.ListN.{length};
 ghost use Rattle.limits.specs.Limits.{mostStatements, textBytes, faultRoom};
@@ -10,8 +10,12 @@ use super::read_all;
 use limits::STATEMENTS;
 use limits::TEXT_BYTES;
 
-// A text shorter than this is judged in the small room.
-pub(crate) const SMALL: usize = 2048;
+// A text shorter than one of these is judged in the room of that size: to make a room takes time.
+const TINY: usize = 256;
+
+const SMALL: usize = 1024;
+
+const MIDDLE: usize = 4096;
 
 const LARGE: usize = TEXT_BYTES + 1;
 
@@ -53,9 +57,20 @@ fn judge(
     )
 }
 
+// The verdict on a text of a few lines.
+fn in_tiny_room(text: &[u8], faults: &mut [u8], program: &mut [u8]) -> Verdict
+    requires { ⌜ (length (sheetOf (now text)) ≤ mostStatements) × (length (now text) < 256) × (faultRoom ≤ length (now faults)) ⌝ }
+    ensures { λ r. ⌜ Judges (now (text .entry)) (now (faults .entry)) (now (program .entry)) r (now (faults .exit)) (now (program .exit)) ⌝ }
+{
+    let mut kinds = [0u8; TINY];
+    let mut args = [0u64; TINY];
+    let mut used = [0u16; TINY];
+    judge(text, faults, program, &mut kinds, &mut args, &mut used)
+}
+
 // The verdict on a short text.
-pub(crate) fn in_small_room(text: &[u8], faults: &mut [u8], program: &mut [u8]) -> Verdict
-    requires { ⌜ (length (sheetOf (now text)) ≤ mostStatements) × (length (now text) < 2048) × (faultRoom ≤ length (now faults)) ⌝ }
+fn in_small_room(text: &[u8], faults: &mut [u8], program: &mut [u8]) -> Verdict
+    requires { ⌜ (length (sheetOf (now text)) ≤ mostStatements) × (length (now text) < 1024) × (faultRoom ≤ length (now faults)) ⌝ }
     ensures { λ r. ⌜ Judges (now (text .entry)) (now (faults .entry)) (now (program .entry)) r (now (faults .exit)) (now (program .exit)) ⌝ }
 {
     let mut kinds = [0u8; SMALL];
@@ -64,8 +79,19 @@ pub(crate) fn in_small_room(text: &[u8], faults: &mut [u8], program: &mut [u8]) 
     judge(text, faults, program, &mut kinds, &mut args, &mut used)
 }
 
+// The verdict on a text of middle length.
+fn in_middle_room(text: &[u8], faults: &mut [u8], program: &mut [u8]) -> Verdict
+    requires { ⌜ (length (sheetOf (now text)) ≤ mostStatements) × (length (now text) < 4096) × (faultRoom ≤ length (now faults)) ⌝ }
+    ensures { λ r. ⌜ Judges (now (text .entry)) (now (faults .entry)) (now (program .entry)) r (now (faults .exit)) (now (program .exit)) ⌝ }
+{
+    let mut kinds = [0u8; MIDDLE];
+    let mut args = [0u64; MIDDLE];
+    let mut used = [0u16; MIDDLE];
+    judge(text, faults, program, &mut kinds, &mut args, &mut used)
+}
+
 // The verdict on a text of any length that is taken.
-pub(crate) fn in_large_room(text: &[u8], faults: &mut [u8], program: &mut [u8]) -> Verdict
+fn in_large_room(text: &[u8], faults: &mut [u8], program: &mut [u8]) -> Verdict
     requires { ⌜ (length (sheetOf (now text)) ≤ mostStatements) × (length (now text) ≤ textBytes) × (faultRoom ≤ length (now faults)) ⌝ }
     ensures { λ r. ⌜ Judges (now (text .entry)) (now (faults .entry)) (now (program .entry)) r (now (faults .exit)) (now (program .exit)) ⌝ }
 {
@@ -73,4 +99,21 @@ pub(crate) fn in_large_room(text: &[u8], faults: &mut [u8], program: &mut [u8]) 
     let mut args = [0u64; LARGE];
     let mut used = [0u16; LARGE];
     judge(text, faults, program, &mut kinds, &mut args, &mut used)
+}
+
+// The verdict on a text in the least room that it fits.
+pub(crate) fn in_some_room(text: &[u8], faults: &mut [u8], program: &mut [u8]) -> Verdict
+    requires { ⌜ (length (sheetOf (now text)) ≤ mostStatements) × (length (now text) ≤ textBytes) × (faultRoom ≤ length (now faults)) ⌝ }
+    ensures { λ r. ⌜ Judges (now (text .entry)) (now (faults .entry)) (now (program .entry)) r (now (faults .exit)) (now (program .exit)) ⌝ }
+{
+    if text.len() < TINY {
+        return in_tiny_room(text, faults, program);
+    }
+    if text.len() < SMALL {
+        return in_small_room(text, faults, program);
+    }
+    if text.len() < MIDDLE {
+        return in_middle_room(text, faults, program);
+    }
+    in_large_room(text, faults, program)
 }

@@ -1,22 +1,21 @@
 -- The invariant: where the line ends is the same from every place that the loop passed.
-use Prim.Native.Nat.{_+_, _-_, _≤_}
-use mathlib.Core.Path.{_≡_}
+use Prim.Native.Nat.{_-_}
 use native.Mathlib.Omega.{arith}
 use borrow.Author.Needs.{needs}
-use lib.ListN.{length, drop}
-use Rattle.deck.specs.Next.{width}
+use lib.ListN.{length}
+use Rattle.deck.specs.Next.{Passes}
 use Rattle.deck.proofs.Bytes.{width-ten, width-more, width-end}
 use Rattle.deck.proofs.line_end.Statement.{statement}
 use Rattle.deck.proofs.line_end.Tie as tie
 
 abbrev Inv-loop : tie.InvT-loop
-Inv-loop text at i₀ i = (at ≤ i) × (i ≤ length text) × (i + width (drop i text) ≡ at + width (drop at text))
+Inv-loop text at i₀ i = Passes text at i
 
 abbrev μ-loop : tie.MeasureT-loop
 μ-loop text at i₀ i = length text - i
 
 loop-holds : tie.Need-loop-holds Inv-loop μ-loop
-loop-holds c = search needs
+loop-holds c = c .pass .ensures
 
 shared-slice-read-if1 : tie.Need-shared-slice-read-if1 Inv-loop μ-loop
 shared-slice-read-if1 c = search needs
@@ -24,7 +23,8 @@ shared-slice-read-if1 c = search needs
 returns : tie.Need-returns Inv-loop μ-loop
 returns c =
     let b = c .before .before .before in
-    omega (arith, width-ten (b .before .args .text .now) (b .loop .i) (c .before .before .loop-test .taken) (c .if1 .taken))
+    let w = b .loop .inv in
+    omega (arith, w .same, w .from, w .upto, width-ten (b .before .before .before .args .text .now) (b .loop .i) (c .before .before .loop-test .taken) (c .if1 .taken))
 
 add-i : tie.Need-add-i Inv-loop μ-loop
 add-i c = search needs
@@ -35,12 +35,17 @@ loop-less c = search needs
 loop-again : tie.Need-loop-again Inv-loop μ-loop
 loop-again c =
     let b = c .before .before .before in
-    omega (arith, width-more (b .before .args .text .now) (b .loop .i) (c .before .before .loop-test .taken) (c .if1 .left))
+    let w = b .loop .inv in
+    let h = c .before .before .loop-test .taken in
+    let m = width-more (b .before .before .before .args .text .now) (b .loop .i) h (c .if1 .left) in
+    record { from = omega (arith, w .from); upto = omega arith; same = omega (arith, w .same, m) }
 
 returns-2 : tie.Need-returns-2 Inv-loop μ-loop
-returns-2 c = omega (arith, width-end (c .before .before .args .text .now) (c .before .loop .i) (c .loop-test .left))
+returns-2 c =
+    let w = c .before .loop .inv in
+    omega (arith, w .same, w .from, w .upto, width-end (c .before .before .before .before .args .text .now) (c .before .loop .i) (c .loop-test .left))
 
 pub line-end-spec : {M : Type 1} → statement M
 line-end-spec =
     tie.close
-    (tie.spec Inv-loop μ-loop loop-holds shared-slice-read-if1 returns add-i loop-less loop-again returns-2)
+    (tie.spec Inv-loop μ-loop (λ c κs. search needs) loop-holds shared-slice-read-if1 returns add-i loop-less loop-again returns-2)

@@ -69,9 +69,11 @@ loop-again : tie.Need-loop-again Inv-loop μ-loop
 loop-again c =
     let r = c .before .before .before .before .before .before .before .before .before .before .before .before in
     let f = r .before .before .before .before .before .before .before .before .before in
-    let i = L f .loop .inv in
-    (going-next (B (L f) .pre) (i .0) (found (f .before .before) (f .found .given .1)) (r .read-one .ensures),
-    omega (arith, i .1, r .read-one .kept), omega (arith, i .2, r .read-one .kept))
+    let i = L f .loop .inv in (
+      going-next (B (L f) .pre) (i .0) (found (f .before .before) (f .found .given .1)) (r .read-one .ensures),
+      omega (arith, i .1, r .read-one .kept),
+      omega (arith, i .2, r .read-one .kept),
+    )
 
 pub read-all-spec : {M : Type 1} → statement M
 read-all-spec =
