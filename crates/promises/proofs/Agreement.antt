@@ -49,6 +49,7 @@ pub deck : Deck
 deck =
     record {
       next-statement = λ text c r s p q. p .0 ∙ sym (q .0);
+      line-count = λ text. one _;
       survey = λ text. one _;
       size-code = λ cards closed long. one _;
       join = λ text start cards out. two _ _;

@@ -12,6 +12,7 @@ use Rattle.bits.specs.Low.{lowBytes, lowWord}
 use Rattle.deck.specs.declared.Cursor.{Cursor}
 use Rattle.deck.specs.declared.Found.{Found}
 use Rattle.deck.specs.declared.Sizes.{Sizes}
+use Rattle.deck.specs.Lines.{linesOf}
 use Rattle.deck.specs.Next.{foundFrom, Further, cardsAt}
 use Rattle.deck.specs.Codes.{sizeCode}
 use Rattle.deck.specs.Survey.{sizesOf}
@@ -67,9 +68,10 @@ pub record Bits : Type 0 where
   pub float-of : (bits : ℕ) → Agree (λ (r : Float). r ≡ ofBits binary64 bits)
   pub bits-of : (x : Float) → Agree (λ (r : ℕ). r ≡ toBits binary64 x)
 
--- next_statement, survey, size_code, join
+-- line_count, next_statement, survey, size_code, join
 pub record Deck : Type 0 where
   pub next-statement : (text : List ℕ) (c : Cursor) → Agree (λ (r : Found). (r ≡ foundFrom text c) × Further (length text) c r)
+  pub line-count : (text : List ℕ) → Agree (λ (r : ℕ). r ≡ length (linesOf text))
   pub survey : (text : List ℕ) → Agree (λ (r : Sizes). r ≡ sizesOf text)
   pub size-code : (cards : ℕ) (closed long : Bool) → Agree (λ (r : ℕ). r ≡ sizeCode cards closed long)
   pub join : (text : List ℕ) (start cards : ℕ) (out : List ℕ)
