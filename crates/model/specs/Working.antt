@@ -68,7 +68,7 @@ pub record Noted (kind key place d r : ℕ) (keys keys′ places places′ : Lis
 
 -- ---- a name is found by a hint: the first place of a key with the same remainder, and one more; 0 where no key has it
 abbrev pub buckets : ℕ
-buckets = 16381
+buckets = 4093
 
 abbrev pub hintOf : List ℕ → ℕ → ℕ
 hintOf hints key = getD hints (key % buckets) 0

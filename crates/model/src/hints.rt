@@ -8,7 +8,7 @@ use super::lists::byte_at;
 use super::lists::put_byte;
 
 // A prime: the keys of two names seldom have the same remainder.
-pub(crate) const BUCKETS: usize = 16381;
+pub(crate) const BUCKETS: usize = 4093;
 
 // The place of a key's hint.
 fn bucket(key: u64) -> usize
