@@ -1,8 +1,8 @@
 -- What a name's bytes are: the words of each length, and what holds of words and names alike.
-use Prim.Native.Nat.{ℕ, _≤_}
+use Prim.Native.Nat.{ℕ, _+_, _*_, _≤_}
 use mathlib.Core.Path.{_≡_, refl, sym, ap, _∙_}
 use mathlib.Core.Bool.{cond}
-use mathlib.Core.List.{List}
+use mathlib.Core.List.{List, [], _∷_}
 use native.Mathlib.Omega.{arith}
 use lib.Dec.{lit≤}
 use lib.ListN.{length, take}
@@ -14,7 +14,7 @@ use Rattle.limits.specs.Limits.{nameBytes}
 use Rattle.bits.specs.Low.{lowWord}
 use Rattle.tokens.specs.declared.Held.{Held}
 use Rattle.tokens.specs.Symbol.{Word, CONST, PARAM, INCON, INTGRL, TIME, INSW, LIMIT, COMPAR, Symbol, name, word, keyOf, named}
-use Rattle.tokens.specs.Held.{wordKind, kindOf, argOf}
+use Rattle.tokens.specs.Held.{wordKind, kindOf, argOf, threeOf}
 use Rattle.tokens.specs.Steps.{heldAs}
 use Rattle.tokens.proofs.Spelling.{other-length}
 
@@ -28,6 +28,17 @@ word-range TIME = (lit≤ tt, lit≤ tt)
 word-range INSW = (lit≤ tt, lit≤ tt)
 word-range LIMIT = (lit≤ tt, lit≤ tt)
 word-range COMPAR = (lit≤ tt, lit≤ tt)
+
+-- six bytes as two times three
+pub six-of : (n : List ℕ) → lowWord (take 6 n) ≡ threeOf n 0 + 16777216 * threeOf n 3
+unfolding lowWord
+six-of [] = omega arith
+six-of (a ∷ []) = omega arith
+six-of (a ∷ b ∷ []) = omega arith
+six-of (a ∷ b ∷ c ∷ []) = omega arith
+six-of (a ∷ b ∷ c ∷ d ∷ []) = omega arith
+six-of (a ∷ b ∷ c ∷ d ∷ e ∷ []) = omega arith
+six-of (a ∷ b ∷ c ∷ d ∷ e ∷ f ∷ n) = omega arith
 
 module _ (n : List ℕ) where
   -- four bytes can be TIME or INSW

@@ -1,5 +1,5 @@
 -- A token as code holds it: two numbers, its kind and its argument.
-use Prim.Native.Nat.{ℕ}
+use Prim.Native.Nat.{ℕ, _+_, _*_}
 use mathlib.Core.Bool.{cond}
 use mathlib.Core.List.{List, [], _∷_}
 use lib.Dec.{ltb}
@@ -31,6 +31,10 @@ argOf (mark b) = 0
 argOf (number x) = toBits binary64 x
 argOf (name k) = k
 argOf (word w) = 0
+
+-- the number of three bytes of a name from place i on, 0 for those past the end
+abbrev pub threeOf : List ℕ → ℕ → ℕ
+threeOf n i = getD n i 0 + 256 * getD n (i + 1) 0 + 65536 * getD n (i + 2) 0
 
 -- ---- and back: the token of a kind and an argument. Every two numbers are one
 

@@ -1,15 +1,16 @@
 // Tokens: a name, a mark, or a number with its float value.
 ghost use mathlib.Core.Path.{_≡_};
 ghost use mathlib.Core.Bool.{_||_};
-ghost use Prim.Native.Nat.{_+_, _*_, _-_, _≤_, min};
-ghost use lib.ListN.{length, getD};
+ghost use Prim.Native.Nat.{_+_, _*_, _-_, _≤_, _<_, min};
+ghost use lib.ListN.{length, getD, take};
 ghost use Rattle.laws.specs.Lists.{sameBytes};
 ghost use Rattle.limits.specs.Limits.{nameBytes, mostTens};
+ghost use Rattle.bits.specs.Low.{lowWord};
 ghost use Rattle.tokens.specs.Bytes.{isDigit, isLetter, isPoint, isWord, isMark, spacesAt, wordAt};
 ghost use Rattle.tokens.specs.Number.{tenTo, numberOf, digitsFrom, signEnd, exponentFrom};
 ghost use Rattle.tokens.specs.Token.{badAt, numberAt, nameAt, cutAt};
 ghost use Rattle.tokens.specs.Symbol.{named};
-ghost use Rattle.tokens.specs.Held.{kindOf};
+ghost use Rattle.tokens.specs.Held.{kindOf, threeOf};
 ghost use Rattle.tokens.specs.Capped.{cap, decimalAt, capped, powerOf};
 ghost use Rattle.tokens.specs.Steps.{heldAs, stepAt};
 ghost use Rattle.tokens.specs.Written.{Written};
@@ -57,7 +58,11 @@ fn is_letter(b: u8) -> bool
 fn is_word(b: u8) -> bool
     ensures { λ r. ⌜ r ≡ isWord b ⌝ }
 {
-    is_letter(b) || is_digit(b)
+    match b {
+        48..=57 => true,
+        65..=90 => true,
+        _ => false,
+    }
 }
 
 // What a number begins with.
@@ -234,39 +239,36 @@ fn read_exponent(body: &[u8], at: usize) -> Power
     }
 }
 
-// The powers of ten that an f64 holds exactly.
-const TENS: [f64; 23] = [
-    1.0,
-    1e1,
-    1e2,
-    1e3,
-    1e4,
-    1e5,
-    1e6,
-    1e7,
-    1e8,
-    1e9,
-    1e10,
-    1e11,
-    1e12,
-    1e13,
-    1e14,
-    1e15,
-    1e16,
-    1e17,
-    1e18,
-    1e19,
-    1e20,
-    1e21,
-    1e22,
-];
-
-// 10 to the k.
+// 10 to the k: the powers of ten that an f64 holds exactly.
 fn ten(k: usize) -> f64
     requires { ⌜ k ≤ mostTens ⌝ }
     ensures { λ r. ⌜ r ≡ tenTo k ⌝ }
 {
-    TENS[k]
+    match k {
+        0 => 1.0,
+        1 => 1e1,
+        2 => 1e2,
+        3 => 1e3,
+        4 => 1e4,
+        5 => 1e5,
+        6 => 1e6,
+        7 => 1e7,
+        8 => 1e8,
+        9 => 1e9,
+        10 => 1e10,
+        11 => 1e11,
+        12 => 1e12,
+        13 => 1e13,
+        14 => 1e14,
+        15 => 1e15,
+        16 => 1e16,
+        17 => 1e17,
+        18 => 1e18,
+        19 => 1e19,
+        20 => 1e20,
+        21 => 1e21,
+        _ => 1e22,
+    }
 }
 
 // How far two numbers are apart.
@@ -493,6 +495,31 @@ struct Held {
     arg: u64,
 }
 
+// A byte as a larger number.
+fn wide(b: u8) -> u64
+    ensures { λ r. ⌜ (r ≡ b) × (r < 256) ⌝ }
+{
+    b as u64
+}
+
+// The number of three bytes from a place on, 0 for those past the end.
+fn three_at(name: &[u8], i: usize) -> u64
+    requires { ⌜ i ≤ nameBytes ⌝ }
+    ensures { λ r. ⌜ (r ≡ threeOf (now (name .entry)) i) × (r < 16777216) ⌝ }
+{
+    let a = wide(byte_at(name, i));
+    let b = wide(byte_at(name, i + 1));
+    let c = wide(byte_at(name, i + 2));
+    a + 256 * b + 65536 * c
+}
+
+// The number that the first six bytes of a name are, or as many as there are.
+fn key_of(name: &[u8]) -> u64
+    ensures { λ r. ⌜ r ≡ lowWord (take nameBytes (now (name .entry))) ⌝ }
+{
+    three_at(name, 0) + 16777216 * three_at(name, 3)
+}
+
 // A name or a reserved word as it is held.
 fn held_name(name: &[u8]) -> Held
     requires { ⌜ length (now name) ≤ nameBytes ⌝ }
@@ -502,7 +529,7 @@ fn held_name(name: &[u8]) -> Held
     if kind == NAME {
         return Held {
             kind: kind,
-            arg: bits::get_low(name, limits::NAME_BYTES),
+            arg: key_of(name),
         };
     }
     Held { kind: kind, arg: 0 }
