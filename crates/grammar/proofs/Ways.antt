@@ -283,7 +283,12 @@ module _ {ks us : List ℕ} {m part : Mode} {chain : Tree → Mode} {d i p : ℕ
           let b = z .ready in
           let x = op-long in
           let n = w .place in
-          record { even = b .even; within = a .inside; room-kinds = omega (arith, b .room-kinds, z .long-kinds); room-args = omega (arith, b .room-args, z .long-args) }
+          record {
+            even = b .even;
+            within = a .inside;
+            room-kinds = omega (arith, b .room-kinds, z .long-kinds);
+            room-args = omega (arith, b .room-args, z .long-args);
+          }
 
       -- what the chain gives from there on, the whole gives
       op-whole : {r : Part} {l₄ u₄ : List ℕ} → ((x : Tree) → Parses ks us (chain x) d j₁ q₂ l₃ u₃ r l₄ u₄) → Parses ks us m d i p l u r l₄ u₄

@@ -24,7 +24,8 @@ returns : tie.Need-returns Inv-loop μ-loop
 returns c =
     let b = c .before .before .before in
     let w = b .loop .inv in
-    omega (arith, w .same, w .from, w .upto, width-ten (b .before .before .before .args .text .now) (b .loop .i) (c .before .before .loop-test .taken) (c .if1 .taken))
+    let m = width-ten (b .before .before .before .args .text .now) (b .loop .i) (c .before .before .loop-test .taken) (c .if1 .taken) in
+    omega (arith, w .same, w .from, w .upto, m)
 
 add-i : tie.Need-add-i Inv-loop μ-loop
 add-i c = search needs

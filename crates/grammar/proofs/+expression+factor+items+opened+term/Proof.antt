@@ -102,7 +102,8 @@ abbrev expression-μ-loop : expression-lts.MeasureT-loop
 expression-μ-loop kinds args at allowed drafts₀ values₀ place k op₀ i₀ w₀ drafts values op i w = length kinds - i
 
 -- what is to be shown at a place of it
-abbrev In-expression : (expression-lts.Claims → In 4 expression-kinds.ps → Out 4 expression-kinds.ps expression-kinds.r → expression-lts.InvT-loop → expression-lts.MeasureT-loop → Type 0) → Type 0
+abbrev In-expression : (expression-lts.Claims → In 4 expression-kinds.ps → Out 4 expression-kinds.ps expression-kinds.r
+    → expression-lts.InvT-loop → expression-lts.MeasureT-loop → Type 0) → Type 0
 In-expression need = (t : ℕ) → need (expression-calls t) (expression-at t) expression.Post expression-Inv-loop expression-μ-loop
 
 expression-add-i : In-expression expression-lts.Need-add-i
@@ -604,8 +605,8 @@ term-add-i t c =
     let at-factor = at-r .before .before .before .before .before .before in
     let at-loop = at-factor .before .before .before in
     let start = at-loop .before .before .before .before .before in
-    let h = part-inside (at-loop .loop .inv) (at-r .r .given .1) (at-factor .factor .ensures) (at-put-op .put-op .ensures) factors-chain (at-peek .peek .ensures)
-    (at-op .mul-op .ensures) (c .if1 .left) in
+    let h = part-inside (at-loop .loop .inv) (at-r .r .given .1) (at-factor .factor .ensures) (at-put-op .put-op .ensures) factors-chain
+    (at-peek .peek .ensures) (at-op .mul-op .ensures) (c .if1 .left) in
     omega (arith, start .good)
 
 term-loop-less : In-term term-lts.Need-loop-less
@@ -616,8 +617,8 @@ term-loop-less t c =
     let at-r = at-put-op .before .before .before .before in
     let at-factor = at-r .before .before .before .before .before .before in
     let at-loop = at-factor .before .before .before in
-    part-less (at-loop .loop .inv) (at-r .r .given .1) (at-factor .factor .ensures) (at-put-op .put-op .ensures) factors-chain (at-peek .peek .ensures)
-    (at-op .mul-op .ensures) (c .if1 .left)
+    part-less (at-loop .loop .inv) (at-r .r .given .1) (at-factor .factor .ensures) (at-put-op .put-op .ensures) factors-chain
+    (at-peek .peek .ensures) (at-op .mul-op .ensures) (c .if1 .left)
 
 term-loop-again : In-term term-lts.Need-loop-again
 term-loop-again t c =
@@ -627,14 +628,15 @@ term-loop-again t c =
     let at-r = at-put-op .before .before .before .before in
     let at-factor = at-r .before .before .before .before .before .before in
     let at-loop = at-factor .before .before .before in
-    part-again (at-loop .loop .inv) (at-r .r .given .1) (at-factor .factor .ensures) (at-put-op .put-op .ensures) factors-chain (at-peek .peek .ensures)
-    (at-op .mul-op .ensures) (c .if1 .left)
+    part-again (at-loop .loop .inv) (at-r .r .given .1) (at-factor .factor .ensures) (at-put-op .put-op .ensures) factors-chain
+    (at-peek .peek .ensures) (at-op .mul-op .ensures) (c .if1 .left)
 
 pub +expression+factor+items+opened+term-spec : {M : Type 1} → statement M
 +expression+factor+items+opened+term-spec =
     close μ-expression μ-factor μ-items μ-opened μ-term
-    (λ t. expression-lts.spec (expression-calls t) (expression-at t) expression.Post expression-Inv-loop expression-μ-loop (λ c κs. search needs) (λ c κs. search needs)
-    (λ c κs. search needs) (expression-add-i t) (expression-loop-holds t) (expression-term-requires t) (λ c. search needs) (λ c. search needs) (λ c. search needs)
+    (λ t. expression-lts.spec (expression-calls t) (expression-at t) expression.Post expression-Inv-loop expression-μ-loop (λ c κs. search needs)
+    (λ c κs. search needs) (λ c κs. search needs) (expression-add-i t) (expression-loop-holds t) (expression-term-requires t) (λ c. search needs)
+    (λ c. search needs) (λ c. search needs)
     (λ c. search needs) (expression-returns t) (expression-put-op-requires t) (λ c κs. search needs) (λ c κs. search needs) (λ c. search needs)
     (λ c. search needs) (expression-returns-2 t) (expression-add-i-2 t) (expression-loop-less t) (expression-loop-again t))
     (λ t. factor-lts.spec (factor-calls t) (factor-at t) factor.Post (λ c κs. search needs) (λ c κs. search needs) (λ c. search needs)

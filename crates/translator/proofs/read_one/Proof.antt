@@ -40,8 +40,8 @@ read-statement-requires c κs =
     let z = c .before .before .before .before in
     let s = B z in
     let a = s .args in
-    subst (λ (k : ℕ). Before (a .text .now) (a .start) (a .cards) (a .next) k (a .row-kinds .now) (a .row-args .now) (a .n .drafts) (a .kinds .now) (a .args .now))
-    (sym (z .size-code .ensures)) (s .pre .before)
+    subst (λ (k : ℕ). Before (a .text .now) (a .start) (a .cards) (a .next) k (a .row-kinds .now) (a .row-args .now) (a .n .drafts)
+    (a .kinds .now) (a .args .now)) (sym (z .size-code .ensures)) (s .pre .before)
 
 cast-bounds : tie.Need-cast-bounds
 cast-bounds c =
