@@ -19,6 +19,8 @@
 //! assert_eq!(values[..2], [0.25, 0.75]); // TIME and X
 //! ```
 
+pub mod raw;
+
 use std::fmt;
 
 /// Bytes to lend for the fault list; fewer is verdict 1.
@@ -242,73 +244,10 @@ impl fmt::Display for Answer {
     }
 }
 
-/// The library's own functions and answers, as include/floesedge.h has them.
-mod library {
-    #[repr(C)]
-    pub struct Verdict {
-        pub number: u32,
-        pub count: u32,
-    }
-
-    #[repr(C)]
-    pub struct Answer {
-        pub number: u32,
-        pub record: u32,
-    }
-
-    extern "C" {
-        pub fn floesedge_translate(
-            text: *const u8,
-            text_len: usize,
-            faults: *mut u8,
-            faults_len: usize,
-            program: *mut u8,
-            program_len: usize,
-        ) -> Verdict;
-        pub fn floesedge_evaluate(
-            program: *const u8,
-            program_len: usize,
-            values: *mut f64,
-            values_len: usize,
-            derivs: *mut f64,
-            derivs_len: usize,
-        ) -> Answer;
-        pub fn floesedge_start(
-            program: *const u8,
-            program_len: usize,
-            values: *mut f64,
-            values_len: usize,
-            derivs: *mut f64,
-            derivs_len: usize,
-        ) -> Answer;
-        pub fn floesedge_step(
-            program: *const u8,
-            program_len: usize,
-            h: f64,
-            values: *mut f64,
-            values_len: usize,
-            derivs: *mut f64,
-            derivs_len: usize,
-        ) -> Answer;
-    }
-}
-
-// SAFETY of the four calls: each pointer and length are those of one slice, so the pointer is aligned and not null, also
-// where the slice is empty, and valid for the length; a slice that is written to is borrowed alone, so it overlaps none.
-
 /// Translates a text. Verdict 0 writes the program and 5 and 7 write the fault list, from the front of what is lent; bytes
 /// past that, and the other buffer, stay. Any other verdict writes nothing.
 pub fn translate(text: &[u8], faults: &mut [u8], program: &mut [u8]) -> Verdict {
-    let library::Verdict { number, count } = unsafe {
-        library::floesedge_translate(
-            text.as_ptr(),
-            text.len(),
-            faults.as_mut_ptr(),
-            faults.len(),
-            program.as_mut_ptr(),
-            program.len(),
-        )
-    };
+    let raw::Verdict { number, count } = raw::translate(text, faults, program);
     let count = count as usize;
     match number {
         0 => Verdict::Translated { records: count },
@@ -327,48 +266,20 @@ pub fn translate(text: &[u8], faults: &mut [u8], program: &mut [u8]) -> Verdict 
 /// Evaluates a program: reads slot 0 and the states, writes constants, assigned names and the states' derivatives. Other
 /// places stay.
 pub fn evaluate(program: &[u8], values: &mut [f64], derivs: &mut [f64]) -> Answer {
-    answer(unsafe {
-        library::floesedge_evaluate(
-            program.as_ptr(),
-            program.len(),
-            values.as_mut_ptr(),
-            values.len(),
-            derivs.as_mut_ptr(),
-            derivs.len(),
-        )
-    })
+    answer(raw::evaluate(program, values, derivs))
 }
 
 /// Starts a program: slot 0 is 0, and each state has its initial value. Other places stay.
 pub fn start(program: &[u8], values: &mut [f64], derivs: &mut [f64]) -> Answer {
-    answer(unsafe {
-        library::floesedge_start(
-            program.as_ptr(),
-            program.len(),
-            values.as_mut_ptr(),
-            values.len(),
-            derivs.as_mut_ptr(),
-            derivs.len(),
-        )
-    })
+    answer(raw::start(program, values, derivs))
 }
 
 /// One Euler step: evaluates, then adds `h` times its derivative to each state, and `h` to slot 0.
 pub fn step(program: &[u8], h: f64, values: &mut [f64], derivs: &mut [f64]) -> Answer {
-    answer(unsafe {
-        library::floesedge_step(
-            program.as_ptr(),
-            program.len(),
-            h,
-            values.as_mut_ptr(),
-            values.len(),
-            derivs.as_mut_ptr(),
-            derivs.len(),
-        )
-    })
+    answer(raw::step(program, h, values, derivs))
 }
 
-fn answer(given: library::Answer) -> Answer {
+fn answer(given: raw::Answer) -> Answer {
     match given.number {
         0 => Answer::Done,
         1 => Answer::RoomShort,

@@ -1,7 +1,7 @@
 //! What `check` and `bench` share: the calls of the library, and the texts and
 //! programs on which it is compared with the peer.
 
-#![deny(unsafe_code)]
+#![forbid(unsafe_code)]
 
 pub mod library;
 pub mod programs;
