@@ -1,18 +1,14 @@
 // Texts at each limit and one past it.
-ghost use Prim.Native.Nat.{_≤_};
+ghost use Prim.Native.Nat.{_+_, _≤_, _<_};
+use crate::wanted::blank;
+use crate::wanted::exact;
 use crate::wanted::faulty;
 use crate::wanted::lent;
 use crate::wanted::record;
-use crate::wanted::sized;
+use crate::wanted::silent;
+use crate::wanted::translated;
+use limits::PROGRAM_ROOM;
 use tally::Tally;
-
-// The first n bytes of a text have this number and count; a text that is shorter counts as one that differs.
-fn front(t: Tally, text: &[u8], n: usize, number: usize, count: usize) -> Tally {
-    if text.len() < n {
-        return tally::right(t, false);
-    }
-    sized(t, &text[..n], number, count)
-}
 
 // A digit of a number below 1,000: its hundreds, tens or ones.
 fn figure(k: usize, unit: usize) -> u8 {
@@ -64,13 +60,96 @@ fn fill_lines(out: &mut [u8], w: usize)
     }
 }
 
+// ---- sums of ones, a statement on each line
+
+// Record i of a program, which is record r of the sum with this slot and line, of so many records: ones pushed, each but the first added, the
+// sum stored.
+fn put_sum_record(program: &mut [u8], i: usize, slot: usize, r: usize, size: usize)
+    requires { ⌜ (i < 4096) × (0 < size) ⌝ }
+{
+    let line = slot as u64;
+    if r == size - 1 {
+        record(program, i, 13, line, line, 0);
+        return;
+    }
+    if r == 0 {
+        record(program, i, 3, 0, line, 0x3ff0_0000_0000_0000);
+        return;
+    }
+    if r % 2 == 1 {
+        record(program, i, 3, 0, line, 0x3ff0_0000_0000_0000);
+        return;
+    }
+    record(program, i, 5, 0, line, 0);
+}
+
+// The slot behind another.
+fn next(slot: usize) -> usize {
+    if slot < 256 { slot + 1 } else { 0 }
+}
+
+// So many records from a place on, of sums of this size each, from a slot on.
+fn put_sums(program: &mut [u8], start: usize, count: usize, size: usize, slot: usize)
+    requires { ⌜ (start + count ≤ 4096) × (0 < size) ⌝ }
+{
+    let mut at = slot;
+    let mut j: usize = 0;
+    while j < count {
+        put_sum_record(&mut *program, start + j, at, j % size, size);
+        j += 1;
+        if j % size == 0 {
+            at = next(at);
+        }
+    }
+}
+
+// The program of sums of one size.
+fn program_of(count: usize, size: usize) -> [u8; PROGRAM_ROOM]
+    requires { ⌜ (count ≤ 4096) × (0 < size) ⌝ }
+{
+    let mut program = [170u8; PROGRAM_ROOM];
+    put_sums(&mut program, 0, count, size, 1);
+    program
+}
+
+// 60 sums of 68 records and one of 16.
+fn fullest() -> [u8; PROGRAM_ROOM] {
+    let mut program = program_of(4080, 68);
+    put_sums(&mut program, 4080, 16, 16, 61);
+    program
+}
+
+// The first n bytes of a text have this program; a text that is shorter counts as one that differs.
+fn front(t: Tally, text: &[u8], n: usize, count: usize, wanted: &[u8; PROGRAM_ROOM]) -> Tally {
+    if text.len() < n {
+        return tally::right(t, false);
+    }
+    exact(t, &text[..n], count, wanted)
+}
+
+// The first n bytes of a text are refused with this number, silently.
+fn front_silent(t: Tally, text: &[u8], n: usize, number: usize) -> Tally {
+    if text.len() < n {
+        return tally::right(t, false);
+    }
+    silent(t, &text[..n], number)
+}
+
+// One number is stored.
+fn stored(t: Tally, text: &[u8]) -> Tally {
+    let w = program_of(2, 2);
+    exact(t, text, 2, &w)
+}
+
+// ---- the limits
+
 // 512 and 513 lines; a last line without byte 10 counts.
 fn lines(t0: Tally) -> Tally {
     let mut text = [10u8; 513];
-    let mut t = sized(t0, &text[..512], 0, 0);
-    t = sized(t, &text, 3, 0);
+    let mut t = silent(t0, &text[..512], 0);
+    t = silent(t, &text, 3);
     text[512] = 42;
-    sized(t, &text, 3, 0)
+    silent(t, &text, 3)
 }
 
 // 257 statements of one definition each.
@@ -80,9 +159,10 @@ fn names() -> [u8; 1799] {
     text
 }
 
-// The same with a comma for the byte 10 of the 255th.
-fn comma() -> [u8; 1799] {
-    let mut text = names();
+// 256 of them, with a comma for the byte 10 of the 255th.
+fn comma() -> [u8; 1792] {
+    let mut text = [0u8; 1792];
+    fill_lines(&mut text, 6);
     text[1784] = 44;
     text
 }
@@ -90,11 +170,12 @@ fn comma() -> [u8; 1799] {
 // 255 definitions are translated into 510 records. The 256th is one too many; a statement more is refused first. A fault comes before both.
 fn statements(t0: Tally) -> Tally {
     let text = names();
-    let mut t = front(t0, &text, 1785, 0, 510);
-    t = front(t, &text, 1792, 6, 0);
-    t = sized(t, &text, 4, 0);
+    let w = program_of(510, 2);
+    let mut t = front(t0, &text, 1785, 510, &w);
+    t = front_silent(t, &text, 1792, 6);
+    t = silent(t, &text, 4);
     let other = comma();
-    front(t, &other, 1792, 5, 1)
+    faulty(t, &other, 5, b"\xff\x00\x12\x00")
 }
 
 // 254 statements, and one of 14 bytes.
@@ -110,43 +191,55 @@ fn with_constants(last: &[u8]) -> [u8; 1792] {
 // 256 definitions in 255 statements; doubles count too.
 fn definitions(t0: Tally) -> Tally {
     let two = with_constants(b"CONST B=1,C=1\n");
-    let t = sized(t0, &two, 6, 0);
+    let t = silent(t0, &two, 6);
     let double = with_constants(b"CONST B=1,B=1\n");
-    sized(t, &double, 6, 0)
+    silent(t, &double, 6)
 }
 
 // 72 and 73 bytes, spaces counted.
 fn bytes(t0: Tally) -> Tally {
     let mut text = [32u8; 73];
     bytes::copy(b"A=1", &mut text);
-    let t = sized(t0, &text[..72], 0, 2);
+    let t = stored(t0, &text[..72]);
     faulty(t, &text, 5, b"\x01\x00\x0d\x00")
 }
 
 // 4 and 5 lines, 6 and 7 letters.
 fn runs_and_names(t0: Tally) -> Tally {
-    let mut t = sized(t0, b"A=1...\n+1...\n+1...\n+1", 0, 8);
+    let w = program_of(8, 8);
+    let mut t = exact(t0, b"A=1...\n+1...\n+1...\n+1", 8, &w);
     t = faulty(
         t,
         b"A=1...\n+1...\n+1...\n+1...\n+1",
         5,
         b"\x01\x00\x0c\x00",
     );
-    t = sized(t, b"ABCDEF=1", 0, 2);
+    t = stored(t, b"ABCDEF=1");
     faulty(t, b"ABCDEFG=1", 5, b"\x01\x00\x0f\x00")
 }
 
 // 16 and 17 levels, of parentheses and of calls; those of INTGRL are not counted.
 fn levels(t0: Tally) -> Tally {
-    let mut t = sized(t0, b"A=((((((((((((((((1))))))))))))))))", 0, 2);
+    let one = 0x3ff0_0000_0000_0000;
+    let two = 0x4000_0000_0000_0000;
+    let mut w = blank();
+    record(&mut w, 0, 2, 1, 1, one);
+    record(&mut w, 1, 3, 0, 1, one);
+    record(&mut w, 2, 14, 1, 1, 0);
+    let mut x = blank();
+    record(&mut x, 0, 3, 0, 1, one);
+    record(&mut x, 1, 3, 0, 1, two);
+    record(&mut x, 2, 12, 0, 1, 0);
+    record(&mut x, 3, 13, 1, 1, 0);
+    let mut t = stored(t0, b"A=((((((((((((((((1))))))))))))))))");
     t = faulty(
         t,
         b"A=(((((((((((((((((1)))))))))))))))))",
         5,
         b"\x01\x00\x13\x00",
     );
-    t = sized(t, b"A=INTGRL(1,((((((((((((((((1)))))))))))))))))", 0, 3);
-    t = sized(t, b"A=(((((((((((((((COMPAR(1,2))))))))))))))))", 0, 4);
+    t = translated(t, b"A=INTGRL(1,((((((((((((((((1)))))))))))))))))", 3, &w);
+    t = translated(t, b"A=(((((((((((((((COMPAR(1,2))))))))))))))))", 4, &x);
     faulty(
         t,
         b"A=((((((((((((((((COMPAR(1,2)))))))))))))))))",
@@ -158,8 +251,8 @@ fn levels(t0: Tally) -> Tally {
 // 16,384 and 16,385 bytes, of a comment.
 fn size(t0: Tally) -> Tally {
     let text = [42u8; 16385];
-    let t = sized(t0, &text[..16384], 0, 0);
-    sized(t, &text, 2, 0)
+    let t = silent(t0, &text[..16384], 0);
+    silent(t, &text, 2)
 }
 
 // 60 sums of 34 ones have 68 records each, and one of 8 ones has 16.
@@ -173,8 +266,9 @@ fn sums() -> [u8; 4407] {
 // 4,096 records in all. A constant more is one too many.
 fn records(t0: Tally) -> Tally {
     let text = sums();
-    let t = front(t0, &text, 4398, 0, 4096);
-    sized(t, &text, 8, 0)
+    let w = fullest();
+    let t = front(t0, &text, 4398, 4096, &w);
+    silent(t, &text, 8)
 }
 
 // Lent room: 1,023 bytes for faults are too few, and so are 63 for four records.

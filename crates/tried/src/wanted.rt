@@ -97,18 +97,19 @@ pub fn translated(t: Tally, text: &[u8], count: usize, wanted: &[u8; 4096]) -> T
     lent(t, text, &mut faults, &mut program, 0, count, &kept, wanted)
 }
 
-// The text has this number and count, and what must not be written is not.
-pub fn sized(t0: Tally, text: &[u8], number: usize, count: usize) -> Tally {
+// The text is translated into so many records, those of the whole program room, and nothing else is written.
+pub fn exact(t: Tally, text: &[u8], count: usize, wanted: &[u8; PROGRAM_ROOM]) -> Tally {
     let mut faults = [170u8; FAULT_ROOM];
     let mut program = [170u8; PROGRAM_ROOM];
-    let r = told(translator::translate(text, &mut faults, &mut program));
+    let kept = [170u8; FAULT_ROOM];
+    lent(t, text, &mut faults, &mut program, 0, count, &kept, wanted)
+}
+
+// The text is refused with this number or has no records, and nothing is written.
+pub fn silent(t: Tally, text: &[u8], number: usize) -> Tally {
+    let mut faults = [170u8; FAULT_ROOM];
+    let mut program = [170u8; PROGRAM_ROOM];
     let list = [170u8; FAULT_ROOM];
     let kept = [170u8; PROGRAM_ROOM];
-    let mut t = tally::number(t0, r.number, number);
-    t = tally::number(t, r.count, count);
-    t = tally::right(t, check::same(&faults, &list) == (number != 5));
-    tally::right(
-        t,
-        check::same(&program, &kept) == (count == 0 || number == 5),
-    )
+    lent(t, text, &mut faults, &mut program, number, 0, &list, &kept)
 }

@@ -10,15 +10,15 @@ right-requires c κs = search needs
 returns : tie.Need-returns
 returns c = search needs
 
-slice-aggregate-sized : tie.Need-slice-aggregate-sized
-slice-aggregate-sized c = search (needs, length-take-le)
+slice-aggregate-exact : tie.Need-slice-aggregate-exact
+slice-aggregate-exact c = search (needs, length-take-le)
 
-sized-requires : tie.Need-sized-requires
-sized-requires c κs = search needs
+exact-requires : tie.Need-exact-requires
+exact-requires c κs = search needs
 
 returns-2 : tie.Need-returns-2
 returns-2 c = search needs
 
 pub front-spec : {M : Type 1} → statement M
 front-spec =
-    tie.close (tie.spec right-requires returns slice-aggregate-sized sized-requires returns-2)
+    tie.close (tie.spec right-requires returns slice-aggregate-exact exact-requires returns-2)
