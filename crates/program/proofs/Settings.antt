@@ -1,7 +1,7 @@
 -- The settings of constants and states: their records as they are written.
-use Prim.Native.Nat.{ℕ, suc, _+_}
+use Prim.Native.Nat.{ℕ, zero, suc, _+_, _<_}
 use mathlib.Core.Path.{_≡_, refl, sym, ap, ap₂, _∙_}
-use mathlib.Core.Bool.{true, cond}
+use mathlib.Core.Bool.{true, false, cond}
 use mathlib.Core.Logic.{⊎-elim}
 use mathlib.Core.List.{List, [], _∷_, _++_}
 use native.Mathlib.Nat.{add-zero}
@@ -9,7 +9,7 @@ use native.Mathlib.Omega.{arith}
 use borrow.Author.Tests.{eq-eqb, ne-eqb}
 use lib.Dec.{eqb}
 use lib.ListN.{length, getD, drop, length-map}
-use lib.Seq.{getD-drop}
+use lib.Seq.{getD-drop, getD-append-add}
 use lib.Ieee.{Float, binary64, toBits}
 use Rattle.laws.specs.Lists.{concat-map}
 use Rattle.laws.specs.Counts.{count, _∈_}
@@ -19,23 +19,23 @@ use Rattle.laws.proofs.Counts.{once-other}
 use Rattle.laws.proofs.Concats.{concat-concat}
 use Rattle.laws.proofs.Along.{along, gather-over}
 use Rattle.laws.proofs.Members.{in-has}
-use Rattle.grammar.specs.Tree.{plain, from, Says, constants, assignment, state}
+use Rattle.grammar.specs.Tree.{Constant, plain, from, Says, constants, assignment, state}
 use Rattle.grammar.specs.Drafts.{Draft, draft, initialDraft, draftsOf}
 use Rattle.sheet.specs.Sheet.{Numbered}
 use Rattle.sheet.specs.Layout.{draftsIn}
 use Rattle.records.specs.Record.{Rec, recBytes}
 use Rattle.model.specs.Definitions.{What, constant, assigned, integral, Def, definedBy, definitions, keys, placeIn, slotIn}
 use Rattle.model.specs.Faults.{constantKeys, nameFaults}
-use Rattle.model.specs.Places.{homeOf}
+use Rattle.model.specs.Places.{homeOf, begins}
 use Rattle.model.proofs.Drafts.{noDraft, Plain, along-expression, Home, homeOfWhat}
 use Rattle.model.proofs.Walk.{sheetKinds, sheetLines, sheetBounds, sheetKeys, sheetSlots, sheetPlaces, slotOf, kind-at, slot-at, draftsBy, line-at}
-use Rattle.model.proofs.Walk.{along-statement}
+use Rattle.model.proofs.Walk.{along-statement, begins-at, drafts-split}
 use Rattle.model.proofs.Slots.{Once, isConstant, definitionOf, definition-first, definition-later, constant-at}
 use Rattle.model.proofs.Doubled.{definedIn, homeAt}
 use Rattle.model.proofs.Asked.{home-of}
 use Rattle.model.proofs.Clean.{initial-known}
 use Rattle.program.specs.Program.{constantValue, valueIn, initialValue, constantRecs, initialRecs}
-use Rattle.program.specs.Written.{fieldBytes, settingAt, settingsOf}
+use Rattle.program.specs.Written.{fieldBytes, settingAt, settingsOf, Led}
 
 -- the value of a constant is the one of its definition
 value-of : (ds : List Def) (k : ℕ) (x : Float) → k ∈ keys ds → definitionOf ds k .what ≡ constant x → valueIn ds k ≡ x
@@ -54,6 +54,21 @@ value-of (d ∷ ds) k x h e =
     later q (constant y) = rw (ne-eqb k (d .key) q)
     later q (assigned t) = refl
     later q (integral i t) = refl
+
+-- a list split at one of its places
+record Parts {A : Type 0} (l : List A) (j : ℕ) : Type 0 where
+  before : List A
+  own : A
+  behind : List A
+  split : l ≡ before ++ own ∷ behind
+  many : length before ≡ j
+
+parts : {A : Type 0} (l : List A) (j : ℕ) → j < length l → Parts l j
+parts [] j h = absurd (omega arith)
+parts (a ∷ l) zero h = record { before = []; own = a; behind = l; split = refl; many = refl }
+parts (a ∷ l) (suc j) h =
+    let r = parts l j (omega arith) in
+    record { before = a ∷ r .before; own = r .own; behind = r .behind; split = ap (_∷_ a) (r .split); many = ap suc (r .many) }
 
 -- what is a constant has a value
 constant-what : (w : What) → isConstant w ≡ true → (x : Float) × (w ≡ constant x)
@@ -149,6 +164,56 @@ module _ (ss : List Numbered) where
       ap₂ (λ n r. fieldBytes 2 (slotIn ds k) l n ++ r) v (along-expression (settingOf 2 l) (initial-none l) t (draft 14 k) q)
   initial-settings l (state k (from c) t) v q =
       ap₂ (λ n r. fieldBytes 2 (slotIn ds k) l n ++ r) v (along-expression (settingOf 2 l) (initial-none l) t (draft 14 k) q)
+
+  -- ---- a statement that has a setting begins with one
+
+  -- the kind of its first draft
+  first-kind : (a : List Numbered) (s : Numbered) (b : List Numbered) → ss ≡ a ++ s ∷ b
+      → getD (sheetKinds ss) (begins (sheetBounds ss) (length a)) 0 ≡ getD (draftsBy s ++ draftsIn b) 0 noDraft .kind
+  first-kind a s b p =
+      rw (kind-at (draftsIn ss) (begins (sheetBounds ss) (length a)), begins-at ss a s b p, drafts-split ss a s b p)
+      (ap (λ (d : Draft). d .kind) (rw (add-zero (length (draftsIn a))) at (getD-append-add (draftsIn a) (draftsBy s ++ draftsIn b) 0 noDraft)))
+
+  -- constants
+  constants-first : (l : ℕ) (x : Says) (q : List Draft) → eqb (getD (draftsOf x ++ q) 0 noDraft .kind) 1 ≡ false → along (settingOf 1 l) (draftsOf x) q ≡ []
+  unfolding along concat-map
+  constants-first l (constants []) q e = refl
+  constants-first l (constants (c ∷ cs)) q e = absurd (not-both refl e)
+  constants-first l (assignment k t) q e = constant-settings l (assignment k t) q
+  constants-first l (state k i t) q e = constant-settings l (state k i t) q
+
+  -- none of them is an initial
+  no-initials : (l : ℕ) (cs : List Constant) (q : List Draft) → along (settingOf 2 l) (draftsOf (constants cs)) q ≡ []
+  unfolding along concat-map
+  no-initials l [] q = refl
+  no-initials l (c ∷ cs) q = no-initials l cs q
+
+  -- states
+  state-first : (l : ℕ) (x : Says) (q : List Draft) → eqb (getD (draftsOf x ++ q) 0 noDraft .kind) 2 ≡ false → along (settingOf 2 l) (draftsOf x) q ≡ []
+  unfolding along concat-map
+  state-first l (constants cs) q e = no-initials l cs q
+  state-first l (assignment k t) q e = initial-settings l (assignment k t) tt q
+  state-first l (state k i t) q e = absurd (not-both refl e)
+
+  -- of each statement
+  led-by : (phase : ℕ) → ((l : ℕ) (x : Says) (q : List Draft) → eqb (getD (draftsOf x ++ q) 0 noDraft .kind) phase ≡ false
+      → along (settingOf phase l) (draftsOf x) q ≡ [])
+      → Led phase (sheetPlaces ss) (sheetLines ss) (sheetBounds ss) (sheetKinds ss) (sheetSlots ss)
+  led-by phase f j h e =
+      let k : length (sheetLines ss) ≡ length ss = length-map ss (λ (s : Numbered). s .line) in
+      let c = parts ss j (rw k at h) in
+      let a = c .before in
+      let s = c .own in
+      let b = c .behind in
+      let n : length a ≡ j = c .many in
+      let z : eqb (getD (draftsBy s ++ draftsIn b) 0 noDraft .kind) phase ≡ false = rw (← (first-kind a s b (c .split)), n) e in
+      rw (← n) (settings-at phase a s b (c .split) ∙ f (s .line) (s .says) (draftsIn b) z)
+
+  pub led-constants : Led 1 (sheetPlaces ss) (sheetLines ss) (sheetBounds ss) (sheetKinds ss) (sheetSlots ss)
+  led-constants = led-by 1 constants-first
+
+  pub led-initials : Led 2 (sheetPlaces ss) (sheetLines ss) (sheetBounds ss) (sheetKinds ss) (sheetSlots ss)
+  led-initials = led-by 2 state-first
 
   -- ---- where names stand once and there is no 22 and no 23
   module _ (distinct : Once ks) (clean : nameFaults ds ds ≡ []) where

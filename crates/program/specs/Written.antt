@@ -1,12 +1,13 @@
 -- The program as code writes it: by place, over the arrays of a sheet whose names are resolved. Every read past an end gives 0.
-use Prim.Native.Nat.{ℕ, zero, suc, _+_, _-_}
+use Prim.Native.Nat.{ℕ, zero, suc, _+_, _-_, _<_}
+use mathlib.Core.Path.{_≡_}
 use mathlib.Core.Bool.{Bool, true, false, cond, _&&_, _||_}
 use mathlib.Core.List.{List, [], _∷_, _++_}
 use lib.Dec.{eqb, leb}
 use lib.ListN.{length, getD}
 use Rattle.laws.specs.Places.{gather, onlyIf}
 use Rattle.bits.specs.Low.{lowBytes}
-use Rattle.model.specs.Places.{homeOf, inStatement}
+use Rattle.model.specs.Places.{homeOf, begins, inStatement}
 
 -- the sixteen bytes of a record
 abbrev pub fieldBytes : ℕ → ℕ → ℕ → ℕ → List ℕ
@@ -42,6 +43,11 @@ stepAt kinds slots line i = stepBytes (getD kinds i 0) (getD slots i 0) line
 -- ---- of a statement: its settings of a phase; its steps
 abbrev pub settingsOf : ℕ → List ℕ → List ℕ → List ℕ → List ℕ → List ℕ → ℕ → List ℕ
 settingsOf phase places lines bounds kinds slots j = inStatement bounds (settingAt phase places kinds slots (getD lines j 0)) j
+
+-- a statement that has a setting of a phase begins with one
+abbrev pub Led : ℕ → List ℕ → List ℕ → List ℕ → List ℕ → List ℕ → Type 0
+Led phase places lines bounds kinds slots =
+    (j : ℕ) → j < length lines → eqb (getD kinds (begins bounds j) 0) phase ≡ false → settingsOf phase places lines bounds kinds slots j ≡ []
 
 abbrev pub stepsOf : List ℕ → List ℕ → List ℕ → List ℕ → ℕ → List ℕ
 stepsOf lines bounds kinds slots j = inStatement bounds (stepAt kinds slots (getD lines j 0)) j

@@ -8,7 +8,7 @@ ghost use Rattle.laws.specs.Counts.{once};
 ghost use Rattle.laws.specs.Places.{gather};
 ghost use Rattle.model.specs.Places.{homeOf};
 ghost use Rattle.laws.specs.Put.{Put};
-ghost use Rattle.program.specs.Written.{fieldBytes, writes, recordCount, valueAt, settingAt, settingsOf};
+ghost use Rattle.program.specs.Written.{fieldBytes, writes, recordCount, valueAt, settingAt, settingsOf, Led};
 ghost use Rattle.program.specs.Written.{stepBytes, stepsOf, orderedSteps, writtenProgram};
 use bits::put_eight;
 use bits::put_four;
@@ -131,7 +131,7 @@ fn put_setting(
     w
 }
 
-// Writes the constants or initials of a statement.
+// Writes the constants or initials of a statement: none where its first draft is not one.
 fn put_settings(
     phase: u8,
     places: &[u16],
@@ -145,14 +145,18 @@ fn put_settings(
 ) -> usize
     requires { ⌜
         (j < length (now lines))
-        × (at + length (settingsOf phase (now places) (now lines) (now bounds) (now kinds) (now slots) j) ≤ length (now out)) ⌝ }
+        × (at + length (settingsOf phase (now places) (now lines) (now bounds) (now kinds) (now slots) j) ≤ length (now out))
+        × Led phase (now places) (now lines) (now bounds) (now kinds) (now slots) ⌝ }
     ensures { λ r. ⌜
         Put (settingsOf phase (now (places .entry)) (now (lines .entry)) (now (bounds .entry)) (now (kinds .entry)) (now (slots .entry)) j)
         at r (now (out .entry)) (now (out .exit)) ⌝ }
 {
+    let mut i = half_at(bounds, j);
+    if byte_at(kinds, i) != phase {
+        return at;
+    }
     let line = half_at(lines, j) as u64;
     let end = half_at(bounds, j + 1);
-    let mut i = half_at(bounds, j);
     let mut w = at;
     while i < end {
         w = put_setting(phase, places, kinds, slots, line, i, &mut *out, w);
@@ -173,8 +177,9 @@ fn put_all_settings(
     at: usize,
 ) -> usize
     requires { ⌜
-        at + length (gather (settingsOf phase (now places) (now lines) (now bounds) (now kinds) (now slots)) (length (now lines)) 0)
-        ≤ length (now out) ⌝ }
+        (at + length (gather (settingsOf phase (now places) (now lines) (now bounds) (now kinds) (now slots)) (length (now lines)) 0)
+        ≤ length (now out))
+        × Led phase (now places) (now lines) (now bounds) (now kinds) (now slots) ⌝ }
     ensures { λ r. ⌜
         Put (gather
         (settingsOf phase (now (places .entry)) (now (lines .entry)) (now (bounds .entry)) (now (kinds .entry)) (now (slots .entry)))
@@ -273,7 +278,10 @@ pub fn put_program(
     order: &[u16],
     out: &mut [u8],
 ) -> usize
-    requires { ⌜ length (writtenProgram (now places) (now rows) (now lines) (now bounds) (now kinds) (now slots) (now order)) ≤ length (now out) ⌝ }
+    requires { ⌜
+        (length (writtenProgram (now places) (now rows) (now lines) (now bounds) (now kinds) (now slots) (now order)) ≤ length (now out))
+        × Led 1 (now places) (now lines) (now bounds) (now kinds) (now slots)
+        × Led 2 (now places) (now lines) (now bounds) (now kinds) (now slots) ⌝ }
     ensures { λ r. ⌜
         (let p = writtenProgram (now (places .entry)) (now (rows .entry)) (now (lines .entry)) (now (bounds .entry)) (now (kinds .entry))
         (now (slots .entry)) (now (order .entry)) in

@@ -19,7 +19,8 @@ use Rattle.model.specs.Plan.{Outcome, outcome, held, Plans, fit, planned}
 use Rattle.model.specs.declared.answer.Plan.{Plan}
 use Rattle.model.proofs.Clean.{no-faults}
 use Rattle.model.proofs.Meant.{places-meant, rows-meant}
-use Rattle.program.specs.Written.{recordCount, writtenProgram}
+use Rattle.program.specs.Written.{Led, recordCount, writtenProgram}
+use Rattle.program.proofs.Meant.{led-meant}
 use Rattle.translator.specs.declared.Verdict.{Verdict}
 use Rattle.translator.specs.declared.Verdict.the-variants.{Refused, Faulty, Translated}
 use Rattle.translator.specs.Working.{Ready, Planned, Concludes}
@@ -96,6 +97,10 @@ module _ {p : Plan} {lines bounds kinds args : List ℕ} (s : Planned p lines bo
       → r₃ ≡ take (p .equations) (p .order)
       → writtenProgram r₁ r₂ lines bounds kinds args r₃ ≡ written (s .statements) kinds (s .named) lines bounds (s .laid) [] [] []
   written-cut e₁ e₂ e₃ = rw (e₁, e₂, e₃, places-cut, rows-cut, order-cut, s .args-resolved)
+
+  -- its statements begin with their settings
+  pub program-led : {r₁ : List ℕ} → r₁ ≡ take (p .definitions) (p .places) → Led 1 r₁ lines bounds kinds args × Led 2 r₁ lines bounds kinds args
+  program-led e₁ = rw (e₁, places-cut, s .args-resolved) (led-meant (s .statements) kinds (s .named) lines bounds (s .laid) (s .clean))
 
   -- ---- the answers, from the count n of records
   module _ {n : ℕ} (counted : n ≡ recordCount kinds) (out : List ℕ) where

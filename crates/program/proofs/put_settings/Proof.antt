@@ -1,28 +1,41 @@
--- The loop goes over the places of the statement.
+-- A statement that does not begin with a setting has none; else the loop goes over the places of the statement.
 use Prim.Native.Nat.{_-_}
+use mathlib.Core.Path.{_∙_}
 use native.Mathlib.Omega.{arith}
+use borrow.Author.Tests.{ne-eqb}
 use borrow.Author.Needs.{needs}
 use Rattle.laws.proofs.Gathers.{Writes, writes-first, writes-room}
 use Rattle.program.specs.Written.{settingAt}
-use Rattle.program.proofs.Puts.{put-next, put-all}
+use Rattle.program.proofs.Puts.{put-none, put-next, put-all}
 use Rattle.program.proofs.put_settings.Statement.{statement}
 use Rattle.program.proofs.put_settings.Tie as tie
 
 abbrev Inv-loop : tie.InvT-loop
-Inv-loop phase places lines bounds kinds slots j out₀ at line end i₀ w₀ out i w =
+Inv-loop phase places lines bounds kinds slots j out₀ at i₀ line end w₀ out i w =
     Writes (settingAt phase places kinds slots line) end i₀ i at w out₀ out
 
 abbrev μ-loop : tie.MeasureT-loop
-μ-loop phase places lines bounds kinds slots j out₀ at line end i₀ w₀ out i w = end - i
+μ-loop phase places lines bounds kinds slots j out₀ at i₀ line end w₀ out i w = end - i
 
 half-at-requires : tie.Need-half-at-requires Inv-loop μ-loop
 half-at-requires c κs = search needs
 
-add-half-at : tie.Need-add-half-at Inv-loop μ-loop
-add-half-at c = search needs
+byte-at-requires : tie.Need-byte-at-requires Inv-loop μ-loop
+byte-at-requires c κs = search needs
+
+returns : tie.Need-returns Inv-loop μ-loop
+returns c =
+    let h = c .before .before in
+    let s = h .before .before .before .before .before .before .before in
+    let i = h .half-at .ensures .0 in
+    put-none (s .args .at) (s .args .out .now)
+    (s .pre .2 (s .args .j) (s .pre .0) (rw (← i) (ne-eqb _ _ (λ e. c .if1 .taken (c .before .byte-at .ensures ∙ e)))))
 
 half-at-requires-2 : tie.Need-half-at-requires-2 Inv-loop μ-loop
 half-at-requires-2 c κs = search needs
+
+add-half-at : tie.Need-add-half-at Inv-loop μ-loop
+add-half-at c = search needs
 
 half-at-requires-3 : tie.Need-half-at-requires-3 Inv-loop μ-loop
 half-at-requires-3 c κs = search needs
@@ -30,13 +43,16 @@ half-at-requires-3 c κs = search needs
 loop-holds : tie.Need-loop-holds Inv-loop μ-loop
 loop-holds c = writes-first _ _ _ _ _
 
+-- where the function begins
+abbrev Start-of : tie.After-half-at3 Inv-loop μ-loop → tie.Start Inv-loop μ-loop
+Start-of h = h .before .before .before .before .before .before .before .before .before .before .before
+
 put-setting-requires : tie.Need-put-setting-requires Inv-loop μ-loop
 put-setting-requires c κs =
-    let h = c .before .before .before in
-    let s = h .before .before .before .before .before .before .before .before .before in (
+    let h = c .before .before .before in (
       omega arith,
       writes-room (c .before .before .loop .inv) (c .before .loop-test .taken)
-          (rw (h .half-at3 .ensures .0, h .before .half-at2 .ensures .0, h .before .before .half-at .ensures .0) (s .pre .1)),
+          (rw (h .half-at3 .ensures .0, h .before .half-at2 .ensures .0, h .before .before .before .before .half-at .ensures .0) (Start-of h .pre .1)),
     )
 
 add-i : tie.Need-add-i Inv-loop μ-loop
@@ -53,10 +69,10 @@ loop-again c =
 same-length : tie.Need-same-length Inv-loop μ-loop
 same-length c = c .before .loop .inv .long
 
-returns : tie.Need-returns Inv-loop μ-loop
-returns c =
+returns-2 : tie.Need-returns-2 Inv-loop μ-loop
+returns-2 c =
     let h = c .before .before in
-    rw (← (h .half-at3 .ensures .0), ← (h .before .half-at2 .ensures .0), ← (h .before .before .half-at .ensures .0))
+    rw (← (h .half-at3 .ensures .0), ← (h .before .half-at2 .ensures .0), ← (h .before .before .before .before .half-at .ensures .0))
     (put-all (c .before .loop .inv) (c .loop-test .left))
 
 pub put-settings-spec : {M : Type 1} → statement M
@@ -66,8 +82,10 @@ put-settings-spec =
     Inv-loop
     μ-loop
     half-at-requires
-    add-half-at
+    byte-at-requires
+    returns
     half-at-requires-2
+    add-half-at
     half-at-requires-3
     loop-holds
     put-setting-requires
@@ -75,4 +93,4 @@ put-settings-spec =
     loop-less
     loop-again
     same-length
-    returns)
+    returns-2)

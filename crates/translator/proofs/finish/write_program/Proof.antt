@@ -1,7 +1,7 @@
 -- The records are counted; there are too many, or too many for the room; or the program is written.
 use mathlib.Core.Path.{refl}
 use borrow.Author.Needs.{needs}
-use Rattle.translator.proofs.Writing.{front, places-room, rows-room, order-room, program-fits, says-eight, says-eight′, says-zero}
+use Rattle.translator.proofs.Writing.{front, places-room, rows-room, order-room, program-fits, program-led, says-eight, says-eight′, says-zero}
 use Rattle.translator.proofs.finish.write_program.Statement.{statement}
 use Rattle.translator.proofs.finish.write_program.Tie as tie
 
@@ -51,7 +51,9 @@ put-program-requires : tie.Need-put-program-requires
 put-program-requires c κs =
     let o = c .before .before .before .before in
     let k = K o in
-    program-fits (S k .pre) (k .count-records .ensures) (S k .args .out .now) refl refl refl (o .before .before .before .if2 .left)
+    let fits = program-fits (S k .pre) (k .count-records .ensures) (S k .args .out .now) refl refl refl (o .before .before .before .if2 .left) in
+    let led = program-led (S k .pre) refl in
+    (fits, led .0, led .1)
 
 same-length : tie.Need-same-length
 same-length c = search needs
