@@ -6,7 +6,7 @@ use mathlib.Core.List.{List}
 use mathlib.Core.Logic.{_⊎_, inl, inr, ⊎-elim}
 use native.Mathlib.Nat.{le-refl}
 use native.Mathlib.Omega.{arith}
-use borrow.Author.Tests.{eq-eqb, ne-eqb, le-leb, lt-leb, lt-ltb, le-ltb, eqb-true, eqb-false, leb-true, leb-false, ltb-true}
+use borrow.Author.Tests.{eq-eqb, ne-eqb, le-leb, lt-leb, lt-ltb, le-ltb, eqb-true, eqb-false, leb-true, leb-false, ltb-true, ltb-false}
 use lib.Dec.{eqb, leb, ltb, lit<}
 use lib.ListN.{length, getD}
 use lib.Ieee.{Float, binary64, ofBits}
@@ -17,7 +17,7 @@ use Rattle.records.specs.declared.Instr.{Instr}
 use Rattle.records.specs.declared.Instr.the-variants.{Bad}
 use Rattle.records.specs.Fields.{kindOf, operandOf, hasSlot, hasValue, byKind, inOrder, instrOf}
 use Rattle.records.specs.Record.{field, decodeAt}
-use Rattle.records.specs.Decode.{decodedAt, readAt, noSlot, noValue, slotRoom, mostBits}
+use Rattle.records.specs.Decode.{decodedAt, readAt, noSlot, noValue, slotRoom, mostBits, checkedOf}
 use Rattle.records.proofs.Words.{field-two}
 
 -- ---- kinds
@@ -234,12 +234,23 @@ module _ {p : List ℕ} {n w s b : ℕ} (f : Fields p n w s b) where
   unfolding decodeAt
   instr = decoded-at p n (f .within) ∙ rw (f .slot, f .bits .0)
 
-  -- the three answers of `decode`
-  pub decode-slot : slotRoom w ≤ s → Bad ≡ decodedAt p n
-  decode-slot l = no-slot _ _ w s b two l ∙ sym instr
+  -- the three answers on its fields
+  answer-slot : slotRoom w ≤ s → Bad ≡ decodedAt p n
+  answer-slot l = no-slot _ _ w s b two l ∙ sym instr
 
-  pub decode-value : mostBits w < b → Bad ≡ decodedAt p n
-  decode-value l = no-value _ _ w s b two (f .bits .1) l ∙ sym instr
+  answer-value : mostBits w < b → Bad ≡ decodedAt p n
+  answer-value l = no-value _ _ w s b two (f .bits .1) l ∙ sym instr
 
-  pub decode-kind : s < slotRoom w → b ≤ mostBits w → byKind w s (ofBits binary64 b) ≡ decodedAt p n
-  decode-kind l m = decided _ _ w s b two l m ∙ sym instr
+  answer-kind : s < slotRoom w → b ≤ mostBits w → byKind w s (ofBits binary64 b) ≡ decodedAt p n
+  answer-kind l m = decided _ _ w s b two l m ∙ sym instr
+
+  -- THE RECORD is what its fields are checked for
+  pub checked-at : checkedOf w s b ≡ decodedAt p n
+  checked-at =
+      cond-ind (λ (i : Instr). i ≡ decodedAt p n) (leb (slotRoom w) s) Bad _ (λ t. answer-slot (omega (arith, leb-true (slotRoom w) s t)))
+      (λ t. cond-ind (λ (i : Instr). i ≡ decodedAt p n) (ltb (mostBits w) b) Bad _ (λ u. answer-value (ltb-true (mostBits w) b u))
+      (λ u. answer-kind (leb-false (slotRoom w) s t) (ltb-false (mostBits w) b u)))
+
+  -- the same for a kind that is known
+  pub checked-as : {r : Instr} (k : ℕ) → w ≡ k → r ≡ checkedOf k s b → r ≡ decodedAt p n
+  checked-as k e q = q ∙ rw (← e) checked-at

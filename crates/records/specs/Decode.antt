@@ -37,3 +37,7 @@ slotRoom k = cond (noSlot k) 1 slots
 
 abbrev pub mostBits : ℕ → ℕ
 mostBits k = cond (noValue k) 0 0xffff_ffff_ffff_ffff
+
+-- what is read of kind and byte 1 as one number, operand and bits
+abbrev pub checkedOf : ℕ → ℕ → ℕ → Instr
+checkedOf k s b = cond (leb (slotRoom k) s) Bad (cond (ltb (mostBits k) b) Bad (byKind k s (ofBits binary64 b)))

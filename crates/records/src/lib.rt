@@ -7,7 +7,7 @@ ghost use Prim.Native.Nat.{_+_, _*_, _≤_, _<_};
 ghost use lib.ListN.{length};
 ghost use Rattle.records.specs.Fields.{byKind};
 ghost use Rattle.records.specs.Record.{field};
-ghost use Rattle.records.specs.Decode.{slotRoom, mostBits, readAt, decodedAt};
+ghost use Rattle.records.specs.Decode.{slotRoom, mostBits, checkedOf, readAt, decodedAt};
 
 // What a record does, with its slot or value; or the refusal, where it is none.
 pub enum Instr {
@@ -119,7 +119,21 @@ pub fn read(program: &[u8], n: usize) -> Instr
     by_kind(kind, slot as u16, float_of(bits))
 }
 
-// The instruction of record n, or the refusal.
+// The instruction of a kind, its slot and the bits of its value, or the refusal.
+fn checked(kind: u64, slot: u64, bits: u64) -> Instr
+    requires { ⌜ slot < 65536 ⌝ }
+    ensures { λ r. ⌜ r ≡ checkedOf kind slot bits ⌝ }
+{
+    if slot_room(kind) <= slot {
+        return Instr::Bad;
+    }
+    if most_bits(kind) < bits {
+        return Instr::Bad;
+    }
+    by_kind(kind, slot as u16, float_of(bits))
+}
+
+// The instruction of record n, or the refusal. Each known kind has an arm, so that what it is checked for is fixed there.
 pub fn decode(program: &[u8], n: usize) -> Instr
     ensures { λ r. ⌜ r ≡ decodedAt (now (program .entry)) n ⌝ }
 {
@@ -130,11 +144,21 @@ pub fn decode(program: &[u8], n: usize) -> Instr
     let kind = pair(program, o);
     let slot = pair(program, o + 2);
     let bits = word(program, o + 8);
-    if slot_room(kind) <= slot {
-        return Instr::Bad;
+    match kind {
+        1 => checked(1, slot, bits),
+        2 => checked(2, slot, bits),
+        3 => checked(3, slot, bits),
+        4 => checked(4, slot, bits),
+        5 => checked(5, slot, bits),
+        6 => checked(6, slot, bits),
+        7 => checked(7, slot, bits),
+        8 => checked(8, slot, bits),
+        9 => checked(9, slot, bits),
+        10 => checked(10, slot, bits),
+        11 => checked(11, slot, bits),
+        12 => checked(12, slot, bits),
+        13 => checked(13, slot, bits),
+        14 => checked(14, slot, bits),
+        _ => checked(kind, slot, bits),
     }
-    if most_bits(kind) < bits {
-        return Instr::Bad;
-    }
-    by_kind(kind, slot as u16, float_of(bits))
 }

@@ -1,10 +1,11 @@
+-- What was read of the record is checked, by an arm for each kind.
 use Prim.Native.Nat.{_/_}
 use mathlib.Core.Path.{_∙_}
 use borrow.Author.Needs.{needs}
 use borrow.Author.Tests.{le-ltb}
 use lib.ListN.{length}
 use Rattle.limits.specs.Limits.{recordBytes}
-use Rattle.records.proofs.Decoding.{Fields, decode-slot, decode-value, decode-kind}
+use Rattle.records.proofs.Decoding.{Fields, checked-at, checked-as}
 use Rattle.records.proofs.decode.Statement.{statement}
 use Rattle.records.proofs.decode.Tie as tie
 
@@ -40,34 +41,9 @@ fields c =
     let k = s .before in
     record { within = k .before .if1 .left; kind = k .pair .ensures .0; slot = s .pair2 .ensures .0; bits = c .word .ensures }
 
-slot-room-requires : tie.Need-slot-room-requires
-slot-room-requires c κs = search needs
-
-returns-2 : tie.Need-returns-2
-returns-2 c = decode-slot (fields (c .before .before)) (rw (c .before .slot-room .ensures) at (c .if2 .taken))
-
-most-bits-requires : tie.Need-most-bits-requires
-most-bits-requires c κs = search needs
-
-returns-3 : tie.Need-returns-3
-returns-3 c = decode-value (fields (c .before .before .before .before)) (rw (c .before .most-bits .ensures) at (c .if3 .taken))
-
-cast-by-kind : tie.Need-cast-by-kind
-cast-by-kind c = search needs
-
-float-of-requires : tie.Need-float-of-requires
-float-of-requires c κs = search needs
-
-by-kind-requires : tie.Need-by-kind-requires
-by-kind-requires c κs = search needs
-
-returns-4 : tie.Need-returns-4
-returns-4 c =
-    let m = c .before .before .before in
-    let r = m .before .before in
-    let slot = rw (r .slot-room .ensures) at (m .before .if2 .left) in
-    let value = rw (m .most-bits .ensures) at (c .before .before .if3 .left) in
-    c .by-kind .ensures ∙ rw (c .before .float-of .ensures) (decode-kind (fields (r .before)) slot value)
+-- any other kind
+other : tie.Need-returns-16
+other c = c .checked15 .ensures ∙ checked-at (fields (c .before .before))
 
 pub decode-spec : {M : Type 1} → statement M
 decode-spec =
@@ -80,11 +56,33 @@ decode-spec =
     pair-requires-2
     add-word
     word-requires
-    slot-room-requires
-    returns-2
-    most-bits-requires
-    returns-3
-    cast-by-kind
-    float-of-requires
-    by-kind-requires
-    returns-4)
+    (λ c κs. search needs)
+    (λ c κs. search needs)
+    (λ c κs. search needs)
+    (λ c κs. search needs)
+    (λ c κs. search needs)
+    (λ c κs. search needs)
+    (λ c κs. search needs)
+    (λ c κs. search needs)
+    (λ c κs. search needs)
+    (λ c κs. search needs)
+    (λ c κs. search needs)
+    (λ c κs. search needs)
+    (λ c κs. search needs)
+    (λ c κs. search needs)
+    (λ c κs. search needs)
+    (λ c. checked-as (fields (c .before .before)) 1 (c .before .match .keys1) (c .checked .ensures))
+    (λ c. checked-as (fields (c .before .before)) 2 (c .before .match .keys2) (c .checked2 .ensures))
+    (λ c. checked-as (fields (c .before .before)) 3 (c .before .match .keys3) (c .checked3 .ensures))
+    (λ c. checked-as (fields (c .before .before)) 4 (c .before .match .keys4) (c .checked4 .ensures))
+    (λ c. checked-as (fields (c .before .before)) 5 (c .before .match .keys5) (c .checked5 .ensures))
+    (λ c. checked-as (fields (c .before .before)) 6 (c .before .match .keys6) (c .checked6 .ensures))
+    (λ c. checked-as (fields (c .before .before)) 7 (c .before .match .keys7) (c .checked7 .ensures))
+    (λ c. checked-as (fields (c .before .before)) 8 (c .before .match .keys8) (c .checked8 .ensures))
+    (λ c. checked-as (fields (c .before .before)) 9 (c .before .match .keys9) (c .checked9 .ensures))
+    (λ c. checked-as (fields (c .before .before)) 10 (c .before .match .keys10) (c .checked10 .ensures))
+    (λ c. checked-as (fields (c .before .before)) 11 (c .before .match .keys11) (c .checked11 .ensures))
+    (λ c. checked-as (fields (c .before .before)) 12 (c .before .match .keys12) (c .checked12 .ensures))
+    (λ c. checked-as (fields (c .before .before)) 13 (c .before .match .keys13) (c .checked13 .ensures))
+    (λ c. checked-as (fields (c .before .before)) 14 (c .before .match .keys14) (c .checked14 .ensures))
+    other)
