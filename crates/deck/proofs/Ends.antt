@@ -1,13 +1,13 @@
 -- Laws of bytes 10: how many a text has, and where none stands.
 use Prim.Native.Nat.{ℕ, zero, suc, _+_, _-_, _≤_, _<_}
 use mathlib.Core.Path.{_≡_, refl, sym, ap, _∙_}
-use mathlib.Core.Bool.{Bool, true, false, not, cond}
+use mathlib.Core.Bool.{Bool, true, false, not, cond, _||_}
 use mathlib.Core.List.{List, [], _∷_}
 use native.Mathlib.Numerals.{add-one}
-use native.Mathlib.Nat.{not-suc-le-zero}
+use native.Mathlib.Nat.{not-suc-le-zero, zero-add}
 use native.Mathlib.Omega.{arith}
-use borrow.Author.Tests.{eq-eqb, ne-eqb}
-use lib.Dec.{eqb}
+use borrow.Author.Tests.{eq-eqb, ne-eqb, lt-ltb, ltb-false}
+use lib.Dec.{eqb, ltb}
 use lib.ListN.{length, getD, take, drop, drop-of-length-le, length-drop}
 use lib.Seq.{drop-cons, drop-drop, length-take-le}
 use Rattle.laws.specs.Counts.{once}
@@ -21,6 +21,29 @@ use Rattle.deck.specs.Survey.{endsOf}
 pub ends-next : (t : List ℕ) (i : ℕ) → i < length t → endsOf (drop i t) ≡ once (eqb (getD t i 0) 10) + endsOf (drop (i + 1) t)
 unfolding endsOf
 ends-next t i h = rw (add-one, drop-cons t i 0 h)
+
+-- ---- sought one by one: one was found, or one stands from place i on
+pub record Finds (t : List ℕ) (f : Bool) (i : ℕ) : Type 0 where
+  pub either : ltb 0 (endsOf t) ≡ (f || ltb 0 (endsOf (drop i t)))
+
+pub finds-first : (t : List ℕ) → Finds t false 0
+finds-first t = record { either = refl }
+
+pub finds-next : {t : List ℕ} {f : Bool} {i : ℕ} → Finds t f i → i < length t → Finds t (f || eqb (getD t i 0) 10) (i + 1)
+finds-next {t} {f} {i} w h = record { either = w .either ∙ rw (ends-next t i h) (go f (eqb (getD t i 0) 10) (endsOf (drop (i + 1) t))) }
+  where
+    go : (f c : Bool) (n : ℕ) → (f || ltb 0 (once c + n)) ≡ ((f || c) || ltb 0 n)
+    go true c n = refl
+    go false true n = lt-ltb 0 (1 + n) (omega arith)
+    go false false n = rw (zero-add n)
+
+pub finds-last : {t : List ℕ} {f : Bool} {i : ℕ} → Finds t f i → length t ≤ i → f ≡ ltb 0 (endsOf t)
+unfolding endsOf
+finds-last {t} {f} {i} w h = sym (w .either ∙ rw (drop-of-length-le t h) (go f))
+  where
+    go : (f : Bool) → (f || ltb 0 0) ≡ f
+    go true = refl
+    go false = refl
 
 -- so many bytes more
 ends-split : (k : ℕ) (t : List ℕ) → endsOf t ≡ endsOf (take k t) + endsOf (drop k t)
@@ -153,10 +176,11 @@ width-clear (suc k) (b ∷ t) h e = go (eqb b 10) e (width-clear k t (omega arit
 pub passes-first : (t : List ℕ) (at : ℕ) → at ≤ length t → Passes t at at
 passes-first t at h = record { from = omega arith; upto = h; same = refl }
 
-pub passes-on : {t : List ℕ} {at i : ℕ} (k : ℕ) → Passes t at i → i + k ≤ length t → endsOf (take (i + k - i) (drop i t)) ≡ 0 → Passes t at (i + k)
+pub passes-on : {t : List ℕ} {at i : ℕ} (k : ℕ) → Passes t at i → i + k ≤ length t → ltb 0 (endsOf (take (i + k - i) (drop i t))) ≡ false
+    → Passes t at (i + k)
 passes-on {t} {at} {i} k w h q =
     let y : i + k - i ≡ k = omega arith in
-    let e = rw y at q in
+    let e : endsOf (take k (drop i t)) ≡ 0 = omega (arith, ltb-false 0 (endsOf (take k (drop i t))) (rw y at q)) in
     let n = length-drop i t in
     let z = width-clear k (drop i t) (omega arith) e in
     let d = ap width (drop-drop k i t) in

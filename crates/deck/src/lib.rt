@@ -3,7 +3,7 @@ ghost use mathlib.Core.Path.{_≡_};
 ghost use mathlib.Core.Bool.{false};
 ghost use mathlib.Core.List.{_∷_};
 ghost use Prim.Native.Nat.{_+_, _-_, _<_, _≤_, _^_, min};
-ghost use lib.Dec.{eqb};
+ghost use lib.Dec.{eqb, ltb};
 ghost use lib.ListN.{length, drop};
 ghost use lib.Seq.{sets};
 ghost use Rattle.laws.specs.Counts.{once};
@@ -37,7 +37,7 @@ pub enum Found {
 pub const JOINED_BYTES: usize = limits::CARDS * (limits::CARD_BYTES + 1) - 1;
 
 // How many bytes are searched at once for a byte 10, and how many are counted at once: fewer than 256.
-const STRIDE: usize = 8;
+const STRIDE: usize = 16;
 
 const PART: usize = 192;
 
@@ -77,6 +77,19 @@ fn ends_in(part: &[u8]) -> u8
     n
 }
 
+// Whether a part has a byte 10. Each byte is looked at, so that many are at once.
+fn has_end(part: &[u8]) -> bool
+    ensures { λ r. ⌜ r ≡ ltb 0 (endsOf (now (part .entry))) ⌝ }
+{
+    let mut found = false;
+    let mut i: usize = 0;
+    while i < part.len() {
+        found = found | (part[i] == 10);
+        i += 1;
+    }
+    found
+}
+
 // How many bytes 10 a text has, counted part by part.
 fn count_ends(text: &[u8]) -> usize
     ensures { λ r. ⌜ (r ≡ endsOf (now (text .entry))) × (r ≤ length (now (text .entry))) ⌝ }
@@ -99,7 +112,7 @@ fn pass(text: &[u8], at: usize) -> usize
     let mut i = at;
     while STRIDE <= text.len() - i {
         let e = i + STRIDE;
-        if ends_in(&text[i..e]) != 0 {
+        if has_end(&text[i..e]) {
             return i;
         }
         i = e;

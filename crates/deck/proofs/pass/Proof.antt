@@ -26,7 +26,7 @@ loop-again c =
     let at-ends = c .before in
     let at-test = at-ends .before .before in
     let i = at-test .before .loop .inv in
-    passes-on 8 i (omega (arith, at-test .loop-test .taken, i .upto)) (sym (at-ends .ends-in .ensures) ∙ c .if1 .left)
+    passes-on 16 i (omega (arith, at-test .loop-test .taken, i .upto)) (sym (at-ends .has-end .ensures) ∙ c .if1 .left)
 
 returns-2 : tie.Need-returns-2 Inv-loop μ-loop
 returns-2 c = c .before .loop .inv
