@@ -9,7 +9,7 @@ use native.Mathlib.Numerals.{add-one}
 use native.Mathlib.Omega.{arith}
 use borrow.Author.Tests.{lt-ltb, le-ltb}
 use lib.Dec.{ltb}
-use lib.ListN.{length, getD, take, set, replicate, length-set, length-replicate, getD-replicate}
+use lib.ListN.{length, getD, take, set, replicate, length-set, length-replicate}
 use lib.Seq.{sets, length-sets, length-take-le, take-suc-set, getD-set-same, getD-set-other}
 use Rattle.limits.specs.Limits.{mostStatements}
 use Rattle.laws.specs.Counts.{count}
@@ -18,48 +18,49 @@ use Rattle.laws.proofs.Sets.{sets-append}
 use Rattle.laws.proofs.Counts.{count-snoc-same, count-snoc-other}
 use Rattle.order.specs.Greedy.{first, ready, next, place, order}
 use Rattle.order.specs.Table.{usesIn, Fit}
-use Rattle.order.specs.Marks.{readyIn, Cursors, Users}
+use Rattle.order.specs.Marks.{readyIn, Search, Users, never, always, marksRoom}
 use Rattle.order.specs.Answer.{Filled}
 use Rattle.order.proofs.Sorting.{first-before, first-same, ready-free, next-ready}
 use Rattle.order.proofs.Searches.{first-skip, first-bound}
-use Rattle.order.proofs.Marking.{ready-same, cursors-mark, cursors-none}
+use Rattle.order.proofs.Marking.{ready-same}
+use Rattle.order.proofs.Waiting.{unmarked, unmarked-at, search-mark, search-none}
 use Rattle.order.proofs.Users.{ready-kept}
 
 -- k statements are placed: they stand at the front of `out` and are marked, and with those that are still to be placed they make the
 -- order; none before `from` is ready
-pub record Going (n : ℕ) (s u lent users out marks cursors : List ℕ) (from k : ℕ) : Type 0 where
+pub record Going (n : ℕ) (s u lent users out marks cursors waits : List ℕ) (from k : ℕ) : Type 0 where
   pub fit : Fit n s u
   pub room : n ≤ length lent
   pub few : k ≤ n
-  pub size : length marks ≡ mostStatements
+  pub size : length marks ≡ marksRoom
   pub content : out ≡ sets lent 0 (take k out)
   pub mark : (j : ℕ) → j < n → getD marks j 0 ≡ count j (take k out)
   pub left : place n (usesIn s u) (n - k) (take k out) ≡ order n (usesIn s u)
-  pub moved : Cursors n s u marks cursors
+  pub search : Search n s u marks cursors waits
   pub noted : Users n s u users 0
   pub begun : from ≤ n
   pub none : (j : ℕ) → j < from → readyIn n s u marks j ≡ false
 
 -- none is placed
 pub going-start : {n : ℕ} {s u users : List ℕ} (lent : List ℕ) → Fit n s u → n ≤ length lent → Users n s u users 0
-    → Going n s u lent users lent (replicate mostStatements 0) (replicate mostStatements 0) 0 0
+    → Going n s u lent users lent unmarked (replicate mostStatements 0) (replicate mostStatements always) 0 0
 unfolding order count
 going-start {n} {s} {u} lent t h w =
     record {
       fit = t;
       room = h;
       few = omega arith;
-      size = length-replicate {A = ℕ} mostStatements 0;
+      size = length-set (replicate {A = ℕ} marksRoom 0) always 1 ∙ length-replicate {A = ℕ} marksRoom 0;
       content = refl;
-      mark = λ j l. getD-replicate mostStatements j 0 0 (omega (arith, t .few));
+      mark = λ j l. unmarked-at j (omega (arith, t .few));
       left = rw sub-zero;
-      moved = cursors-none n s u (replicate mostStatements 0) (t .few);
+      search = search-none n s u (t .few);
       noted = w;
       begun = omega arith;
       none = λ j l. absurd (omega arith);
     }
 
-module _ {n : ℕ} {s u lent users out marks cursors : List ℕ} {from k : ℕ} (g : Going n s u lent users out marks cursors from k) where
+module _ {n : ℕ} {s u lent users out marks cursors waits : List ℕ} {from k : ℕ} (g : Going n s u lent users out marks cursors waits from k) where
   -- what each uses
   abbrev uses : ℕ → ℕ → Bool
   uses = usesIn s u
@@ -123,9 +124,9 @@ module _ {n : ℕ} {s u lent users out marks cursors : List ℕ} {from k : ℕ} 
       ready-kept n s u marks i j (λ w. omega arith) no ∙ old
 
   -- one more is placed
-  pub going-step : {moves : List ℕ} {at : ℕ} → k < n → (i : ℕ) → i ≡ found → i < n → Cursors n s u marks moves → at ≤ i
-      → at ≤ getD users i 0 → Going n s u lent users (set out k i) (set marks i 1) moves at (k + 1)
-  going-step {moves} {at} h i e l m lo hi =
+  pub going-step : {moves rests : List ℕ} {at : ℕ} → k < n → (i : ℕ) → i ≡ found → i < n → Search n s u marks moves rests
+      → at ≤ i → at ≤ getD users i 0 → Going n s u lent users (set out k i) (set marks i 1) moves (set rests i never) at (k + 1)
+  going-step {moves} {rests} {at} h i e l m lo hi =
       let f : i ≡ chosen = e ∙ going-next in
       let ln : chosen < n = rw f at l in
       let li : i < length marks = omega (arith, g .size, g .fit .few) in
@@ -146,7 +147,7 @@ module _ {n : ℕ} {s u lent users out marks cursors : List ℕ} {from k : ℕ} 
             (⊎-elim (λ (q : j ≡ i). rw q (omega (arith, getD-set-same marks i 1 0 li, count-snoc-same i placed)))
             (λ q. getD-set-other marks i j 1 0 q ∙ g .mark j hj ∙ sym (count-snoc-other j i placed q)) (eq-or-ne j i));
         left = rw (front, f) (sym (going-on h ∙ rw (lt-ltb chosen n ln)) ∙ g .left);
-        moved = cursors-mark n s u marks moves m i li;
+        search = search-mark (g .fit) m i l li;
         noted = g .noted;
         begun = omega arith;
         none = λ j w. none-kept i j e l (omega arith) (omega arith);

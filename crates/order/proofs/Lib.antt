@@ -5,6 +5,7 @@ pub mod Theorems
 pub mod Tables
 pub mod Searches
 pub mod Marking
+pub mod Waiting
 pub mod Users
 pub mod Going
 pub mod Answers

@@ -1,18 +1,18 @@
 -- Laws of marks and cursors.
-use mathlib.Core.Path.{_≡_, refl, sym, ap, _∙_}
+use mathlib.Core.Path.{_≡_, refl, ap, _∙_}
 use mathlib.Core.Bool.{Bool, true, false, not, _||_}
 use mathlib.Core.Logic.{⊎-elim}
 use mathlib.Core.List.{List}
 use Prim.Native.Nat.{ℕ, _+_, _-_, _≤_, _<_}
 use native.Mathlib.Omega.{arith}
-use borrow.Author.Tests.{lt-ltb, le-ltb, le-leb, lt-leb, not-true, not-false}
-use lib.Dec.{leb}
+use borrow.Author.Tests.{lt-ltb, le-ltb, ltb-false, not-true, not-false}
 use lib.ListN.{length, getD, set, length-set, replicate, length-replicate, getD-replicate}
 use lib.Seq.{getD-set-same, getD-set-other}
 use Rattle.limits.specs.Limits.{mostStatements}
 use Rattle.laws.specs.Counts.{count, has}
 use Rattle.laws.proofs.Tests.{bool-cases, not-both, lt-or-ge, eq-or-ne}
 use Rattle.laws.proofs.Counts.{has-true}
+use Rattle.laws.proofs.Members.{in-has}
 use Rattle.order.specs.Greedy.{first, ready}
 use Rattle.order.specs.Table.{usedOf, usesIn, Fit}
 use Rattle.order.specs.Marks.{marked, openAt, freeIn, readyIn, Cursors}
@@ -50,9 +50,17 @@ module _ (n : ℕ) (s u m : List ℕ) (i : ℕ) where
   ready-marked h = rw (marked-yes m i h)
 
   -- any other is, if all that it uses is marked
-  ready-unmarked : getD m i 0 ≡ 0 → readyIn n s u m i ≡ freeIn n s u m i
+  pub ready-unmarked : getD m i 0 ≡ 0 → readyIn n s u m i ≡ freeIn n s u m i
   unfolding readyIn
   ready-unmarked e = rw (marked-no m i e)
+
+  -- not so, if one that it uses is not
+  pub free-not : (x : ℕ) → usesIn s u i x ≡ true → x < n → getD m x 0 ≤ 0 → freeIn n s u m i ≡ false
+  free-not x v l e =
+      let no : freeIn n s u m i ≡ true → ⊥ = λ a.
+      let r = all-true n (λ j. not (usesIn s u i j) || marked m j) a x l in
+      not-both (rw v at r) (le-ltb 0 (getD m x 0) e) in
+      ⊎-elim (λ a. absurd (no a)) (λ a. a) (bool-cases (freeIn n s u m i))
 
   -- marks that say what is placed say what is ready
   pub ready-same : (placed : List ℕ) → ((j : ℕ) → j < n → getD m j 0 ≡ count j placed) → i < n
@@ -83,20 +91,22 @@ module _ (n : ℕ) (s u m c : List ℕ) (t : Fit n s u) (g : Cursors n s u m c) 
       ⊎-elim (λ w. rw e at (g .pass i (p - getD s i 0) h w)) (λ w. first-before (openAt u m) (stop - start) start p (omega arith) hi)
       (lt-or-ge (p - getD s i 0) (getD c i 0))
 
-  -- before the end it has one that is not marked
-  goal-open : goal < stop → freeIn n s u m i ≡ false
+  -- before the end it has one that i uses
+  pub goal-used : goal < stop → usesIn s u i (getD u goal 0) ≡ true
+  goal-used l =
+      let lo = first-from (openAt u m) (stop - start) start in
+      in-has (getD u goal 0) (usedOf s u i) (in-part (getD s i 0) stop u (t .ends i h) goal (omega arith) l)
+
+  -- and that is not marked
+  pub goal-open : goal < stop → freeIn n s u m i ≡ false
   goal-open l =
       let x = getD u goal 0 in
       let e = t .ends i h in
       let w = first-hit (openAt u m) (stop - start) start (omega arith) in
-      let b = in-part (getD s i 0) stop u e goal (omega (arith, first-from (openAt u m) (stop - start) start)) l in
-      let no : freeIn n s u m i ≡ true → ⊥ = λ a.
-      let r = all-true n (λ j. not (usesIn s u i j) || marked m j) a x (t .below goal (omega arith)) in
-      not-both (rw (lt-ltb 0 (count x (usedOf s u i)) b) at r) (not-true (marked m x) w) in
-      ⊎-elim (λ a. absurd (no a)) (λ a. a) (bool-cases (freeIn n s u m i))
+      free-not n s u m i x (goal-used l) (t .below goal (omega arith)) (ltb-false 0 (getD m x 0) (not-true (marked m x) w))
 
   -- at the end all are marked
-  goal-end : stop ≤ goal → freeIn n s u m i ≡ true
+  pub goal-end : stop ≤ goal → freeIn n s u m i ≡ true
   goal-end l =
       all-intro n _
       (λ j k.
@@ -105,13 +115,8 @@ module _ (n : ℕ) (s u m c : List ℕ) (t : Fit n s u) (g : Cursors n s u m c) 
       let r = part-place (getD s i 0) stop u (t .ends i h) j (has-true j (usedOf s u i) v) in
       rw (r .3) at (not-false (marked m (getD u (r .0) 0)) (before-goal (r .0) (r .1) (omega (arith, r .2))))))
 
-  -- so it says whether all that i uses is marked
-  goal-says : leb stop goal ≡ freeIn n s u m i
-  goal-says =
-      ⊎-elim (λ l. lt-leb stop goal l ∙ sym (goal-open l)) (λ l. le-leb stop goal l ∙ sym (goal-end l)) (lt-or-ge goal stop)
-
   -- the cursor may move there
-  goal-moves : Cursors n s u m (set c i (goal - getD s i 0))
+  pub goal-moves : Cursors n s u m (set c i (goal - getD s i 0))
   goal-moves =
       let d = goal - getD s i 0 in
       record {
@@ -124,11 +129,6 @@ module _ (n : ℕ) (s u m c : List ℕ) (t : Fit n s u) (g : Cursors n s u m c) 
             rw q (before-goal (getD s i 0 + e) (omega arith) (omega arith)))
             (λ q. g .pass j e hj (rw (getD-set-other c i j d 0 q) at k)) (eq-or-ne j i);
       }
-
-  -- what `test` works out: whether i is ready, and where its cursor stands then
-  pub tested : (a b d k : ℕ) → a ≡ getD s i 0 → b ≡ stop → d ≡ getD c i 0 → k ≡ first (openAt u m) (b - (a + d)) (a + d) → getD m i 0 ≡ 0
-      → (leb b k ≡ readyIn n s u m i) × Cursors n s u m (set c i (k - a))
-  tested a b d k ea eb ed ek z = rw (ek, ea, eb, ed) (goal-says ∙ sym (ready-unmarked n s u m i z), goal-moves)
 
 -- one mark more
 pub cursors-mark : (n : ℕ) (s u m c : List ℕ) → Cursors n s u m c → (i : ℕ) → i < length m → Cursors n s u (set m i 1) c

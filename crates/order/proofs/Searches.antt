@@ -44,10 +44,3 @@ pub first-bound : (f : ℕ → Bool) (k i : ℕ) → first f k i ≤ i + k
 unfolding first
 first-bound f zero i = omega arith
 first-bound f (suc k) i = cond-ind (λ r. r ≤ i + suc k) (f i) i _ (λ t. omega arith) (λ t. omega (arith, first-bound f k (suc i)))
-
--- a search from d places behind a start ends at a number of places behind it that fits
-pub first-room : (f : ℕ → Bool) (a b d k : ℕ) → k ≡ first f (b - (a + d)) (a + d) → b < 65536 → d < 65536 → (a ≤ k) × (k - a < 65536)
-first-room f a b d k e hb hd =
-    let lo = first-from f (b - (a + d)) (a + d) in
-    let hi = first-bound f (b - (a + d)) (a + d) in
-    (omega arith, omega arith)

@@ -1,7 +1,8 @@
 -- What the code keeps while it places statements: a mark for each that is placed, a cursor for each past what it uses that is placed,
--- and for each the least statement that uses it.
+-- for each what it waits for, and for each the least statement that uses it.
 use mathlib.Core.Path.{_≡_}
 use mathlib.Core.Bool.{Bool, true, false, not, _&&_, _||_}
+use mathlib.Core.Logic.{_⊎_}
 use mathlib.Core.List.{List}
 use Prim.Native.Nat.{ℕ, _+_, _≤_, _<_}
 use lib.Dec.{ltb}
@@ -30,6 +31,32 @@ readyIn n starts used marks i = not (marked marks i) && freeIn n starts used mar
 pub record Cursors (n : ℕ) (starts used marks cursors : List ℕ) : Type 0 where
   pub size : length cursors ≡ mostStatements
   pub pass : (i d : ℕ) → i < n → d < getD cursors i 0 → openAt used marks (getD starts i 0 + d) ≡ false
+
+-- behind the marks of the statements, the place of one that is never set
+abbrev pub never : ℕ
+never = mostStatements
+
+-- and of one that always is
+abbrev pub always : ℕ
+always = mostStatements + 1
+
+-- how many marks there are
+abbrev pub marksRoom : ℕ
+marksRoom = mostStatements + 2
+
+-- a marked statement waits for the mark that is never set; any other for that of a statement that it uses, or at first for the one
+-- that always is
+pub record Waits (n : ℕ) (starts used marks waits : List ℕ) : Type 0 where
+  pub size : length waits ≡ mostStatements
+  pub shut : getD marks never 0 ≡ 0
+  pub free : 0 < getD marks always 0
+  pub past : (i : ℕ) → i < n → 0 < getD marks i 0 → getD waits i 0 ≡ never
+  pub other : (i : ℕ) → i < n → getD marks i 0 ≡ 0 → (getD waits i 0 ≡ always) ⊎ (usesIn starts used i (getD waits i 0) ≡ true)
+
+-- what a search for a ready statement needs
+pub record Search (n : ℕ) (starts used marks cursors waits : List ℕ) : Type 0 where
+  pub moved : Cursors n starts used marks cursors
+  pub known : Waits n starts used marks waits
 
 -- of the statements from i on, none that uses j stands before users[j]
 pub record Users (n : ℕ) (starts used users : List ℕ) (i : ℕ) : Type 0 where

@@ -5,9 +5,18 @@ ghost use lib.ListN.{length, getD};
 ghost use Rattle.limits.specs.Limits.{mostStatements};
 ghost use Rattle.order.specs.Greedy.{all, first};
 ghost use Rattle.order.specs.Table.{Fit, endsIn, belowAt, fits};
-ghost use Rattle.order.specs.Marks.{openAt, readyIn, Cursors, Users};
+ghost use Rattle.order.specs.Marks.{openAt, readyIn, Search, Users};
 ghost use Rattle.order.specs.Answer.{Filled, Sorts};
 use limits::STATEMENTS;
+
+// How many marks there are: one for each statement, and behind them two more.
+const MARKS: usize = STATEMENTS + 2;
+
+// The place of the mark that is never set: what is placed waits for it.
+const NEVER: usize = STATEMENTS;
+
+// The place of the mark that always is: what was not tested yet waits for it.
+const ALWAYS: usize = STATEMENTS + 1;
 
 // What `sort` answers: how many statements were placed, or that the table does not fit.
 pub enum Sorted {
@@ -71,7 +80,7 @@ fn fit(n: usize, starts: &[u16], used: &[u16], room: usize) -> bool
 }
 
 // The first place from a place on and before an end whose statement is not marked; the end where there is none.
-fn advance(from: usize, end: usize, used: &[u16], marks: &[u8; STATEMENTS]) -> usize
+fn advance(from: usize, end: usize, used: &[u16], marks: &[u8; MARKS]) -> usize
     requires { ⌜ (end ≤ length (now used)) × ((k : ℕ) → k < end → getD (now used) k 0 < mostStatements) ⌝ }
     ensures { λ r. ⌜ r ≡ first (openAt (now (used .entry)) (now (marks .entry))) (end - from) from ⌝ }
 {
@@ -86,28 +95,36 @@ fn advance(from: usize, end: usize, used: &[u16], marks: &[u8; STATEMENTS]) -> u
     k
 }
 
-// Whether statement i is not marked and uses only marked ones. Its cursor moves.
+// Whether statement i is not marked and uses only marked ones. It is not while the mark that it waits for is not set; then its cursor
+// moves to the next that it waits for.
 fn test(
     i: usize,
     n: usize,
     starts: &[u16],
     used: &[u16],
-    marks: &[u8; STATEMENTS],
+    marks: &[u8; MARKS],
     cursors: &mut [u16; STATEMENTS],
+    waits: &mut [u16; STATEMENTS],
 ) -> bool
-    requires { ⌜ Fit n (now starts) (now used) × (i < n) × Cursors n (now starts) (now used) (now marks) (now cursors) ⌝ }
+    requires { ⌜ Fit n (now starts) (now used) × (i < n) × Search n (now starts) (now used) (now marks) (now cursors) (now waits) ⌝ }
     ensures ready { λ r. ⌜ r ≡ readyIn n (now (starts .entry)) (now (used .entry)) (now (marks .entry)) i ⌝ }
-    ensures kept { λ r. ⌜ Cursors n (now (starts .entry)) (now (used .entry)) (now (marks .entry)) (now (cursors .exit)) ⌝ }
+    ensures kept { λ r.
+        ⌜ Search n (now (starts .entry)) (now (used .entry)) (now (marks .entry)) (now (cursors .exit)) (now (waits .exit)) ⌝ }
 {
-    if marks[i] != 0 {
+    let w = wide(waits[i]);
+    if marks[w] == 0 {
         return false;
     }
     let start = wide(starts[i]);
     let end = wide(starts[i + 1]);
     let passed = wide(cursors[i]);
     let k = advance(start + passed, end, used, marks);
+    if end <= k {
+        return true;
+    }
     cursors[i] = (k - start) as u16;
-    end <= k
+    waits[i] = used[k];
+    false
 }
 
 // The least statement from a place on that is ready, n where there is none.
@@ -116,16 +133,18 @@ fn next(
     n: usize,
     starts: &[u16],
     used: &[u16],
-    marks: &[u8; STATEMENTS],
+    marks: &[u8; MARKS],
     cursors: &mut [u16; STATEMENTS],
+    waits: &mut [u16; STATEMENTS],
 ) -> usize
-    requires { ⌜ Fit n (now starts) (now used) × Cursors n (now starts) (now used) (now marks) (now cursors) ⌝ }
+    requires { ⌜ Fit n (now starts) (now used) × Search n (now starts) (now used) (now marks) (now cursors) (now waits) ⌝ }
     ensures found { λ r. ⌜ r ≡ first (readyIn n (now (starts .entry)) (now (used .entry)) (now (marks .entry))) (n - from) from ⌝ }
-    ensures kept { λ r. ⌜ Cursors n (now (starts .entry)) (now (used .entry)) (now (marks .entry)) (now (cursors .exit)) ⌝ }
+    ensures kept { λ r.
+        ⌜ Search n (now (starts .entry)) (now (used .entry)) (now (marks .entry)) (now (cursors .exit)) (now (waits .exit)) ⌝ }
 {
     let mut i = from;
     while i < n {
-        if test(i, n, starts, used, marks, cursors) {
+        if test(i, n, starts, used, marks, cursors, waits) {
             return i;
         }
         i += 1;
@@ -172,19 +191,22 @@ fn place(n: usize, starts: &[u16], used: &[u16], out: &mut [u16]) -> usize
     requires { ⌜ Fit n (now starts) (now used) × (n ≤ length (now out)) ⌝ }
     ensures { λ r. ⌜ Filled n (now (starts .entry)) (now (used .entry)) (now (out .entry)) (now (out .exit)) r ⌝ }
 {
-    let mut marks = [0u8; STATEMENTS];
+    let mut marks = [0u8; MARKS];
+    marks[ALWAYS] = 1;
     let mut cursors = [0u16; STATEMENTS];
+    let mut waits = [ALWAYS as u16; STATEMENTS];
     let mut users = [n as u16; STATEMENTS];
     note_all(n, starts, used, &mut users);
     let mut from = 0;
     let mut k = 0;
     while k < n {
-        let i = next(from, n, starts, used, &marks, &mut cursors);
+        let i = next(from, n, starts, used, &marks, &mut cursors, &mut waits);
         if i == n {
             return k;
         }
         out[k] = i as u16;
         marks[i] = 1;
+        waits[i] = NEVER as u16;
         from = least(i, wide(users[i]));
         k += 1;
     }
