@@ -192,7 +192,7 @@ abbrev list-then : ℕ → Opening → Tree → List Symbol → Res Tree
 list-then d o e t = byGiven (give-to o e) (λ x. need 41 t λ u. tell (openDrafts o) (give x u)) (λ q. need 44 t (reads (list q) d))
 
 module _ {ks us : List ℕ} {d i p : ℕ} {l u : List ℕ} where
-  pub list-stopped : {c j : ℕ} {r : Part} {l₁ u₁ : List ℕ} → r ≡ Stopped c j → Parses ks us expr d i p l u r l₁ u₁
+  list-stopped : {c j : ℕ} {r : Part} {l₁ u₁ : List ℕ} → r ≡ Stopped c j → Parses ks us expr d i p l u r l₁ u₁
       → (o : Opening) → Parses ks us (list o) d i p l u r l₁ u₁
   list-stopped e h o = record { meets = meets-by (reads (list o) d) (reads-list d (drop i (heldRow ks us)) o) (stops (list-then d o) e h) }
 
@@ -217,7 +217,7 @@ module _ {ks us : List ℕ} {d i p : ℕ} {l u : List ℕ} where
     -- behind an expression of n that are wanted stands the kind k, and m should
     module _ (n : ℕ) {k m : ℕ} (ek : k ≡ getD ks j 0) (em : m ≡ closerOf n) where
       -- another mark stands behind it
-      pub list-shut : (k ≡ m → ⊥) → (o : Opening) → wantOf o ≡ n → Parses ks us (list o) d i p l u (Stopped 18 j) l₁ u₁
+      list-shut : (k ≡ m → ⊥) → (o : Opening) → wantOf o ≡ n → Parses ks us (list o) d i p l u (Stopped 18 j) l₁ u₁
       list-shut z o ew =
           let a = after w e h in
           by-given o
@@ -228,7 +228,7 @@ module _ {ks us : List ℕ} {d i p : ℕ} {l u : List ℕ} where
 
       module _ (z : k ≡ m) where
         -- the mark stands there
-        pub closer-inside : j < length ks
+        closer-inside : j < length ks
         closer-inside = stands ks j λ y. go (leb n 1) (sym y ∙ sym ek ∙ z ∙ em)
           where
             go : (t : Bool) → _≡_ {A = ℕ} 0 (cond t 41 44) → ⊥
@@ -236,7 +236,7 @@ module _ {ks us : List ℕ} {d i p : ℕ} {l u : List ℕ} where
             go false v = omega arith
 
         -- a comma: the next one
-        pub list-enter : {t : ℕ} → 4 + 5 * (length ks - i) ≡ t → (4 + 5 * (length ks - (j + 1)) < t) × Ready ks us (j + 1) q l₁ u₁
+        list-enter : {t : ℕ} → 4 + 5 * (length ks - i) ≡ t → (4 + 5 * (length ks - (j + 1)) < t) × Ready ks us (j + 1) q l₁ u₁
         list-enter v =
             let a = after w e h in
             let b = closer-inside in (
@@ -244,7 +244,7 @@ module _ {ks us : List ℕ} {d i p : ℕ} {l u : List ℕ} where
               record { even = w .even; within = omega arith; room-kinds = omega (arith, w .room-kinds); room-args = omega (arith, w .room-args) },
             )
 
-        pub list-more : {c : ℕ} {r : Part} {l₂ u₂ : List ℕ} → 1 < n
+        list-more : {c : ℕ} {r : Part} {l₂ u₂ : List ℕ} → 1 < n
             → ((b : Opening) → wantOf b ≡ n - 1 → kindOpening b ≡ c → Parses ks us (list b) d (j + 1) q l₁ u₁ r l₂ u₂)
             → (o : Opening) → wantOf o ≡ n → kindOpening o ≡ c → Parses ks us (list o) d i p l u r l₂ u₂
         list-more lt g o ew ec =
@@ -252,10 +252,10 @@ module _ {ks us : List ℕ} {d i p : ℕ} {l u : List ℕ} where
             λ b v s f. meets-need 44 (w .even) (omega arith) (sym ek ∙ z ∙ em ∙ rw (lt-leb n 1 lt)) (g b (omega arith) (f ∙ ec) .meets)
 
         -- the closing parenthesis, and the opening's draft
-        pub list-room : (q < length l₁) × (q < length u₁)
+        list-room : (q < length l₁) × (q < length u₁)
         list-room = let a = after w e h in let b = closer-inside in (omega (arith, w .room-kinds), omega (arith, w .room-args))
 
-        pub list-under : q < length l
+        list-under : q < length l
         list-under = let a = list-room in let b = after w e h in omega arith
 
         closed : {r : Part} {l₂ u₂ : List ℕ} → n ≤ 1 → (o : Opening) → wantOf o ≡ n
@@ -263,17 +263,83 @@ module _ {ks us : List ℕ} {d i p : ℕ} {l u : List ℕ} where
         closed le o ew g =
             by-given o (λ x v. meets-need 41 (w .even) (omega arith) (sym ek ∙ z ∙ em ∙ rw (le-leb n 1 le)) (g x)) λ b v s f. absurd (omega arith)
 
-        pub list-bare : {c : ℕ} → n ≤ 1 → c ≡ 0 → (o : Opening) → wantOf o ≡ n → kindOpening o ≡ c
+        list-bare : {c : ℕ} → n ≤ 1 → c ≡ 0 → (o : Opening) → wantOf o ≡ n → kindOpening o ≡ c
             → Parses ks us (list o) d i p l u (Passed (j + 1) q) l₁ u₁
         list-bare le v o ew ec =
             let b = closer-inside in
             closed le o ew λ x. meets-by (λ u. tell (openDrafts o) (give x u))
             (ap (λ is. tell is (give x (drop (j + 1) (heldRow ks us)))) (no-draft o (ec ∙ v))) (meets-give (w .even) (omega arith) x)
 
-        pub list-last : {c : ℕ} {l₂ u₂ : List ℕ} → n ≤ 1 → (c ≡ 0 → ⊥) → l₂ ≡ set l₁ q c → u₂ ≡ set u₁ q 0
+        list-last : {c : ℕ} {l₂ u₂ : List ℕ} → n ≤ 1 → (c ≡ 0 → ⊥) → l₂ ≡ set l₁ q c → u₂ ≡ set u₁ q 0
             → (o : Opening) → wantOf o ≡ n → kindOpening o ≡ c → Parses ks us (list o) d i p l u (Passed (j + 1) (q + 1)) l₂ u₂
         list-last {c} le v f g o ew ec =
             let b = closer-inside in
             let s : openDrafts o ≡ draft c 0 ∷ [] = one-draft o (λ y. v (sym ec ∙ y)) ∙ rw ec in
             closed le o ew λ x. meets-by (λ u. tell (openDrafts o) (give x u))
             (ap (λ is. tell is (give x (drop (j + 1) (heldRow ks us)))) s) (meets-tell c 0 f g (meets-give (w .even) (omega arith) x))
+
+-- ---- a list on its way
+
+-- Of n expressions, wanted from token i and draft p on with the draft c behind them, m are still to be read, from token j on. What these give,
+-- all give.
+pub record GoingList (ks us : List ℕ) (d i p : ℕ) (l u : List ℕ) (n c j m q : ℕ) (l₁ u₁ : List ℕ) : Type 0 where
+  pub on : i ≤ j
+  pub long-kinds : length l₁ ≡ length l
+  pub long-args : length u₁ ≡ length u
+  pub ready : Ready ks us j q l₁ u₁
+  pub all : {r : Part} {l₂ u₂ : List ℕ} → ((b : Opening) → wantOf b ≡ m → kindOpening b ≡ c → Parses ks us (list b) d j q l₁ u₁ r l₂ u₂)
+      → (o : Opening) → wantOf o ≡ n → kindOpening o ≡ c → Parses ks us (list o) d i p l u r l₂ u₂
+
+-- at first all are
+pub list-first : {ks us : List ℕ} {d i p : ℕ} {l u : List ℕ} (n c : ℕ) → Ready ks us i p l u → GoingList ks us d i p l u n c i n p l u
+list-first n c w = record { on = omega arith; long-kinds = refl; long-args = refl; ready = w; all = λ g. g }
+
+module _ {ks us : List ℕ} {d i p : ℕ} {l u : List ℕ} {n c j m q : ℕ} {l₁ u₁ : List ℕ} (z : GoingList ks us d i p l u n c j m q l₁ u₁) where
+  -- the next expression can be called; t is the measure of the list
+  pub item-enter : {t : ℕ} → 4 + 5 * (length ks - i) ≡ t → (3 + 5 * (length ks - j) < t) × Ready ks us j q l₁ u₁
+  item-enter h = let a = z .on in (omega arith, z .ready)
+
+  -- if it stops, the list does
+  pub item-stopped : {b g : ℕ} {r : Part} {l₂ u₂ : List ℕ} → r ≡ Stopped b g → Parses ks us expr d j q l₁ u₁ r l₂ u₂
+      → (o : Opening) → wantOf o ≡ n → kindOpening o ≡ c → Parses ks us (list o) d i p l u r l₂ u₂
+  item-stopped e h = z .all λ b _ _. list-stopped e h b
+
+  -- the kind k stands behind it, and s should
+  module _ {j₁ q₁ : ℕ} {r : Part} {l₂ u₂ : List ℕ} (e : r ≡ Passed j₁ q₁) (h : Parses ks us expr d j q l₁ u₁ r l₂ u₂) {k s : ℕ} (ek : k ≡ getD ks j₁ 0)
+      (es : s ≡ closerOf m) where
+    pub item-shut : (k ≡ s → ⊥) → (o : Opening) → wantOf o ≡ n → kindOpening o ≡ c → Parses ks us (list o) d i p l u (Stopped 18 j₁) l₂ u₂
+    item-shut y = z .all λ b v _. list-shut (z .ready) e h m ek es y b v
+
+    module _ (y : k ≡ s) where
+      pub item-inside : j₁ < length ks
+      item-inside = closer-inside (z .ready) e h m ek es y
+
+      pub item-room : (q₁ < length l₂) × (q₁ < length u₂)
+      item-room = list-room (z .ready) e h m ek es y
+
+      pub item-under : q₁ < length l
+      item-under = let a = list-under (z .ready) e h m ek es y in omega (arith, z .long-kinds)
+
+      pub item-less : length ks - (j₁ + 1) < length ks - j
+      item-less = let a = after (z .ready) e h in let b = item-inside in omega arith
+
+      -- a comma: one less is to be read
+      pub item-again : 1 < m → GoingList ks us d i p l u n c (j₁ + 1) (m - 1) q₁ l₂ u₂
+      item-again lt =
+          let a = after (z .ready) e h in
+          let b = z .on in
+          record {
+            on = omega arith;
+            long-kinds = a .long-kinds ∙ z .long-kinds;
+            long-args = a .long-args ∙ z .long-args;
+            ready = list-enter (z .ready) e h m ek es y refl .1;
+            all = λ g. z .all (list-more (z .ready) e h m ek es y lt g);
+          }
+
+      -- the closing parenthesis
+      pub item-bare : m ≤ 1 → c ≡ 0 → (o : Opening) → wantOf o ≡ n → kindOpening o ≡ c → Parses ks us (list o) d i p l u (Passed (j₁ + 1) q₁) l₂ u₂
+      item-bare le v = z .all (list-bare (z .ready) e h m ek es y le v)
+
+      pub item-last : {l₃ u₃ : List ℕ} → m ≤ 1 → (c ≡ 0 → ⊥) → l₃ ≡ set l₂ q₁ c → u₃ ≡ set u₂ q₁ 0
+          → (o : Opening) → wantOf o ≡ n → kindOpening o ≡ c → Parses ks us (list o) d i p l u (Passed (j₁ + 1) (q₁ + 1)) l₃ u₃
+      item-last le v f g = z .all (list-last (z .ready) e h m ek es y le v f g)

@@ -301,36 +301,33 @@ fn items(
     ensures { λ r. ⌜ ((o : Opening) → wantOf o ≡ count → kindOpening o ≡ kind → Parses (now (kinds .entry)) (now (args .entry)) (list o) allowed at place
         (now (drafts .entry)) (now (values .entry)) r (now (drafts .exit)) (now (values .exit))) ⌝ }
 {
-    let r = expression(kinds, args, at, allowed, drafts, values, place);
-    let Part::Passed { next, place: p } = r else {
-        return r;
-    };
-    if peek(kinds, next) != closer_of(count) {
-        return Part::Stopped { code: 18, at: next };
-    }
-    if 1 < count {
-        return items(
-            kinds,
-            args,
-            next + 1,
-            allowed,
-            count - 1,
-            kind,
-            drafts,
-            values,
-            p,
-        );
-    }
-    if kind == 0 {
-        return Part::Passed {
-            next: next + 1,
-            place: p,
+    let mut i = at;
+    let mut left = count;
+    let mut w = place;
+    loop {
+        let r = expression(kinds, args, i, allowed, &mut *drafts, &mut *values, w);
+        let Part::Passed { next, place: p } = r else {
+            return r;
         };
-    }
-    emit(drafts, values, p, kind, 0);
-    Part::Passed {
-        next: next + 1,
-        place: p + 1,
+        if peek(kinds, next) != closer_of(left) {
+            return Part::Stopped { code: 18, at: next };
+        }
+        if left <= 1 {
+            if kind == 0 {
+                return Part::Passed {
+                    next: next + 1,
+                    place: p,
+                };
+            }
+            emit(drafts, values, p, kind, 0);
+            return Part::Passed {
+                next: next + 1,
+                place: p + 1,
+            };
+        }
+        i = next + 1;
+        left -= 1;
+        w = p;
     }
 }
 

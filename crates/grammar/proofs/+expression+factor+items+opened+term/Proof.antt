@@ -11,7 +11,8 @@ use Rattle.grammar.proofs.Ways.{part-enter, part-stopped, op-room, part
 use Rattle.grammar.proofs.Openings.{one-inside, one-room, factor-one, group-enter, factor-group}
 use Rattle.grammar.proofs.Openings.{function-inside, function-enter, factor-function, factor-shut, factor-none}
 use Rattle.grammar.proofs.Openings.{opened-inside, opened-deep, opened-enter, opened-on}
-use Rattle.grammar.proofs.Openings.{list-stopped, list-shut, closer-inside, list-enter, list-more, list-room, list-under, list-bare, list-last}
+use Rattle.grammar.proofs.Openings.{GoingList, list-first, item-enter, item-stopped, item-shut, item-inside, item-room, item-under}
+use Rattle.grammar.proofs.Openings.{item-less, item-again, item-bare, item-last}
 use Rattle.grammar.proofs.expression.Reads as expression
 use Rattle.grammar.proofs.expression.Kinds as expression-kinds
 use Rattle.grammar.proofs.+expression+factor+items+opened+term.Lts-expression as expression-lts
@@ -357,8 +358,6 @@ items-calls t = (
   peek-reads.Learnt,
   closer-of-reads.Asked,
   closer-of-reads.Learnt,
-  items-below t,
-  items.Post,
   emit-reads.Asked,
   emit-reads.Learnt,
 )
@@ -366,89 +365,67 @@ items-calls t = (
 abbrev items-at : ℕ → In 4 items-kinds.ps
 items-at t = and 4 items-kinds.ps (is 4 items-kinds.ps μ-items t) items.Pre
 
+-- the expressions still to be read give what all give
+abbrev items-Inv-loop : items-lts.InvT-loop
+items-Inv-loop kinds args at allowed count kind drafts₀ values₀ place i₀ left₀ w₀ drafts values i left w =
+    GoingList kinds args allowed at place drafts₀ values₀ count kind i left w drafts values
+
+abbrev items-μ-loop : items-lts.MeasureT-loop
+items-μ-loop kinds args at allowed count kind drafts₀ values₀ place i₀ left₀ w₀ drafts values i left w = length kinds - i
+
 -- what is to be shown at a place of it
-abbrev In-items : (items-lts.Claims → In 4 items-kinds.ps → Out 4 items-kinds.ps items-kinds.r → Type 0) → Type 0
-In-items need = (t : ℕ) → need (items-calls t) (items-at t) items.Post
+abbrev In-items : (items-lts.Claims → In 4 items-kinds.ps → Out 4 items-kinds.ps items-kinds.r
+    → items-lts.InvT-loop → items-lts.MeasureT-loop → Type 0) → Type 0
+In-items need = (t : ℕ) → need (items-calls t) (items-at t) items.Post items-Inv-loop items-μ-loop
+
+items-loop-holds : In-items items-lts.Need-loop-holds
+items-loop-holds t c = list-first _ _ (c .before .before .before .before .pre .1)
 
 items-expression-requires : In-items items-lts.Need-expression-requires
 items-expression-requires t c κs =
-    let start = c .before .before .before .before .before .before in
-    (omega (arith, start .pre .0), start .pre .1)
+    let at-loop = c .before .before in
+    let start = at-loop .before .before .before .before .before in
+    item-enter (at-loop .loop .inv) (start .pre .0)
 
 items-returns : In-items items-lts.Need-returns
-items-returns t c o _ _ =
+items-returns t c =
     let at-expression = c .before .before .before .before .before .before in
-    list-stopped (c .enum-told .given .1) (at-expression .expression .ensures) o
+    let at-loop = at-expression .before .before .before in
+    item-stopped (at-loop .loop .inv) (c .enum-told .given .1) (at-expression .expression .ensures)
 
 items-returns-2 : In-items items-lts.Need-returns-2
-items-returns-2 t c o n _ =
+items-returns-2 t c =
     let at-closer-of = c .before in
     let at-peek = at-closer-of .before in
     let at-r = at-peek .before .before in
     let at-expression = at-r .before .before .before .before .before .before in
-    let start = at-expression .before .before .before .before .before .before .before in
-    list-shut (start .pre .1) (at-r .r .given .1) (at-expression .expression .ensures) (start .args .count) (at-peek .peek .ensures)
-    (at-closer-of .closer-of .ensures) (c .if1 .taken) o n
+    let at-loop = at-expression .before .before .before in
+    item-shut (at-loop .loop .inv) (at-r .r .given .1) (at-expression .expression .ensures) (at-peek .peek .ensures)
+    (at-closer-of .closer-of .ensures) (c .if1 .taken)
 
-items-add-items : In-items items-lts.Need-add-items
-items-add-items t c =
-    let at-if1 = c .before in
-    let at-closer-of = at-if1 .before in
-    let at-peek = at-closer-of .before in
-    let at-r = at-peek .before .before in
-    let at-expression = at-r .before .before .before .before .before .before in
-    let start = at-expression .before .before .before .before .before .before .before in
-    let h = closer-inside (start .pre .1) (at-r .r .given .1) (at-expression .expression .ensures) (start .args .count) (at-peek .peek .ensures)
-    (at-closer-of .closer-of .ensures) (at-if1 .if1 .left) in
-    omega (arith, start .good)
-
-items-items-requires : In-items items-lts.Need-items-requires
-items-items-requires t c κs =
-    let at-if1 = c .before .before .before in
-    let at-closer-of = at-if1 .before in
-    let at-peek = at-closer-of .before in
-    let at-r = at-peek .before .before in
-    let at-expression = at-r .before .before .before .before .before .before in
-    let start = at-expression .before .before .before .before .before .before .before in
-    list-enter (start .pre .1) (at-r .r .given .1) (at-expression .expression .ensures) (start .args .count) (at-peek .peek .ensures)
-    (at-closer-of .closer-of .ensures) (at-if1 .if1 .left) (start .pre .0)
-
-items-returns-3 : In-items items-lts.Need-returns-3
-items-returns-3 t c =
-    let at-items = c .before .before .before .before in
-    let at-if2 = at-items .before .before .before in
-    let at-if1 = at-if2 .before in
-    let at-closer-of = at-if1 .before in
-    let at-peek = at-closer-of .before in
-    let at-r = at-peek .before .before in
-    let at-expression = at-r .before .before .before .before .before .before in
-    let start = at-expression .before .before .before .before .before .before .before in
-    list-more (start .pre .1) (at-r .r .given .1) (at-expression .expression .ensures) (start .args .count) (at-peek .peek .ensures)
-    (at-closer-of .closer-of .ensures) (at-if1 .if1 .left) (at-if2 .if2 .taken) (at-items .items .ensures)
-
-items-add-t26 : In-items items-lts.Need-add-t26
-items-add-t26 t c =
+items-add-t24 : In-items items-lts.Need-add-t24
+items-add-t24 t c =
     let at-if1 = c .before .before in
     let at-closer-of = at-if1 .before in
     let at-peek = at-closer-of .before in
     let at-r = at-peek .before .before in
     let at-expression = at-r .before .before .before .before .before .before in
-    let start = at-expression .before .before .before .before .before .before .before in
-    let h = closer-inside (start .pre .1) (at-r .r .given .1) (at-expression .expression .ensures) (start .args .count) (at-peek .peek .ensures)
+    let at-loop = at-expression .before .before .before in
+    let start = at-loop .before .before .before .before .before in
+    let h = item-inside (at-loop .loop .inv) (at-r .r .given .1) (at-expression .expression .ensures) (at-peek .peek .ensures)
     (at-closer-of .closer-of .ensures) (at-if1 .if1 .left) in
     omega (arith, start .good)
 
-items-returns-4 : In-items items-lts.Need-returns-4
-items-returns-4 t c =
-    let at-if2 = c .before in
-    let at-if1 = at-if2 .before in
+items-returns-3 : In-items items-lts.Need-returns-3
+items-returns-3 t c =
+    let at-if1 = c .before .before in
     let at-closer-of = at-if1 .before in
     let at-peek = at-closer-of .before in
     let at-r = at-peek .before .before in
     let at-expression = at-r .before .before .before .before .before .before in
-    let start = at-expression .before .before .before .before .before .before .before in
-    list-bare (start .pre .1) (at-r .r .given .1) (at-expression .expression .ensures) (start .args .count) (at-peek .peek .ensures)
-    (at-closer-of .closer-of .ensures) (at-if1 .if1 .left) (at-if2 .if2 .left) (c .if3 .taken)
+    let at-loop = at-expression .before .before .before in
+    item-bare (at-loop .loop .inv) (at-r .r .given .1) (at-expression .expression .ensures) (at-peek .peek .ensures)
+    (at-closer-of .closer-of .ensures) (at-if1 .if1 .left) (c .before .if2 .taken) (c .if3 .taken)
 
 items-emit-requires : In-items items-lts.Need-emit-requires
 items-emit-requires t c κs =
@@ -457,36 +434,38 @@ items-emit-requires t c κs =
     let at-peek = at-closer-of .before in
     let at-r = at-peek .before .before in
     let at-expression = at-r .before .before .before .before .before .before in
-    let start = at-expression .before .before .before .before .before .before .before in
-    list-room (start .pre .1) (at-r .r .given .1) (at-expression .expression .ensures) (start .args .count) (at-peek .peek .ensures)
+    let at-loop = at-expression .before .before .before in
+    item-room (at-loop .loop .inv) (at-r .r .given .1) (at-expression .expression .ensures) (at-peek .peek .ensures)
     (at-closer-of .closer-of .ensures) (at-if1 .if1 .left)
 
-items-add-t32 : In-items items-lts.Need-add-t32
-items-add-t32 t c =
+items-add-t30 : In-items items-lts.Need-add-t30
+items-add-t30 t c =
     let at-if1 = c .before .before .before .before .before .before .before .before .before in
     let at-closer-of = at-if1 .before in
     let at-peek = at-closer-of .before in
     let at-r = at-peek .before .before in
     let at-expression = at-r .before .before .before .before .before .before in
-    let start = at-expression .before .before .before .before .before .before .before in
-    let h = closer-inside (start .pre .1) (at-r .r .given .1) (at-expression .expression .ensures) (start .args .count) (at-peek .peek .ensures)
+    let at-loop = at-expression .before .before .before in
+    let start = at-loop .before .before .before .before .before in
+    let h = item-inside (at-loop .loop .inv) (at-r .r .given .1) (at-expression .expression .ensures) (at-peek .peek .ensures)
     (at-closer-of .closer-of .ensures) (at-if1 .if1 .left) in
     omega (arith, start .good)
 
-items-add-t33 : In-items items-lts.Need-add-t33
-items-add-t33 t c =
+items-add-t31 : In-items items-lts.Need-add-t31
+items-add-t31 t c =
     let at-if1 = c .before .before .before .before .before .before .before .before .before in
     let at-closer-of = at-if1 .before in
     let at-peek = at-closer-of .before in
     let at-r = at-peek .before .before in
     let at-expression = at-r .before .before .before .before .before .before in
-    let start = at-expression .before .before .before .before .before .before .before in
-    let h = list-under (start .pre .1) (at-r .r .given .1) (at-expression .expression .ensures) (start .args .count) (at-peek .peek .ensures)
+    let at-loop = at-expression .before .before .before in
+    let start = at-loop .before .before .before .before .before in
+    let h = item-under (at-loop .loop .inv) (at-r .r .given .1) (at-expression .expression .ensures) (at-peek .peek .ensures)
     (at-closer-of .closer-of .ensures) (at-if1 .if1 .left) in
     omega (arith, start .good)
 
-items-returns-5 : In-items items-lts.Need-returns-5
-items-returns-5 t c =
+items-returns-4 : In-items items-lts.Need-returns-4
+items-returns-4 t c =
     let at-emit = c .before .before .before .before in
     let at-if3 = at-emit .before .before .before in
     let at-if2 = at-if3 .before in
@@ -495,9 +474,44 @@ items-returns-5 t c =
     let at-peek = at-closer-of .before in
     let at-r = at-peek .before .before in
     let at-expression = at-r .before .before .before .before .before .before in
-    let start = at-expression .before .before .before .before .before .before .before in
-    list-last (start .pre .1) (at-r .r .given .1) (at-expression .expression .ensures) (start .args .count) (at-peek .peek .ensures)
-    (at-closer-of .closer-of .ensures) (at-if1 .if1 .left) (at-if2 .if2 .left) (at-if3 .if3 .left) (at-emit .emit .ensures .0) (at-emit .emit .ensures .1)
+    let at-loop = at-expression .before .before .before in
+    item-last (at-loop .loop .inv) (at-r .r .given .1) (at-expression .expression .ensures) (at-peek .peek .ensures)
+    (at-closer-of .closer-of .ensures) (at-if1 .if1 .left) (at-if2 .if2 .taken) (at-if3 .if3 .left) (at-emit .emit .ensures .0) (at-emit .emit .ensures .1)
+
+items-add-i : In-items items-lts.Need-add-i
+items-add-i t c =
+    let at-if1 = c .before in
+    let at-closer-of = at-if1 .before in
+    let at-peek = at-closer-of .before in
+    let at-r = at-peek .before .before in
+    let at-expression = at-r .before .before .before .before .before .before in
+    let at-loop = at-expression .before .before .before in
+    let start = at-loop .before .before .before .before .before in
+    let h = item-inside (at-loop .loop .inv) (at-r .r .given .1) (at-expression .expression .ensures) (at-peek .peek .ensures)
+    (at-closer-of .closer-of .ensures) (at-if1 .if1 .left) in
+    omega (arith, start .good)
+
+items-loop-less : In-items items-lts.Need-loop-less
+items-loop-less t c =
+    let at-if1 = c .before in
+    let at-closer-of = at-if1 .before in
+    let at-peek = at-closer-of .before in
+    let at-r = at-peek .before .before in
+    let at-expression = at-r .before .before .before .before .before .before in
+    let at-loop = at-expression .before .before .before in
+    item-less (at-loop .loop .inv) (at-r .r .given .1) (at-expression .expression .ensures) (at-peek .peek .ensures)
+    (at-closer-of .closer-of .ensures) (at-if1 .if1 .left)
+
+items-loop-again : In-items items-lts.Need-loop-again
+items-loop-again t c =
+    let at-if1 = c .before in
+    let at-closer-of = at-if1 .before in
+    let at-peek = at-closer-of .before in
+    let at-r = at-peek .before .before in
+    let at-expression = at-r .before .before .before .before .before .before in
+    let at-loop = at-expression .before .before .before in
+    item-again (at-loop .loop .inv) (at-r .r .given .1) (at-expression .expression .ensures) (at-peek .peek .ensures)
+    (at-closer-of .closer-of .ensures) (at-if1 .if1 .left) (c .if2 .left)
 
 -- ---- opened
 
@@ -644,11 +658,11 @@ pub +expression+factor+items+opened+term-spec : {M : Type 1} → statement M
     (λ c. search needs) (factor-opened-requires t) (λ c. search needs) (factor-add-peek t) (λ c κs. search needs) (factor-add-opened t)
     (factor-opened-requires-2 t) (factor-add-t37 t) (λ c. search needs) (λ c. search needs) (λ c. search needs) (factor-returns t) (λ c. search needs)
     (λ c. search needs) (factor-returns-2 t) (λ c. search needs) (λ c. search needs) (factor-returns-3 t) (factor-returns-4 t) (factor-returns-5 t))
-    (λ t. items-lts.spec (items-calls t) (items-at t) items.Post (items-expression-requires t) (λ c. search needs) (λ c. search needs) (λ c. search needs)
-    (λ c. search needs) (items-returns t) (λ c κs. search needs) (λ c κs. search needs) (λ c. search needs) (λ c. search needs) (items-returns-2 t)
-    (items-add-items t) (λ c. search needs) (items-items-requires t) (λ c. search needs) (λ c. search needs) (items-returns-3 t) (items-add-t26 t)
-    (λ c. search needs) (λ c. search needs) (items-returns-4 t) (items-emit-requires t) (items-add-t32 t) (items-add-t33 t) (λ c. search needs)
-    (λ c. search needs) (items-returns-5 t))
+    (λ t. items-lts.spec (items-calls t) (items-at t) items.Post items-Inv-loop items-μ-loop (items-loop-holds t) (items-expression-requires t)
+    (λ c. search needs) (λ c. search needs) (λ c. search needs) (λ c. search needs) (items-returns t) (λ c κs. search needs) (λ c κs. search needs)
+    (λ c. search needs) (λ c. search needs) (items-returns-2 t) (items-add-t24 t) (λ c. search needs) (λ c. search needs) (items-returns-3 t)
+    (items-emit-requires t) (items-add-t30 t) (items-add-t31 t) (λ c. search needs) (λ c. search needs) (items-returns-4 t) (items-add-i t)
+    (λ c. search needs) (items-loop-less t) (items-loop-again t))
     (λ t. opened-lts.spec (opened-calls t) (opened-at t) opened.Post (opened-returns t) (opened-add-items t) (λ c. search needs) (opened-items-requires t)
     (λ c. search needs) (λ c. search needs) (opened-returns-2 t))
     (λ t. term-lts.spec (term-calls t) (term-at t) term.Post term-Inv-loop term-μ-loop (term-loop-holds t) (term-factor-requires t) (λ c. search needs)
