@@ -305,8 +305,8 @@ module _ {ks us : List ℕ} {d i p : ℕ} {l u : List ℕ} {n c j m q : ℕ} {l�
   item-stopped e h = z .all λ b _ _. list-stopped e h b
 
   -- the kind k stands behind it, and s should
-  module _ {j₁ q₁ : ℕ} {r : Part} {l₂ u₂ : List ℕ} (e : r ≡ Passed j₁ q₁) (h : Parses ks us expr d j q l₁ u₁ r l₂ u₂) {k s : ℕ} (ek : k ≡ getD ks j₁ 0)
-      (es : s ≡ closerOf m) where
+  module _ {j₁ q₁ : ℕ} {r : Part} {l₂ u₂ : List ℕ} (e : r ≡ Passed j₁ q₁) (h : Parses ks us expr d j q l₁ u₁ r l₂ u₂) {k s : ℕ}
+      (ek : k ≡ getD ks j₁ 0) (es : s ≡ closerOf m) where
     pub item-shut : (k ≡ s → ⊥) → (o : Opening) → wantOf o ≡ n → kindOpening o ≡ c → Parses ks us (list o) d i p l u (Stopped 18 j₁) l₂ u₂
     item-shut y = z .all λ b v _. list-shut (z .ready) e h m ek es y b v
 
