@@ -7,10 +7,13 @@ use native.Mathlib.Omega.{arith}
 use native.Mathlib.Numerals.{add-one}
 use borrow.Author.Tests.{le-ltb}
 use lib.Dec.{ltb}
-use lib.ListN.{length, take, length-map}
+use lib.ListN.{length, take, replicate, length-map, length-replicate}
 use lib.Seq.{sets, length-sets, length-take-le}
 use Rattle.limits.specs.Limits.{mostStatements, textBytes, faultRoom, faultBytes}
 use Rattle.laws.specs.Lists.{concat-map}
+use Rattle.deck.specs.Lines.{linesOf}
+use Rattle.deck.specs.Codes.{joinedRoom}
+use Rattle.deck.proofs.Tallies.{statements-le, lines-le}
 use Rattle.grammar.specs.Drafts.{Draft}
 use Rattle.sheet.specs.Sheet.{Sheet, Numbered, Fault, said, statementFaults, faultList}
 use Rattle.sheet.specs.Reader.{sheetOf}
@@ -20,9 +23,10 @@ use Rattle.translator.specs.declared.Verdict.{Verdict}
 use Rattle.translator.specs.declared.Verdict.the-variants.{Refused, Faulty, Translated}
 use Rattle.translator.specs.Contract.{reply, replyOf}
 use Rattle.translator.specs.Verdict.{ifFaults, modelled, judged}
-use Rattle.translator.specs.Working.{kindsOf, argsOf, Read, Ready, Concludes, Roomy, Judges}
+use Rattle.translator.specs.Working.{kindsOf, argsOf, RowFits, Read, Ready, Concludes, Roomy, Judges}
 use Rattle.translator.proofs.Fitting.{bounds-many, laid-fits}
 use Rattle.translator.proofs.Turns.{counts}
+use Rattle.translator.proofs.Verdicts.{sheet-many}
 
 -- a front is no longer than the list
 take-most : (n : ℕ) (l : List ℕ) → length (take n l) ≤ length l
@@ -30,10 +34,10 @@ take-most zero l = omega arith
 take-most (suc n) [] = omega arith
 take-most (suc n) (x ∷ l) = omega (arith, take-most n l)
 
-module _ {text list₀ kinds₀ args₀ used : List ℕ} (room : Roomy text list₀ kinds₀ args₀ used) {n : Tally} {kinds args lines bounds list : List ℕ}
-    (r : Read text list₀ n kinds args lines bounds list) where
+module _ {text list₀ ks us kinds₀ args₀ used lines₀ bounds₀ : List ℕ} (roomy : Roomy text list₀ ks us kinds₀ args₀ used lines₀ bounds₀)
+    {n : Tally} {kinds args lines bounds list : List ℕ} (r : Read text list₀ n kinds args lines bounds list) where
   few : ltb mostStatements (length (sheetOf text)) ≡ false
-  few = le-ltb mostStatements (length (sheetOf text)) (room .few)
+  few = le-ltb mostStatements (length (sheetOf text)) (roomy .room .few)
 
   -- 5: some fault stands, and the list is written
   pub says-five : (p : List ℕ) → 0 < n .faults → Judges text list₀ p (Faulty 5 (n .faults)) list p
@@ -65,7 +69,7 @@ module _ {text list₀ kinds₀ args₀ used : List ℕ} (room : Roomy text list
 
   -- no more statements than there may be
   pub statements-few : n .statements ≤ mostStatements
-  statements-few = omega (arith, r .statements, counts (sheetOf text), room .few)
+  statements-few = omega (arith, r .statements, counts (sheetOf text), roomy .room .few)
 
   -- the drafts stand in both arrays
   abbrev drafts : List Draft
@@ -89,8 +93,14 @@ module _ {text list₀ kinds₀ args₀ used : List ℕ} (room : Roomy text list
   pub lines-many : length (take (n .statements) lines) ≡ n .statements
   lines-many = ap length (r .laid .lines-held) ∙ length-map (said (sheetOf text)) (λ (s : Numbered). s .line) ∙ sym (r .statements)
 
+  pub lines-enough : n .statements ≤ length lines
+  lines-enough = omega (arith, lines-many, take-most (n .statements) lines)
+
   pub bounds-count : length (take (n .statements + 1) bounds) ≡ n .statements + 1
   bounds-count = omega (arith, ap length (bounds-laid .bounds-held), bounds-many 0 (said (sheetOf text)), r .statements)
+
+  pub bounds-enough : n .statements + 1 ≤ length bounds
+  bounds-enough = omega (arith, bounds-count, take-most (n .statements + 1) bounds)
 
   -- and all fits
   pub ready-so : Ready (take (n .statements) lines) (take (n .statements + 1) bounds) (take (n .drafts) kinds) (take (n .drafts) args) used list
@@ -101,6 +111,36 @@ module _ {text list₀ kinds₀ args₀ used : List ℕ} (room : Roomy text list
         laid = bounds-laid;
         fits =
             laid-fits (said (sheetOf text)) _ _ _ _ bounds-laid _ _ _ (omega (arith, statements-few, r .statements))
-            (omega (arith, kinds-many, r .within, room .brief)) (omega (arith, kinds-many, args-many))
-            (omega (arith, kinds-many, r .within, room .used-room)) (omega (arith, statements-few, r .statements, long, room .list-room));
+            (omega (arith, kinds-many, r .within, roomy .brief)) (omega (arith, kinds-many, args-many))
+            (omega (arith, kinds-many, r .within, roomy .used-room)) (omega (arith, statements-few, r .statements, long, roomy .room .list-room));
       }
+
+-- ---- the rooms: arrays of k places for drafts, of r for a row of tokens, of m for statements
+module _ {text list : List ℕ} (k r m : ℕ) where
+  pub roomy : length (sheetOf text) ≤ mostStatements → length text < k → k ≤ textBytes + 1 → faultRoom ≤ length list
+      → ((n : ℕ) → n ≤ joinedRoom → n ≤ length text → n ≤ r) → length (sheetOf text) ≤ m
+      → Roomy text list (replicate r 0) (replicate r 0) (replicate k 0) (replicate k 0) (replicate k 0) (replicate m 0) (replicate (m + 1) 0)
+  roomy few short most lent rows many =
+      let at : (n : ℕ) → length (replicate {A = ℕ} n 0) ≡ n = λ n. length-replicate {A = ℕ} n 0 in
+      let fits : RowFits text (replicate r 0) = λ n h i. omega (arith, at r, rows n h i) in
+      record {
+        brief = omega arith;
+        room =
+            record {
+              few = few;
+              row-kinds = fits;
+              row-args = fits;
+              kinds-room = omega (arith, at k);
+              args-room = omega (arith, at k);
+              small = omega (arith, at k);
+              lines-room = omega (arith, at m);
+              bounds-room = omega (arith, at (m + 1));
+              bounds-first = rw (add-one m);
+              list-room = lent;
+            };
+        used-room = omega (arith, at k);
+      }
+
+-- a text has no more statements than bytes
+pub sheet-bytes : (text : List ℕ) → length (sheetOf text) ≤ length text
+sheet-bytes text = omega (arith, sheet-many text, statements-le (linesOf text), lines-le text)

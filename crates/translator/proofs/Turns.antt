@@ -19,7 +19,7 @@ use Rattle.deck.proofs.Linked.{Walk, walk, walk-end}
 use Rattle.sheet.specs.Sheet.{Told, says, faulty, Sheet, saidBy, faultBy, said, statementFaults}
 use Rattle.sheet.specs.Reader.{told, sheetOf}
 use Rattle.translator.specs.declared.Tally.{Tally}
-use Rattle.translator.specs.Working.{Able, AddsOf, Adds, Progress, Room, Read}
+use Rattle.translator.specs.Working.{RowFits, Able, AddsOf, Adds, Progress, Room, Read}
 use Rattle.translator.proofs.Parsing.{drafts-few}
 use Rattle.translator.proofs.Spans.{span, alone, first-near}
 use Rattle.translator.proofs.Progress.{progress-first, progress-said, progress-faulty, progress-last}
@@ -48,9 +48,9 @@ pub record Going (text kinds₀ args₀ lines₀ bounds₀ list₀ kinds args li
   pub long-lines : length lines ≡ length lines₀
   pub long-bounds : length bounds ≡ length bounds₀
 
-module _ {text kinds args lines bounds list : List ℕ} where
+module _ {text ks us kinds args lines bounds list : List ℕ} where
   -- the beginning
-  pub going-first : Room text kinds args lines bounds list
+  pub going-first : Room text ks us kinds args lines bounds list
       → Going text kinds args lines bounds list kinds args lines bounds list (record { statements = 0; drafts = 0; faults = 0 }) (record { at = 0; line = 1 })
   going-first r =
       record {
@@ -61,8 +61,8 @@ module _ {text kinds args lines bounds list : List ℕ} where
         long-bounds = refl;
       }
 
-module _ {text kinds₀ args₀ lines₀ bounds₀ list₀ kinds args lines bounds list : List ℕ} {n : Tally} {c : Cursor}
-    (room : Room text kinds₀ args₀ lines₀ bounds₀ list₀) (g : Going text kinds₀ args₀ lines₀ bounds₀ list₀ kinds args lines bounds list n c) where
+module _ {text ks₀ us₀ kinds₀ args₀ lines₀ bounds₀ list₀ kinds args lines bounds list : List ℕ} {n : Tally} {c : Cursor}
+    (room : Room text ks₀ us₀ kinds₀ args₀ lines₀ bounds₀ list₀) (g : Going text kinds₀ args₀ lines₀ bounds₀ list₀ kinds args lines bounds list n c) where
   -- the list keeps its length too
   pub going-list : length list ≡ length list₀
   going-list = ap length (g .progress .listed) ∙ simp length-sets
@@ -85,17 +85,17 @@ module _ {text kinds₀ args₀ lines₀ bounds₀ list₀ kinds args lines boun
     near = span text c (g .progress .lawful) (step .bytes) e
 
     -- there is one more statement than those that are read
-    left : n .statements + n .faults < mostStatements
+    left : n .statements + n .faults < length (sheetOf text)
     left =
         let p = g .progress in
         let one : Found = record { first = f; cards = cardsAt text s k; closed = d } in
         let all : sheetOf text ≡ p .done ++ (report told one ∷ map (report told) (statementsFrom text nx)) =
         p .split ∙ ap (λ (r : List Found). p .done ++ map (report told) r) (step .reads) in
         let many = length-append (p .done) (report told one ∷ map (report told) (statementsFrom text nx)) in
-        omega (arith, ap length all, many, counts (p .done), p .statements, p .faults, room .few)
+        omega (arith, ap length all, many, counts (p .done), p .statements, p .faults)
 
     -- what reading it asks, with two rows of room
-    pub going-able : {ks us : List ℕ} → joinedRoom ≤ length ks → joinedRoom ≤ length us → Able text f s k d long (nx .at) n ks us kinds args lines bounds
+    pub going-able : {ks us : List ℕ} → RowFits text ks → RowFits text us → Able text f s k d long (nx .at) n ks us kinds args lines bounds
     going-able hk hu =
         let p = g .progress in
         let short = near .1 in
@@ -105,8 +105,8 @@ module _ {text kinds₀ args₀ lines₀ bounds₀ list₀ kinds args lines boun
               record {
                 short = step .short;
                 alone = λ z one. alone text c (p .lawful) e one (closed k d long z);
-                row-kinds = hk;
-                row-args = hu;
+                row-kinds = λ z. hk (length (joined (cardsAt text s k))) (step .short z) (omega (arith, short));
+                row-args = λ z. hu (length (joined (cardsAt text s k))) (step .short z) (omega (arith, short));
                 room-kinds = omega (arith, p .short, short, room .kinds-room, g .long-kinds);
                 room-args = omega (arith, p .short, short, room .args-room, g .long-args);
               };
@@ -114,7 +114,7 @@ module _ {text kinds₀ args₀ lines₀ bounds₀ list₀ kinds args lines boun
           kinds-fit = omega (arith, room .small, g .long-kinds);
           lines-room = omega (arith, left, room .lines-room, g .long-lines);
           bounds-room = omega (arith, left, room .bounds-room, g .long-bounds);
-          faults-fit = omega (arith, left);
+          faults-fit = omega (arith, left, room .few);
         }
 
     -- behind it
@@ -138,7 +138,8 @@ module _ {text kinds₀ args₀ lines₀ bounds₀ list₀ kinds args lines boun
             let few = drafts-few (cardsAt text s k) d x q in
             let p = g .progress in
             let row : List ℕ = replicate joinedRoom 0 in
-            let a = going-able {ks = row} {us = row} (omega arith) (omega arith) in
+            let fit : RowFits text row = λ n h _. omega (arith, h) in
+            let a = going-able {ks = row} {us = row} fit fit in
             let more : Progress text list₀ nx _ _ _ _ _ list =
             progress-said p step x q (omega (arith, p .short, near .0)) (omega (arith, p .short, near .1))
             (omega (arith, a .before .room-kinds)) (omega (arith, a .before .room-args)) (a .lines-room) (a .bounds-room) in

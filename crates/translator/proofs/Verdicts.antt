@@ -22,7 +22,7 @@ use Rattle.translator.specs.Verdict.{Verdict as Decision, refused, fault
 use Rattle.translator.specs.Working.{sizeNumber, Judges}
 
 -- a report for each statement
-sheet-many : (text : List ℕ) → length (sheetOf text) ≡ length (reading fresh 1 (linesOf text))
+pub sheet-many : (text : List ℕ) → length (sheetOf text) ≡ length (reading fresh 1 (linesOf text))
 unfolding sheetOf
 sheet-many text = length-map (reading fresh 1 (linesOf text)) (report told)
 

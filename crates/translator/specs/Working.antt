@@ -81,12 +81,16 @@ pub record Stands (text : List ℕ) (start next : ℕ) (body : List ℕ) : Type 
   pub upto : next ≤ length text + 1
   pub same : take (next - 1 - start) (drop start text) ≡ body
 
+-- a row has a place for each byte that a joined text of a text can have
+abbrev pub RowFits : List ℕ → List ℕ → Type 0
+RowFits text row = (n : ℕ) → n ≤ joinedRoom → n ≤ length text → n ≤ length row
+
 -- what reading the statement of so many lines asks: its joined text has room, and so have its drafts; of one line it is what stands there
 pub record Before (text : List ℕ) (start cards next code : ℕ) (ks us : List ℕ) (p : ℕ) (l u : List ℕ) : Type 0 where
   pub short : code ≡ 0 → length (joined (cardsAt text start cards)) ≤ joinedRoom
   pub alone : code ≡ 0 → cards ≡ 1 → Stands text start next (joined (cardsAt text start cards))
-  pub row-kinds : joinedRoom ≤ length ks
-  pub row-args : joinedRoom ≤ length us
+  pub row-kinds : code ≡ 0 → length (joined (cardsAt text start cards)) ≤ length ks
+  pub row-args : code ≡ 0 → length (joined (cardsAt text start cards)) ≤ length us
   pub room-kinds : p + length (joined (cardsAt text start cards)) ≤ length l
   pub room-args : p + length (joined (cardsAt text start cards)) ≤ length u
 
@@ -149,13 +153,15 @@ pub record Progress (text list₀ : List ℕ) (c : Cursor) (n : Tally) (kinds ar
   pub within : n .drafts ≤ length text
 
 -- the room that all of it needs
-pub record Room (text kinds args lines bounds list : List ℕ) : Type 0 where
+pub record Room (text ks us kinds args lines bounds list : List ℕ) : Type 0 where
   pub few : length (sheetOf text) ≤ mostStatements
+  pub row-kinds : RowFits text ks
+  pub row-args : RowFits text us
   pub kinds-room : length text < length kinds
   pub args-room : length text < length args
   pub small : length kinds < 65536
-  pub lines-room : length lines ≡ mostStatements
-  pub bounds-room : length bounds ≡ suc mostStatements
+  pub lines-room : length (sheetOf text) ≤ length lines
+  pub bounds-room : length (sheetOf text) < length bounds
   pub bounds-first : take 1 bounds ≡ 0 ∷ []
   pub list-room : faultRoom ≤ length list
 
@@ -200,15 +206,11 @@ sizeNumber n = cond (ltb textLines (n .lines)) 3 (cond (ltb mostStatements (n .s
 
 -- ---- the working room
 
--- what judging asks: at most 256 statements, and room for each draft of the text
-pub record Roomy (text list kinds args used : List ℕ) : Type 0 where
-  pub few : length (sheetOf text) ≤ mostStatements
+-- what judging asks: a text that is not too large, room for all that is read of it, and for each use
+pub record Roomy (text list ks us kinds args used lines bounds : List ℕ) : Type 0 where
   pub brief : length text ≤ textBytes
-  pub kinds-room : length text < length kinds
-  pub args-room : length text < length args
+  pub room : Room text ks us kinds args lines bounds list
   pub used-room : length text < length used
-  pub small : length kinds < 65536
-  pub list-room : faultRoom ≤ length list
 
 -- the answer r and the buffers f′ and p′ are what the sheet's verdict gives for the buffers f and p
 abbrev pub Judges : List ℕ → List ℕ → List ℕ → Verdict → List ℕ → List ℕ → Type 0

@@ -206,16 +206,18 @@ fn read_one(
     }
 }
 
-// Reads all statements of a text.
+// Reads all statements of a text; the tokens of one are held in two lent rows.
 fn read_all(
     text: &[u8],
+    row_kinds: &mut [u8],
+    row_args: &mut [u64],
     kinds: &mut [u8],
     args: &mut [u64],
     lines: &mut [u16],
     bounds: &mut [u16],
     list: &mut [u8],
 ) -> Tally
-    requires { ⌜ Room (now text) (now kinds) (now args) (now lines) (now bounds) (now list) ⌝ }
+    requires { ⌜ Room (now text) (now «row_kinds») (now «row_args») (now kinds) (now args) (now lines) (now bounds) (now list) ⌝ }
     ensures { λ r. ⌜ Read (now (text .entry)) (now (list .entry)) r
         (now (kinds .exit)) (now (args .exit)) (now (lines .exit)) (now (bounds .exit)) (now (list .exit)) ⌝ }
 {
@@ -224,8 +226,6 @@ fn read_all(
         drafts: 0,
         faults: 0,
     };
-    let mut row_kinds = [0u8; deck::JOINED_BYTES];
-    let mut row_args = [0u64; deck::JOINED_BYTES];
     let mut c = Cursor { at: 0, line: 1 };
     loop {
         let found = deck::next_statement(text, c);
@@ -249,8 +249,8 @@ fn read_all(
             long,
             next.at,
             n,
-            &mut row_kinds,
-            &mut row_args,
+            &mut *row_kinds,
+            &mut *row_args,
             &mut *kinds,
             &mut *args,
             &mut *lines,

@@ -48,11 +48,10 @@ read-joined-requires : tie.Need-read-joined-requires
 read-joined-requires c κs =
     let t = c .before .before .before .before .before in
     let p = A t .pre in
-    let z = p .short (t .before .if1 .left) in
     let l = ap length (stands t .same) in
     record {
-      row-kinds = omega (arith, z, l, p .row-kinds);
-      row-args = omega (arith, z, l, p .row-args);
+      row-kinds = omega (arith, l, p .row-kinds (t .before .if1 .left));
+      row-args = omega (arith, l, p .row-args (t .before .if1 .left));
       room-kinds = omega (arith, l, p .room-kinds);
       room-args = omega (arith, l, p .room-args);
     }
@@ -75,8 +74,8 @@ read-cards-requires c κs =
       short = z;
       room =
           record {
-            row-kinds = omega (arith, p .row-kinds);
-            row-args = omega (arith, p .row-args);
+            row-kinds = p .row-kinds (f .before .if1 .left);
+            row-args = p .row-args (f .before .if1 .left);
             room-kinds = p .room-kinds;
             room-args = p .room-args;
           };
