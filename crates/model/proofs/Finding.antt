@@ -1,18 +1,18 @@
--- The place of a key in a list: by search, and by a hint.
+-- The place of a key in a list, and how it is found by hint and links.
 use Prim.Native.Nat.{ℕ, zero, suc, _+_, _-_, _%_, _≤_, _<_}
-use mathlib.Core.Path.{_≡_, sym, ap, _∙_}
-use mathlib.Core.Bool.{cond}
+use mathlib.Core.Path.{_≡_, refl, sym, ap, _∙_}
+use mathlib.Core.Bool.{Bool, true, false, cond}
 use mathlib.Core.Logic.{⊎-elim}
 use mathlib.Core.List.{List, [], _∷_}
-use native.Mathlib.Numerals.{add-one}
+use native.Mathlib.Numerals.{add-one, lt-of-le-of-ne}
 use native.Mathlib.Omega.{arith}
 use borrow.Author.Tests.{eq-eqb, ne-eqb}
 use lib.Dec.{eqb}
-use lib.ListN.{length, getD, set, drop, length-set, drop-of-length-le}
+use lib.ListN.{length, getD, set, drop, replicate, length-set, length-replicate, getD-replicate, drop-of-length-le}
 use lib.Seq.{drop-cons, getD-set-same, getD-set-other}
-use Rattle.laws.proofs.Tests.{cond-ind, eq-or-ne, lt-or-ge}
+use Rattle.laws.proofs.Tests.{cond-ind, eq-or-ne}
 use Rattle.model.specs.Definitions.{placeIn}
-use Rattle.model.specs.Working.{buckets, hintOf, Hinted}
+use Rattle.model.specs.Working.{buckets, nextIn, nextFrom, Hinted}
 
 -- ---- a search from place i on
 module _ (k : ℕ) (l : List ℕ) (i : ℕ) where
@@ -52,64 +52,179 @@ place-least k (a ∷ l) zero h e = rw (eq-eqb k a (sym e)) (omega arith)
 place-least k (a ∷ l) (suc d) h e =
     cond-ind (λ (r : ℕ). r ≤ suc d) (eqb k a) 0 (suc (placeIn k l)) (λ _. omega arith) (λ _. omega (arith, place-least k l d (omega arith) e))
 
--- ---- by a hint
-module _ {keys hints : List ℕ} (t : Hinted keys hints) (key hint : ℕ) (h : hint ≡ hintOf hints key) where
-  -- no hint: the key does not stand there
-  pub hint-none : hint ≡ 0 → placeIn key keys ≡ length keys
-  hint-none z = ⊎-elim (λ l. absurd (there l)) (λ g. omega (arith, place-le key keys)) (lt-or-ge (placeIn key keys) (length keys))
-    where
-      there : placeIn key keys < length keys → ⊥
-      there l = let p : 0 < hintOf hints key = rw (place-there key keys l) at (t .some (placeIn key keys) l) in omega arith
+-- ---- the first place from here on whose key has a remainder
+module _ (keys : List ℕ) (b i : ℕ) where
+  next-step : i < length keys → nextFrom keys b i ≡ cond (eqb (getD keys i 0 % buckets) b) (suc i) (nextFrom keys b (i + 1))
+  unfolding nextIn
+  next-step h = let e : length keys - i ≡ suc (length keys - (i + 1)) = omega arith in rw (e, add-one i)
 
-  -- a hint that leads to the key leads to its first place
-  pub hint-first : 0 < hint → hint ≤ length keys → getD keys (hint - 1) 0 ≡ key → placeIn key keys ≡ hint - 1
-  hint-first p l e =
-      let low : placeIn key keys ≤ hint - 1 = place-least key keys (hint - 1) (omega arith) e in
-      let in-keys : placeIn key keys < length keys = omega arith in
-      let high : hintOf hints key ≤ placeIn key keys + 1 = rw (place-there key keys in-keys) at (t .first (placeIn key keys) in-keys) in
-      omega arith
+  next-here : i < length keys → getD keys i 0 % buckets ≡ b → nextFrom keys b i ≡ suc i
+  next-here h e = rw (next-step h, eq-eqb (getD keys i 0 % buckets) b e)
+
+  next-pass : i < length keys → (getD keys i 0 % buckets ≡ b → ⊥) → nextFrom keys b i ≡ nextFrom keys b (i + 1)
+  next-pass h e = rw (next-step h, ne-eqb (getD keys i 0 % buckets) b e)
+
+  next-done : length keys ≤ i → nextFrom keys b i ≡ 0
+  unfolding nextIn
+  next-done h = let e : length keys - i ≡ 0 = omega arith in rw e
+
+-- it lies ahead
+pub next-ahead : (keys : List ℕ) (b n i : ℕ) → 0 < nextIn keys b n i → i < nextIn keys b n i
+unfolding nextIn
+next-ahead keys b zero i h = absurd (omega arith)
+next-ahead keys b (suc n) i h = go (eqb (getD keys i 0 % buckets) b) (next-ahead keys b n (suc i)) h
+  where
+    go : (t : Bool) → (0 < nextIn keys b n (suc i) → suc i < nextIn keys b n (suc i)) → 0 < cond t (suc i) (nextIn keys b n (suc i))
+        → i < cond t (suc i) (nextIn keys b n (suc i))
+    go true r p = omega arith
+    go false r p = omega (arith, r p)
+
+-- ---- a key sought: h is 0 and it stands nowhere, or it is the key at h - 1 or one behind it, and that one has its remainder
+pub record Sought (keys : List ℕ) (key h : ℕ) : Type 0 where
+  pub within : h ≤ length keys
+  pub none : h ≡ 0 → placeIn key keys ≡ length keys
+  pub same : 0 < h → getD keys (h - 1) 0 % buckets ≡ key % buckets
+  pub place : 0 < h → h - 1 + placeIn key (drop (h - 1) keys) ≡ placeIn key keys
+
+module _ (keys : List ℕ) (key : ℕ) where
+  -- from a place that is not past the key, the next with its remainder is not either
+  sought-in : (n i : ℕ) → i + n ≡ length keys → i + placeIn key (drop i keys) ≡ placeIn key keys → Sought keys key (nextIn keys (key % buckets) n i)
+  unfolding nextIn
+  sought-in zero i l e =
+      record {
+        within = omega arith;
+        none = λ _. sym e ∙ place-done key keys i (omega arith) ∙ (let w : i ≡ length keys = omega arith in w);
+        same = λ h. absurd (omega arith);
+        place = λ h. absurd (omega arith);
+      }
+  sought-in (suc n) i l e = ⊎-elim here (there (sought-in n (suc i) (omega arith))) (eq-or-ne (getD keys i 0 % buckets) (key % buckets))
+    where
+      here : getD keys i 0 % buckets ≡ key % buckets
+          → Sought keys key (cond (eqb (getD keys i 0 % buckets) (key % buckets)) (suc i) (nextIn keys (key % buckets) n (suc i)))
+      here s =
+          let z : suc i - 1 ≡ i = omega arith in
+          rw (eq-eqb (getD keys i 0 % buckets) (key % buckets) s)
+          (record { within = omega arith; none = λ h. absurd (omega arith); same = λ _. rw z s; place = λ _. rw z e })
+
+      there : (suc i + placeIn key (drop (suc i) keys) ≡ placeIn key keys → Sought keys key (nextIn keys (key % buckets) n (suc i)))
+          → (getD keys i 0 % buckets ≡ key % buckets → ⊥)
+          → Sought keys key (cond (eqb (getD keys i 0 % buckets) (key % buckets)) (suc i) (nextIn keys (key % buckets) n (suc i)))
+      there more d =
+          let p = place-pass key keys i (omega arith) (λ k. d (ap (λ (a : ℕ). a % buckets) k)) in
+          rw (ne-eqb (getD keys i 0 % buckets) (key % buckets) d) (more (rw (← (add-one i)) (sym p ∙ e)))
+
+  sought-from : (i : ℕ) → i ≤ length keys → i + placeIn key (drop i keys) ≡ placeIn key keys → Sought keys key (nextFrom keys (key % buckets) i)
+  sought-from i h e = sought-in (length keys - i) i (omega arith) e
+
+-- how far a search may still go
+unfoldable pub ahead : ℕ → ℕ → ℕ
+ahead n zero = 0
+ahead n (suc h) = suc n - h
+
+ahead-less : (n h h′ : ℕ) → 0 < h → h ≤ n → (0 < h′ → h < h′) → ahead n h′ < ahead n h
+unfolding ahead
+ahead-less n zero h′ p w f = absurd (omega arith)
+ahead-less n (suc h) zero p w f = omega arith
+ahead-less n (suc h) (suc h′) p w f = omega (arith, f (omega arith))
+
+-- it ends where nothing is left
+pub sought-none : {keys : List ℕ} {key h : ℕ} → Sought keys key h → h ≤ 0 → length keys ≡ placeIn key keys
+sought-none s h = sym (s .none (omega arith))
+
+module _ {keys hints links : List ℕ} (t : Hinted keys hints links) {key : ℕ} where
+  -- the search begins at the hint
+  pub sought-first : {b h : ℕ} → b ≡ key % buckets → b < buckets → h ≡ getD hints b 0 → Sought keys key h
+  sought-first {b} {h} q l e = rw (e ∙ t .hint b l ∙ ap (λ (a : ℕ). nextFrom keys a 0) q) (sought-from keys key 0 (omega arith) (omega arith))
+
+  module _ {h : ℕ} (s : Sought keys key h) (p : 0 < h) where
+    -- it ends at the key
+    pub sought-there : getD keys (h - 1) 0 ≡ key → h - 1 ≡ placeIn key keys
+    sought-there e = sym (place-stop key keys (h - 1) (omega (arith, s .within)) e) ∙ s .place p
+
+    -- it goes on by the link
+    linked : {h′ : ℕ} → h′ ≡ getD links (h - 1) 0 → h′ ≡ nextFrom keys (key % buckets) h
+    linked e =
+        let z : h - 1 + 1 ≡ h = omega arith in
+        e ∙ rw (s .same p, z) at (t .link (h - 1) (omega (arith, s .within)))
+
+    pub sought-next : {h′ : ℕ} → (getD keys (h - 1) 0 ≡ key → ⊥) → h′ ≡ getD links (h - 1) 0 → Sought keys key h′
+    sought-next d e =
+        let z : h - 1 + 1 ≡ h = omega arith in
+        let pass = place-pass key keys (h - 1) (omega (arith, s .within)) d in
+        rw (linked e) (sought-from keys key h (s .within) (rw z at (sym pass) ∙ s .place p))
+
+    pub sought-less : {h′ : ℕ} → h′ ≡ getD links (h - 1) 0 → ahead (length keys) h′ < ahead (length keys) h
+    sought-less {h′} e =
+        ahead-less (length keys) h h′ p (s .within)
+        (λ l. rw (linked e) (next-ahead keys (key % buckets) (length keys - h) h (rw (linked e) at l)))
 
 -- ---- the hints noted, from the last key down to key d
-pub record Hinting (keys hints₀ : List ℕ) (d : ℕ) (hints : List ℕ) : Type 0 where
+pub record Hinting (keys links₀ : List ℕ) (d : ℕ) (hints links : List ℕ) : Type 0 where
   pub within : d ≤ length keys
   pub long : length hints ≡ buckets
-  pub some : (e : ℕ) → d ≤ e → e < length keys → 0 < hintOf hints (getD keys e 0)
-  pub first : (e : ℕ) → d ≤ e → e < length keys → hintOf hints (getD keys e 0) ≤ e + 1
+  pub room : length keys ≤ length links
+  pub kept : length links ≡ length links₀
+  pub hint : (b : ℕ) → b < buckets → getD hints b 0 ≡ nextFrom keys b d
+  pub link : (e : ℕ) → d ≤ e → e < length keys → getD links e 0 ≡ nextFrom keys (getD keys e 0 % buckets) (e + 1)
 
-pub hinting-first : (keys hints : List ℕ) → length hints ≡ buckets → Hinting keys hints (length keys) hints
-hinting-first keys hints h =
-    record { within = omega arith; long = h; some = λ e a b. absurd (omega arith); first = λ e a b. absurd (omega arith) }
-
-pub hinting-last : {keys hints₀ hints : List ℕ} {d : ℕ} → Hinting keys hints₀ d hints → d ≤ 0 → Hinted keys hints
-hinting-last v h = record { some = λ e b. v .some e (omega arith) b; first = λ e b. v .first e (omega arith) b }
-
--- the hint of key d - 1 is d from now on, and so is that of each later key with the same remainder
-pub hinting-next : {keys hints₀ hints hints′ : List ℕ} {d b : ℕ} → Hinting keys hints₀ d hints → 0 < d → b ≡ getD keys (d - 1) 0 % buckets
-    → b < buckets → hints′ ≡ set hints b d → Hinting keys hints₀ (d - 1) hints′
-hinting-next {keys} {hints₀} {hints} {hints′} {d} {b} v p q h e =
+pub hinting-first : (keys : List ℕ) {hints links : List ℕ} → hints ≡ replicate buckets 0 → length keys ≤ length links
+    → Hinting keys links (length keys) hints links
+hinting-first keys {hints} {links} z h =
     record {
-      within = omega (arith, v .within);
-      long = ap length e ∙ length-set hints b d ∙ v .long;
-      some = λ k lo hi. at k lo hi .0;
-      first = λ k lo hi. at k lo hi .1;
+      within = omega arith;
+      long = ap length z ∙ length-replicate {A = ℕ} buckets 0;
+      room = h;
+      kept = refl;
+      hint = λ b l. rw (z, next-done keys b (length keys) (omega arith)) (getD-replicate {A = ℕ} buckets b 0 0 l);
+      link = λ e a l. absurd (omega arith);
     }
-  where
-    here : (k : ℕ) → getD keys k 0 % buckets ≡ b → hintOf hints′ (getD keys k 0) ≡ d
-    here k z = ap (λ (l : List ℕ). getD l (getD keys k 0 % buckets) 0) e ∙ ap (λ (i : ℕ). getD (set hints b d) i 0) z
-        ∙ getD-set-same hints b d 0 (omega (arith, v .long))
 
-    other : (k : ℕ) → (getD keys k 0 % buckets ≡ b → ⊥) → hintOf hints′ (getD keys k 0) ≡ hintOf hints (getD keys k 0)
-    other k z = ap (λ (l : List ℕ). getD l (getD keys k 0 % buckets) 0) e ∙ getD-set-other hints b (getD keys k 0 % buckets) d 0 z
+pub hinting-last : {keys links₀ hints links : List ℕ} {d : ℕ} → Hinting keys links₀ d hints links → d ≤ 0 → Hinted keys hints links
+hinting-last {keys} {links₀} {hints} {links} {d} v h =
+    let z : d ≡ 0 = omega arith in
+    record { hint = λ b l. rw z at (v .hint b l); link = λ e l. v .link e (omega arith) l }
 
-    at : (k : ℕ) → d - 1 ≤ k → k < length keys → (0 < hintOf hints′ (getD keys k 0)) × (hintOf hints′ (getD keys k 0) ≤ k + 1)
-    at k lo hi = ⊎-elim (λ z. same (here k z)) (λ z. apart z) (eq-or-ne (getD keys k 0 % buckets) b)
-      where
-        same : hintOf hints′ (getD keys k 0) ≡ d → (0 < hintOf hints′ (getD keys k 0)) × (hintOf hints′ (getD keys k 0) ≤ k + 1)
-        same s = (omega arith, omega arith)
+-- key d - 1 takes over the hint of its remainder as its link, and the hint leads to it
+module _ {keys links₀ hints links : List ℕ} {d b : ℕ} (v : Hinting keys links₀ d hints links) (p : 0 < d) (q : b ≡ getD keys (d - 1) 0 % buckets)
+    (h : b < buckets) where
+  inside : d - 1 < length keys
+  inside = omega (arith, v .within)
 
-        apart : (getD keys k 0 % buckets ≡ b → ⊥) → (0 < hintOf hints′ (getD keys k 0)) × (hintOf hints′ (getD keys k 0) ≤ k + 1)
-        apart z =
-            let o = other k z in
-            let later : d ≤ k =
-            ⊎-elim (λ (f : d - 1 ≡ k). absurd (z (ap (λ (i : ℕ). getD keys i 0 % buckets) (sym f) ∙ sym q))) (λ f. omega arith) (eq-or-ne (d - 1) k) in
-            (omega (arith, v .some k later hi), omega (arith, v .first k later hi))
+  back : d - 1 + 1 ≡ d
+  back = omega arith
+
+  next-hint : (a : ℕ) → a < buckets → getD (set hints b d) a 0 ≡ nextFrom keys a (d - 1)
+  next-hint a l = ⊎-elim same other (eq-or-ne a b)
+    where
+      same : a ≡ b → getD (set hints b d) a 0 ≡ nextFrom keys a (d - 1)
+      same e =
+          let z : suc (d - 1) ≡ d = omega arith in
+          rw e (getD-set-same hints b d 0 (omega (arith, v .long)) ∙ sym (next-here keys b (d - 1) inside (sym q) ∙ z))
+
+      other : (a ≡ b → ⊥) → getD (set hints b d) a 0 ≡ nextFrom keys a (d - 1)
+      other n =
+          let pass = next-pass keys a (d - 1) inside (λ e. n (sym e ∙ sym q)) in
+          getD-set-other hints b a d 0 n ∙ v .hint a l ∙ sym (rw back at pass)
+
+  next-link : (x : ℕ) → x ≡ getD hints b 0 → (e : ℕ) → d - 1 ≤ e → e < length keys
+      → getD (set links (d - 1) x) e 0 ≡ nextFrom keys (getD keys e 0 % buckets) (e + 1)
+  next-link x o e lo hi = ⊎-elim same other (eq-or-ne e (d - 1))
+    where
+      same : e ≡ d - 1 → getD (set links (d - 1) x) e 0 ≡ nextFrom keys (getD keys e 0 % buckets) (e + 1)
+      same z =
+          rw (z, back, ← q) (getD-set-same links (d - 1) x 0 (omega (arith, v .room, inside)) ∙ o ∙ v .hint b h)
+
+      other : (e ≡ d - 1 → ⊥) → getD (set links (d - 1) x) e 0 ≡ nextFrom keys (getD keys e 0 % buckets) (e + 1)
+      other n = getD-set-other links (d - 1) e x 0 n ∙ v .link e (omega (arith, lt-of-le-of-ne lo (λ z. n (sym z)))) hi
+
+  pub hinting-next : {x : ℕ} {hints′ links′ : List ℕ} → x ≡ getD hints b 0 → links′ ≡ set links (d - 1) x → hints′ ≡ set hints b d
+      → Hinting keys links₀ (d - 1) hints′ links′
+  hinting-next {x} {hints′} {links′} o m e =
+      record {
+        within = omega (arith, inside);
+        long = ap length e ∙ length-set hints b d ∙ v .long;
+        room = omega (arith, ap length m, length-set links (d - 1) x, v .room);
+        kept = ap length m ∙ length-set links (d - 1) x ∙ v .kept;
+        hint = rw e next-hint;
+        link = rw m (next-link x o);
+      }

@@ -1,6 +1,6 @@
 -- What the passes of the code keep and leave: tables by which a name's definition and a slot's equation are found without a search, and
 -- rows that are written to the front of an array.
-use Prim.Native.Nat.{ℕ, suc, _+_, _-_, _*_, _%_, _≤_, _<_}
+use Prim.Native.Nat.{ℕ, zero, suc, _+_, _-_, _*_, _%_, _≤_, _<_}
 use mathlib.Core.Path.{_≡_}
 use mathlib.Core.Bool.{Bool, not, cond, _&&_, _||_}
 use mathlib.Core.List.{List, [], _∷_}
@@ -66,16 +66,25 @@ pub record Noted (kind key place d r : ℕ) (keys keys′ places places′ : Lis
   pub named : Put (onlyIf (defines kind) key) d r keys keys′
   pub placed : Put (onlyIf (defines kind) place) d r places places′
 
--- ---- a name is found by a hint: the first place of a key with the same remainder, and one more; 0 where no key has it
+-- ---- a name is found by hint and links: the hint of a remainder leads to the first key that has it, the link of a key to the next that
+-- has the same
 abbrev pub buckets : ℕ
-buckets = 4093
+buckets = 1009
 
-abbrev pub hintOf : List ℕ → ℕ → ℕ
-hintOf hints key = getD hints (key % buckets) 0
+-- the first of n places from i on whose key has remainder b, and one more; 0 where none has it
+unfoldable pub nextIn : List ℕ → ℕ → ℕ → ℕ → ℕ
+nextIn keys b zero i = 0
+nextIn keys b (suc n) i =
+    let r = nextIn keys b n (suc i) in
+    cond (eqb (getD keys i 0 % buckets) b) (suc i) r
 
-pub record Hinted (keys hints : List ℕ) : Type 0 where
-  pub some : (d : ℕ) → d < length keys → 0 < hintOf hints (getD keys d 0)
-  pub first : (d : ℕ) → d < length keys → hintOf hints (getD keys d 0) ≤ d + 1
+-- the same of all keys from place i on
+abbrev pub nextFrom : List ℕ → ℕ → ℕ → ℕ
+nextFrom keys b i = nextIn keys b (length keys - i) i
+
+pub record Hinted (keys hints links : List ℕ) : Type 0 where
+  pub hint : (b : ℕ) → b < buckets → getD hints b 0 ≡ nextFrom keys b 0
+  pub link : (d : ℕ) → d < length keys → getD links d 0 ≡ nextFrom keys (getD keys d 0 % buckets) (d + 1)
 
 -- ---- 21 by the keys and places of the definitions
 

@@ -24,13 +24,13 @@ fn passed(places: &[u16], end: usize, from: usize) -> usize
 }
 
 // Whether one of the keys from a place on, before an end, stands in an earlier place.
-fn is_repeated(keys: &[u64], hints: &[u8], from: usize, end: usize) -> bool
-    requires { ⌜ Hinted (now keys) (now hints) × (end ≤ length (now keys)) ⌝ }
+fn is_repeated(keys: &[u64], hints: &[u8], links: &[u8], from: usize, end: usize) -> bool
+    requires { ⌜ Hinted (now keys) (now hints) (now links) × (end ≤ length (now keys)) ⌝ }
     ensures { λ r. ⌜ r ≡ repeats (now (keys .entry)) from end ⌝ }
 {
     let mut d = from;
     while d < end {
-        if find(keys, hints, keys[d]) < d {
+        if find(keys, hints, links, keys[d]) < d {
             return true;
         }
         d += 1;
@@ -44,10 +44,11 @@ pub(crate) fn report_doubles(
     bounds: &[u16],
     keys: &[u64],
     hints: &[u8],
+    links: &[u8],
     places: &[u16],
     faults: &mut [u8],
 ) -> usize
-    requires { ⌜ Hinted (now keys) (now hints) × (length (now places) ≤ length (now keys)) × Rises (now bounds) (length (now lines)) ×
+    requires { ⌜ Hinted (now keys) (now hints) (now links) × (length (now places) ≤ length (now keys)) × Rises (now bounds) (length (now lines)) ×
         (length (now lines) ≤ mostStatements) ⌝ }
     ensures { λ r. ⌜ Reported (repeated (now (lines .entry)) (now (bounds .entry)) (now (keys .entry)) (now (places .entry))) 0 r
         (now (faults .entry)) (now (faults .exit)) ⌝ }
@@ -57,7 +58,7 @@ pub(crate) fn report_doubles(
     let mut j = 0;
     while j < lines.len() {
         let end = passed(places, short_at(bounds, j + 1), d);
-        let again = is_repeated(keys, hints, d, end);
+        let again = is_repeated(keys, hints, links, d, end);
         count = put_fault(again, short_at(lines, j), 21, &mut *faults, count);
         d = end;
         j += 1;

@@ -1,14 +1,14 @@
-// The table by which a name's definition is found. A key that it does not lead to is sought.
+// The table by which a name's definition is found: a hint for each remainder, and a link from each key to the next with the same.
 ghost use mathlib.Core.Path.{_≡_};
-ghost use Prim.Native.Nat.{_%_, _<_};
-ghost use lib.ListN.{length};
+ghost use Prim.Native.Nat.{_%_, _≤_, _<_};
+ghost use lib.ListN.{length, replicate};
 ghost use Rattle.model.specs.Definitions.{placeIn};
 ghost use Rattle.model.specs.Working.{buckets, Hinted};
 use super::lists::byte_at;
 use super::lists::put_byte;
 
-// A prime: the keys of two names seldom have the same remainder.
-pub(crate) const BUCKETS: usize = 4093;
+// A prime: the keys of two names seldom have the same remainder. The table is zeroed for each text, so it is short.
+pub(crate) const BUCKETS: usize = 1009;
 
 // The place of a key's hint.
 fn bucket(key: u64) -> usize
@@ -17,45 +17,31 @@ fn bucket(key: u64) -> usize
     key as usize % BUCKETS
 }
 
-// Notes a hint for each key, from the last to the first, so that the first of those with the same hint stays.
-pub(crate) fn note_hints(keys: &[u64], hints: &mut [u8])
-    requires { ⌜ (length (now keys) < 256) × (length (now hints) ≡ buckets) ⌝ }
-    ensures { λ _. ⌜ Hinted (now (keys .entry)) (now (hints .exit)) ⌝ }
+// Notes hint and link for each key, from the last to the first, so that each leads to the first behind it.
+pub(crate) fn note_hints(keys: &[u64], hints: &mut [u8], links: &mut [u8])
+    requires { ⌜ (length (now keys) < 256) × (now hints ≡ replicate buckets 0) × (length (now keys) ≤ length (now links)) ⌝ }
+    ensures { λ _. ⌜ Hinted (now (keys .entry)) (now (hints .exit)) (now (links .exit)) ⌝ }
 {
     let mut d = keys.len();
     while 0 < d {
-        put_byte(&mut *hints, bucket(keys[d - 1]), d as u8);
+        let b = bucket(keys[d - 1]);
+        put_byte(&mut *links, d - 1, byte_at(hints, b));
+        put_byte(&mut *hints, b, d as u8);
         d -= 1;
     }
 }
 
 // The place of a key, the count of keys where it does not stand there.
-fn seek(keys: &[u64], key: u64) -> usize
+pub(crate) fn find(keys: &[u64], hints: &[u8], links: &[u8], key: u64) -> usize
+    requires { ⌜ Hinted (now keys) (now hints) (now links) ⌝ }
     ensures { λ r. ⌜ r ≡ placeIn key (now (keys .entry)) ⌝ }
 {
-    let mut i = 0;
-    while i < keys.len() {
-        if keys[i] == key {
-            return i;
+    let mut h = byte_at(hints, bucket(key)) as usize;
+    while 0 < h {
+        if keys[h - 1] == key {
+            return h - 1;
         }
-        i += 1;
+        h = byte_at(links, h - 1) as usize;
     }
-    i
-}
-
-// The same by a hint.
-pub(crate) fn find(keys: &[u64], hints: &[u8], key: u64) -> usize
-    requires { ⌜ Hinted (now keys) (now hints) ⌝ }
-    ensures { λ r. ⌜ r ≡ placeIn key (now (keys .entry)) ⌝ }
-{
-    let hint = byte_at(hints, bucket(key)) as usize;
-    if hint == 0 {
-        return keys.len();
-    }
-    if hint <= keys.len() {
-        if keys[hint - 1] == key {
-            return hint - 1;
-        }
-    }
-    seek(keys, key)
+    keys.len()
 }

@@ -32,12 +32,12 @@ fn is_named(kind: u8) -> bool
 }
 
 // A draft's argument, with a name's slot in the place of its key.
-fn slot_of(kind: u8, arg: u64, keys: &[u64], hints: &[u8]) -> u64
-    requires { ⌜ Hinted (now keys) (now hints) × (length (now keys) < 256) ⌝ }
+fn slot_of(kind: u8, arg: u64, keys: &[u64], hints: &[u8], links: &[u8]) -> u64
+    requires { ⌜ Hinted (now keys) (now hints) (now links) × (length (now keys) < 256) ⌝ }
     ensures { λ r. ⌜ r ≡ resolvedAt (now (keys .entry)) kind arg ⌝ }
 {
     if is_named(kind) {
-        return find(keys, hints, arg) as u64 + 1;
+        return find(keys, hints, links, arg) as u64 + 1;
     }
     arg
 }
@@ -90,16 +90,17 @@ pub(crate) fn resolve(
     kinds: &[u8],
     keys: &[u64],
     hints: &[u8],
+    links: &[u8],
     places: &[u16],
     args: &mut [u64],
 ) -> bool
-    requires { ⌜ Hinted (now keys) (now hints) × (length (now keys) < 256) × (length (now kinds) ≤ length (now args)) ⌝ }
+    requires { ⌜ Hinted (now keys) (now hints) (now links) × (length (now keys) < 256) × (length (now kinds) ≤ length (now args)) ⌝ }
     ensures { λ r. ⌜ Resolved (now (keys .entry)) (now (kinds .entry)) (now (places .entry)) (now (args .entry)) (now (args .exit)) r ⌝ }
 {
     let mut flawed = false;
     let mut i = 0;
     while i < kinds.len() {
-        let slot = slot_of(kinds[i], args[i], keys, hints);
+        let slot = slot_of(kinds[i], args[i], keys, hints, links);
         args[i] = slot;
         if is_flawed(places, kinds, kinds[i], slot) {
             flawed = true;

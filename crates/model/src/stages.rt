@@ -169,15 +169,16 @@ fn settle(
     faults: &mut [u8],
     keys: &[u64],
     hints: &[u8],
+    links: &[u8],
     places: [u16; STATEMENTS],
     n: usize,
 ) -> Plan
-    requires { ⌜ Keyed (now lines) (now bounds) (now kinds) (now args) (now used) (now keys) places n × Hinted (now keys) (now hints) ⌝ }
+    requires { ⌜ Keyed (now lines) (now bounds) (now kinds) (now args) (now used) (now keys) places n × Hinted (now keys) (now hints) (now links) ⌝ }
     ensures { λ r. ⌜ outcome r (now (args .exit)) (now (used .exit)) (now (faults .exit)) ≡ named (placesIn (now (kinds .entry))) (now (lines .entry))
         (now (bounds .entry)) (now (kinds .entry)) (resolved (keysIn (now (kinds .entry)) (now (args .entry))) (now (kinds .entry))
         (now (args .entry))) (now (used .entry)) (now (faults .entry)) ⌝ }
 {
-    if resolve(kinds, keys, hints, &places[..n], &mut *args) {
+    if resolve(kinds, keys, hints, links, &places[..n], &mut *args) {
         return check_names(lines, bounds, kinds, args, used, faults, places, n);
     }
     arrange(lines, bounds, kinds, args, used, faults, places, n)
@@ -193,14 +194,23 @@ fn check_doubles(
     faults: &mut [u8],
     keys: &[u64],
     hints: &[u8],
+    links: &[u8],
     places: [u16; STATEMENTS],
     n: usize,
 ) -> Plan
-    requires { ⌜ Keyed (now lines) (now bounds) (now kinds) (now args) (now used) (now keys) places n × Hinted (now keys) (now hints) ⌝ }
+    requires { ⌜ Keyed (now lines) (now bounds) (now kinds) (now args) (now used) (now keys) places n × Hinted (now keys) (now hints) (now links) ⌝ }
     ensures { λ r. ⌜ outcome r (now (args .exit)) (now (used .exit)) (now (faults .exit)) ≡ distinct (now (lines .entry)) (now (bounds .entry))
         (now (kinds .entry)) (now (args .entry)) (now (used .entry)) (now (faults .entry)) ⌝ }
 {
-    let doubles = report_doubles(lines, bounds, keys, hints, &places[..n], &mut *faults);
+    let doubles = report_doubles(
+        lines,
+        bounds,
+        keys,
+        hints,
+        links,
+        &places[..n],
+        &mut *faults,
+    );
     if 0 < doubles {
         return refusal(7, doubles);
     }
@@ -213,12 +223,13 @@ fn check_doubles(
         faults,
         keys,
         hints,
+        links,
         places,
         n,
     )
 }
 
-// The hints by which names are found.
+// The hints and links by which names are found.
 fn hint(
     lines: &[u16],
     bounds: &[u16],
@@ -235,7 +246,8 @@ fn hint(
         (now (kinds .entry)) (now (args .entry)) (now (used .entry)) (now (faults .entry)) ⌝ }
 {
     let mut hints = [0u8; BUCKETS];
-    note_hints(keys, &mut hints);
+    let mut links = [0u8; STATEMENTS];
+    note_hints(keys, &mut hints, &mut links);
     check_doubles(
         lines,
         bounds,
@@ -245,6 +257,7 @@ fn hint(
         faults,
         keys,
         &hints,
+        &links,
         places,
         n,
     )

@@ -12,11 +12,11 @@ use Rattle.model.proofs.doubles.report_doubles.Statement.{statement}
 use Rattle.model.proofs.doubles.report_doubles.Tie as tie
 
 abbrev Inv-loop : tie.InvT-loop
-Inv-loop lines bounds keys hints places faults₀ d₀ count₀ j₀ faults d count j =
+Inv-loop lines bounds keys hints links places faults₀ d₀ count₀ j₀ faults d count j =
     (d ≡ before (begins bounds j) places) × Reports (repeatAt lines bounds keys places) (length lines) j count faults₀ faults
 
 abbrev μ-loop : tie.MeasureT-loop
-μ-loop lines bounds keys hints places faults₀ d₀ count₀ j₀ faults d count j = length lines - j
+μ-loop lines bounds keys hints links places faults₀ d₀ count₀ j₀ faults d count j = length lines - j
 
 short-at-requires : tie.Need-short-at-requires Inv-loop μ-loop
 short-at-requires c κs = search needs
@@ -26,7 +26,7 @@ passed-requires c κs = omega arith
 
 loop-holds : tie.Need-loop-holds Inv-loop μ-loop
 loop-holds c =
-    let s = c .before .before .before .before .before .before .before .before .args in
+    let s = c .before .before .before .before .before .before .before .before .before .args in
     let first = c .passed .ensures ∙ ap (λ b. before b (s .places .now)) (c .before .short-at .ensures .0) in
     let one = repeat-single (s .lines .now) (s .bounds .now) (s .keys .now) (s .places .now) in
     (first, reports-first (repeatAt (s .lines .now) (s .bounds .now) (s .keys .now) (s .places .now)) (length (s .lines .now)) (s .faults .now) one)
@@ -40,7 +40,7 @@ short-at-requires-2 c κs = search needs
 passed-requires-2 : tie.Need-passed-requires-2 Inv-loop μ-loop
 passed-requires-2 c κs =
     let at = c .before .before in
-    let s = at .before .before .before .before .before .before .before .before .before in
+    let s = at .before .before .before .before .before .before .before .before .before .before in
     let j = at .loop .j in
     let rise = s .pre .2 .rise j (c .before .loop-test .taken) in
     omega (
@@ -52,7 +52,7 @@ passed-requires-2 c κs =
 
 is-repeated-requires : tie.Need-is-repeated-requires Inv-loop μ-loop
 is-repeated-requires c κs =
-    let s = c .before .before .before .before .before .before .before .before .before .before .before .before in
+    let s = c .before .before .before .before .before .before .before .before .before .before .before .before .before in
     (s .pre .0, omega (arith, c .passed2 .ensures, before-le (c .before .short-at2 .result) (s .args .places .now), s .pre .1))
 
 short-at-requires-3 : tie.Need-short-at-requires-3 Inv-loop μ-loop
@@ -61,7 +61,7 @@ short-at-requires-3 c κs = search needs
 put-fault-requires : tie.Need-put-fault-requires Inv-loop μ-loop
 put-fault-requires c κs =
     let at = c .before .before .before .before .before .before in
-    let s = at .before .before .before .before .before .before .before .before .before in
+    let s = at .before .before .before .before .before .before .before .before .before .before in
     (c .before .short-at3 .ensures .1, omega (arith, at .loop .inv .1 .few, at .loop .inv .1 .within, s .pre .3))
 
 add-j : tie.Need-add-j Inv-loop μ-loop
@@ -78,7 +78,7 @@ loop-again c =
     let passed = again .before in
     let test = passed .before .before in
     let at = test .before in
-    let s = at .before .before .before .before .before .before .before .before .before .args in
+    let s = at .before .before .before .before .before .before .before .before .before .before .args in
     let bound = passed .before .short-at2 .ensures .0 in
     let found = repeat-found (s .lines .now) (s .bounds .now) (s .keys .now) (s .places .now) (at .loop .j)
     (again .is-repeated .ensures) (at .loop .inv .0) (passed .passed2 .ensures) bound (line .short-at3 .ensures .0) in (

@@ -9,14 +9,14 @@ use Rattle.model.proofs.names.resolve.Statement.{statement}
 use Rattle.model.proofs.names.resolve.Tie as tie
 
 abbrev Inv-loop : tie.InvT-loop
-Inv-loop kinds keys hints places args₀ flawed₀ i₀ args flawed i = Resolving keys kinds places args₀ flawed i args
+Inv-loop kinds keys hints links places args₀ flawed₀ i₀ args flawed i = Resolving keys kinds places args₀ flawed i args
 
 abbrev μ-loop : tie.MeasureT-loop
-μ-loop kinds keys hints places args₀ flawed₀ i₀ args flawed i = length kinds - i
+μ-loop kinds keys hints links places args₀ flawed₀ i₀ args flawed i = length kinds - i
 
 loop-holds : tie.Need-loop-holds Inv-loop μ-loop
 loop-holds c =
-    let s = c .before .before .before .before .before .args in
+    let s = c .before .before .before .before .before .before .args in
     resolving-first (s .keys .now) (s .kinds .now) (s .places .now) (s .args .now)
 
 shared-slice-read-slot-of : tie.Need-shared-slice-read-slot-of Inv-loop μ-loop
@@ -53,7 +53,7 @@ loop-again : tie.Need-loop-again Inv-loop μ-loop
 loop-again c =
     let slot = c .before .before .before .slot-of in
     let test = c .before .before .before .before .before .before in
-    let wide = c .before .before .before .before .before .before .before .before .before .before .before .before .before .pre .2 in
+    let wide = c .before .before .before .before .before .before .before .before .before .before .before .before .before .before .pre .2 in
     let v = test .before .loop .inv in
     let flaw = c .before .is-flawed .ensures in
     ⊎-elim (λ w. resolving-flawed v (test .loop-test .taken) wide (slot .ensures) flaw (w .0 .taken) (w .1))

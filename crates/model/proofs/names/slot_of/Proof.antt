@@ -15,17 +15,17 @@ find-requires c κs = search needs
 
 add-result : tie.Need-add-result
 add-result c =
-    let s = c .before .before .before .before .before in
+    let s = c .before .before .before .before .before .before in
     omega (arith, c .find .ensures, place-le (s .args .arg) (s .args .keys .now), s .pre .1)
 
 returns : tie.Need-returns
 returns c =
-    let s = c .before .before .before .before .before .args in
+    let s = c .before .before .before .before .before .before .args in
     slot-named (s .keys .now) (s .kind) (s .arg) (sym (c .before .before .is-named .ensures) ∙ c .before .if1 .taken) (c .find .ensures)
 
 returns-2 : tie.Need-returns-2
 returns-2 c =
-    let s = c .before .before .before .before .args in
+    let s = c .before .before .before .before .before .args in
     slot-other (s .keys .now) (s .kind) (s .arg) (sym (c .before .is-named .ensures) ∙ c .if1 .left)
 
 pub slot-of-spec : {M : Type 1} → statement M

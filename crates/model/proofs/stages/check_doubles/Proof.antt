@@ -6,14 +6,14 @@ use Rattle.model.proofs.stages.check_doubles.Statement.{statement}
 use Rattle.model.proofs.stages.check_doubles.Tie as tie
 
 array-share-prefix-places : tie.Need-array-share-prefix-places
-array-share-prefix-places c = holds-room (c .before .before .before .before .before .before .before .before .pre .0 .placed)
+array-share-prefix-places c = holds-room (c .before .before .before .before .before .before .before .before .before .pre .0 .placed)
 
 slice-aggregate-report-doubles : tie.Need-slice-aggregate-report-doubles
-slice-aggregate-report-doubles c = holds-front (c .before .before .before .before .before .before .before .before .before .pre .0 .placed) .long
+slice-aggregate-report-doubles c = holds-front (c .before .before .before .before .before .before .before .before .before .before .pre .0 .placed) .long
 
 report-doubles-requires : tie.Need-report-doubles-requires
 report-doubles-requires c κs =
-    let s = c .before .before .before .before .before .before .before .before .before .before .pre in
+    let s = c .before .before .before .before .before .before .before .before .before .before .before .pre in
     (s .1, omega (arith, holds-front (s .0 .placed) .long, keyed-count (s .0)), s .0 .sound .rises, s .0 .sound .few)
 
 refusal-requires : tie.Need-refusal-requires
@@ -25,13 +25,13 @@ same-length c = search needs
 returns : tie.Need-returns
 returns c =
     let report = c .before .before .before .before in
-    let s = report .before .before .before .before .before .before .before .before .before .before .before .pre .0 in
+    let s = report .before .before .before .before .before .before .before .before .before .before .before .before .pre .0 in
     distinct-fault s (report .report-doubles .ensures) (c .before .if1 .taken) (c .refusal .ensures)
 
 settle-requires : tie.Need-settle-requires
 settle-requires c κs =
     let report = c .before .before .before .before .before .before in
-    report .before .before .before .before .before .before .before .before .before .before .before .pre
+    report .before .before .before .before .before .before .before .before .before .before .before .before .pre
 
 same-length-2 : tie.Need-same-length-2
 same-length-2 c = search needs
@@ -46,7 +46,7 @@ returns-2 : tie.Need-returns-2
 returns-2 c =
     let test = c .before .before .before .before .before .before .before .before .before .before in
     let report = test .before .before .before in
-    let s = report .before .before .before .before .before .before .before .before .before .before .before .pre .0 in
+    let s = report .before .before .before .before .before .before .before .before .before .before .before .before .pre .0 in
     distinct-none s (report .report-doubles .ensures) (test .if1 .left) (c .before .before .before .before .before .before .settle .ensures)
 
 pub check-doubles-spec : {M : Type 1} → statement M

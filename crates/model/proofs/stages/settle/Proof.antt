@@ -6,20 +6,20 @@ use Rattle.model.proofs.stages.settle.Statement.{statement}
 use Rattle.model.proofs.stages.settle.Tie as tie
 
 array-share-prefix-places : tie.Need-array-share-prefix-places
-array-share-prefix-places c = holds-room (c .before .before .before .before .before .before .before .before .pre .0 .placed)
+array-share-prefix-places c = holds-room (c .before .before .before .before .before .before .before .before .before .pre .0 .placed)
 
 slice-aggregate-resolve : tie.Need-slice-aggregate-resolve
-slice-aggregate-resolve c = holds-front (c .before .before .before .before .before .before .before .before .before .pre .0 .placed) .long
+slice-aggregate-resolve c = holds-front (c .before .before .before .before .before .before .before .before .before .before .pre .0 .placed) .long
 
 resolve-requires : tie.Need-resolve-requires
 resolve-requires c κs =
-    let s = c .before .before .before .before .before .before .before .before .before .before .pre in
+    let s = c .before .before .before .before .before .before .before .before .before .before .before .pre in
     (s .1, omega (arith, keyed-count (s .0), s .0 .few), s .0 .wide)
 
 check-names-requires : tie.Need-check-names-requires
 check-names-requires c κs =
     let resolved = c .before .before .before .before .before .before in
-    let s = resolved .before .before .before .before .before .before .before .before .before .before .before .pre .0 in
+    let s = resolved .before .before .before .before .before .before .before .before .before .before .before .before .pre .0 in
     (s .sound, keyed-slotted s (resolved .resolve .ensures), s .placed)
 
 same-length : tie.Need-same-length
@@ -34,13 +34,13 @@ same-length-3 c = search needs
 returns : tie.Need-returns
 returns c =
     let resolved = c .before .before .before .before .before .before .before .before .before .before .before in
-    let s = resolved .before .before .before .before .before .before .before .before .before .before .before in
+    let s = resolved .before .before .before .before .before .before .before .before .before .before .before .before in
     settled (s .pre .0) (resolved .resolve .ensures) (s .args .faults .now) (c .before .before .before .before .check-names .ensures)
 
 arrange-requires : tie.Need-arrange-requires
 arrange-requires c κs =
     let resolved = c .before .before .before .before .before .before in
-    let s = resolved .before .before .before .before .before .before .before .before .before .before .before .pre .0 in
+    let s = resolved .before .before .before .before .before .before .before .before .before .before .before .before .pre .0 in
     (s .sound, keyed-slotted s (resolved .resolve .ensures), s .placed)
 
 same-length-4 : tie.Need-same-length-4
@@ -56,7 +56,7 @@ returns-2 : tie.Need-returns-2
 returns-2 c =
     let test = c .before .before .before .before .before .before .before .before in
     let resolved = test .before .before .before in
-    let s = resolved .before .before .before .before .before .before .before .before .before .before .before in
+    let s = resolved .before .before .before .before .before .before .before .before .before .before .before .before in
     settled-clear (s .pre .0) (resolved .resolve .ensures) (s .args .faults .now) (test .if1 .left) (c .before .before .before .before .arrange .ensures)
 
 pub settle-spec : {M : Type 1} → statement M
