@@ -8,13 +8,14 @@ use native.Mathlib.Numerals.{add-one}
 use native.Mathlib.Omega.{arith}
 use lib.Dec.{eqb, ltb}
 use lib.ListN.{length, getD, set, take, drop, length-set, drop-of-length-le, take-append-drop}
-use lib.Seq.{drop-cons, take-suc-set, drop-set-lt, getD-at, length-take-le}
+use lib.Seq.{drop-cons, set-getD, take-suc-set, drop-set-lt, getD-at, length-take-le}
 use Rattle.laws.specs.Places.{anyIn}
 use Rattle.laws.proofs.Tests.{not-both, cond-ind, or-right}
+use Rattle.laws.proofs.Bools.{or-false}
 use Rattle.laws.proofs.Gathers.{any-step, any-stop, any-pass, any-done}
 use Rattle.model.specs.Definitions.{placeIn}
 use Rattle.model.specs.Faults.{faultIf, nameFault}
-use Rattle.model.specs.Places.{isNamed, asks, resolvedAt, resolved, homeOf, begins, ends, anyOf, undefinedAt, unfitAt, namesAt}
+use Rattle.model.specs.Places.{defines, isNamed, asks, resolvedAt, resolved, homeOf, begins, ends, anyOf, undefinedAt, unfitAt, namesAt}
 use Rattle.model.specs.Working.{flawedBy, flawedAt, Resolved, flawOf}
 use Rattle.model.proofs.Reporting.{if-length}
 
@@ -49,6 +50,14 @@ slot-named keys kind arg {r} t e =
 pub slot-other : (keys : List ℕ) (kind arg : ℕ) → isNamed kind ≡ false → arg ≡ resolvedAt keys kind arg
 slot-other keys kind arg f =
     cond-ind (λ (x : ℕ). arg ≡ x) (isNamed kind) (suc (placeIn arg keys)) arg (λ t. absurd (not-both t f)) (λ _. refl)
+
+-- what is no name is not flawed
+other-clear : (places kinds : List ℕ) (kind slot : ℕ) → isNamed kind ≡ false → flawedBy places kinds kind slot ≡ false
+other-clear places kinds kind slot n =
+    let a = or-false (defines kind) _ n .1 in
+    let b = or-false (eqb kind 4) _ a in
+    let d = or-false (eqb kind 14) _ (b .1) in
+    rw (b .0, d .1)
 
 -- ---- the drafts before place i are resolved, and those that are flawed are noted
 pub record Resolving (keys kinds places args₀ : List ℕ) (flawed : Bool) (i : ℕ) (args : List ℕ) : Type 0 where
@@ -93,14 +102,22 @@ module _ {keys kinds places args₀ args : List ℕ} {flawed : Bool} {i : ℕ} (
               ∙ ap (λ (a : Bool). flawed || a) (sym (any-step f (length kinds) i h)) ∙ v .left;
         }
 
-    -- a draft that is flawed, and one that is not
-    pub resolving-flawed : {b after : Bool} → b ≡ flawedBy places kinds (getD kinds i 0) slot → b ≡ true → after ≡ true
-        → Resolving keys kinds places args₀ after (i + 1) (set args i slot)
-    resolving-flawed t y z = more t (z ∙ sym (or-right flawed _ y))
+    -- a name that is flawed, and one that is not
+    pub resolving-flawed : {b after : Bool} {args′ : List ℕ} → b ≡ flawedBy places kinds (getD kinds i 0) slot → b ≡ true → args′ ≡ set args i slot
+        → after ≡ true → Resolving keys kinds places args₀ after (i + 1) args′
+    resolving-flawed t y s z = rw s (more t (z ∙ sym (or-right flawed _ y)))
 
-    pub resolving-clear : {b after : Bool} → b ≡ flawedBy places kinds (getD kinds i 0) slot → b ≡ false → after ≡ flawed
-        → Resolving keys kinds places args₀ after (i + 1) (set args i slot)
-    resolving-clear t y z = more t (z ∙ or-false-right flawed y)
+    pub resolving-clear : {b after : Bool} {args′ : List ℕ} → b ≡ flawedBy places kinds (getD kinds i 0) slot → b ≡ false → args′ ≡ set args i slot
+        → after ≡ flawed → Resolving keys kinds places args₀ after (i + 1) args′
+    resolving-clear t y s z = rw s (more t (z ∙ or-false-right flawed y))
+
+  -- what is no name stays as it is
+  pub resolving-other : {after : Bool} {args′ : List ℕ} → i < length kinds → length kinds ≤ length args₀ → isNamed (getD kinds i 0) ≡ false
+      → args′ ≡ args → after ≡ flawed → Resolving keys kinds places args₀ after (i + 1) args′
+  resolving-other h l n s z =
+      let kind = getD kinds i 0 in
+      let arg = getD args i 0 in
+      resolving-clear h l (slot-other keys kind arg n) (sym (other-clear places kinds kind arg n)) refl (s ∙ sym (set-getD args i 0)) z
 
   pub resolving-last : length kinds ≤ i → Resolved keys kinds places args₀ args flawed
   unfolding resolved

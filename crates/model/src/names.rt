@@ -31,17 +31,6 @@ fn is_named(kind: u8) -> bool
     kind == 16
 }
 
-// A draft's argument, with a name's slot in the place of its key.
-fn slot_of(kind: u8, arg: u64, keys: &[u64], hints: &[u8], links: &[u8]) -> u64
-    requires { ⌜ Hinted (now keys) (now hints) (now links) × (length (now keys) < 256) ⌝ }
-    ensures { λ r. ⌜ r ≡ resolvedAt (now (keys .entry)) kind arg ⌝ }
-{
-    if is_named(kind) {
-        return find(keys, hints, links, arg) as u64 + 1;
-    }
-    arg
-}
-
 // Whether a draft asks for a name that nothing defines; n is the count of definitions.
 fn is_undefined(n: usize, kind: u8, slot: u64) -> bool
     ensures { λ r. ⌜ r ≡ (asks kind && ltb n slot) ⌝ }
@@ -100,10 +89,13 @@ pub(crate) fn resolve(
     let mut flawed = false;
     let mut i = 0;
     while i < kinds.len() {
-        let slot = slot_of(kinds[i], args[i], keys, hints, links);
-        args[i] = slot;
-        if is_flawed(places, kinds, kinds[i], slot) {
-            flawed = true;
+        let kind = kinds[i];
+        if is_named(kind) {
+            let slot = find(keys, hints, links, args[i]) as u64 + 1;
+            args[i] = slot;
+            if is_flawed(places, kinds, kind, slot) {
+                flawed = true;
+            }
         }
         i += 1;
     }
