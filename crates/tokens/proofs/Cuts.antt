@@ -1,30 +1,30 @@
 -- A cut, from what its pieces ensure.
-use Prim.Native.Nat.{ℕ, _+_, _-_, _<_, _≤_}
+use Prim.Native.Nat.{ℕ, _+_, _<_, _≤_}
 use mathlib.Core.Path.{_≡_, ap}
 use mathlib.Core.Bool.{true, false, _||_}
 use mathlib.Core.List.{List}
+use mathlib.Core.Logic.{⊎-elim}
 use native.Mathlib.Omega.{arith}
 use borrow.Author.Tests.{lt-ltb, le-ltb, le-leb, lt-leb}
 use lib.ListN.{length, getD}
+use Rattle.laws.proofs.Tests.{lt-or-ge}
 use Rattle.limits.specs.Limits.{nameBytes}
 use Rattle.tokens.specs.declared.Cut.{Cut}
-use Rattle.tokens.specs.declared.Token.the-variants.{Name, Mark, End}
+use Rattle.tokens.specs.declared.Token.the-variants.{Mark, End}
 use Rattle.tokens.specs.Bytes.{isLetter, isDigit, isPoint, isMark, wordAt, spacesAt}
+use Rattle.tokens.specs.Names.{nameCount, nameToken, nameNext}
 use Rattle.tokens.specs.Token.{cutOf, badAt, numberAt, nameAt, tokenAt, cutAt}
 
--- ---- the name, with the place behind its letters and digits
-module _ (s : List ℕ) (at end : ℕ) (read : end ≡ at + length (wordAt s at)) where
-  -- over six letters and digits it is bad
-  pub name-long : nameBytes < end - at → badAt 15 at ≡ nameAt s at
-  unfolding nameAt
-  name-long h = rw (lt-ltb nameBytes (length (wordAt s at)) (omega arith))
+-- ---- the name, with the count of its letters and digits
+pub name-read : (s : List ℕ) (at n : ℕ) → n ≡ nameCount s at → cutOf (nameToken at n) at (nameNext at (at + n) n) ≡ nameAt s at
+unfolding nameAt
+name-read s at n read = ⊎-elim long fine (lt-or-ge nameBytes (length (wordAt s at)))
+  where
+    long : nameBytes < length (wordAt s at) → cutOf (nameToken at n) at (nameNext at (at + n) n) ≡ nameAt s at
+    long h = rw (lt-ltb nameBytes n (omega arith), lt-ltb nameBytes (length (wordAt s at)) h)
 
-  -- otherwise it is a name
-  pub name-fine : end - at ≤ nameBytes → cutOf (Name at (end - at)) at end ≡ nameAt s at
-  unfolding nameAt
-  name-fine h =
-      let e : end - at ≡ length (wordAt s at) = omega arith in
-      rw (le-ltb nameBytes (length (wordAt s at)) (omega arith), e, read)
+    fine : length (wordAt s at) ≤ nameBytes → cutOf (nameToken at n) at (nameNext at (at + n) n) ≡ nameAt s at
+    fine h = let e : n ≡ length (wordAt s at) = omega arith in rw (e, le-ltb nameBytes (length (wordAt s at)) h)
 
 -- ---- the token, by its first byte
 module _ (s : List ℕ) (from at : ℕ) (read : at ≡ from + length (spacesAt s from)) where

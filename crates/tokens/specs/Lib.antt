@@ -4,6 +4,7 @@ pub mod Token
 pub mod Symbol
 pub mod Row
 pub mod Held
+pub mod Names
 pub mod Capped
 pub mod Steps
 pub mod Written

@@ -6,11 +6,12 @@ ghost use lib.ListN.{length, getD, take};
 ghost use Rattle.laws.specs.Lists.{sameBytes};
 ghost use Rattle.limits.specs.Limits.{nameBytes, mostTens};
 ghost use Rattle.bits.specs.Low.{lowWord};
-ghost use Rattle.tokens.specs.Bytes.{isDigit, isLetter, isPoint, isWord, isMark, spacesAt, wordAt};
+ghost use Rattle.tokens.specs.Bytes.{isDigit, isLetter, isPoint, isWord, isMark, spacesAt};
 ghost use Rattle.tokens.specs.Number.{tenTo, numberOf, digitsFrom, signEnd, exponentFrom};
 ghost use Rattle.tokens.specs.Token.{badAt, numberAt, nameAt, cutAt};
 ghost use Rattle.tokens.specs.Symbol.{named};
 ghost use Rattle.tokens.specs.Held.{kindOf, threeOf};
+ghost use Rattle.tokens.specs.Names.{nameCount, nameToken, nameNext};
 ghost use Rattle.tokens.specs.Capped.{cap, decimalAt, capped, powerOf};
 ghost use Rattle.tokens.specs.Steps.{heldAs, stepAt};
 ghost use Rattle.tokens.specs.Written.{Written};
@@ -96,19 +97,11 @@ fn is_mark(b: u8) -> bool
 fn past_spaces(body: &[u8], from: usize) -> usize
     ensures { λ r. ⌜ r ≡ from + length (spacesAt (now (body .entry)) from) ⌝ }
 {
-    let mut i = from;
-    while byte_at(body, i) == 32 {
-        i += 1;
+    if byte_at(body, from) != 32 {
+        return from;
     }
-    i
-}
-
-// The place behind the letters and digits from a place on.
-fn past_word(body: &[u8], from: usize) -> usize
-    ensures { λ r. ⌜ r ≡ from + length (wordAt (now (body .entry)) from) ⌝ }
-{
-    let mut i = from;
-    while is_word(byte_at(body, i)) {
+    let mut i = from + 1;
+    while byte_at(body, i) == 32 {
         i += 1;
     }
     i
@@ -339,19 +332,52 @@ fn read_number(body: &[u8], at: usize) -> Cut
     }
 }
 
+// How many letters and digits stand from a place on, counted up to one more than a name may have.
+fn name_bytes(body: &[u8], at: usize) -> usize
+    requires { ⌜ at ≤ length (now body) ⌝ }
+    ensures { λ r. ⌜ r ≡ nameCount (now (body .entry)) at ⌝ }
+{
+    let mut n: usize = 0;
+    while n <= limits::NAME_BYTES {
+        if is_word(byte_at(body, at + n)) {
+            n += 1;
+        } else {
+            return n;
+        }
+    }
+    n
+}
+
+// The token of so many letters and digits at a place: a name, or 15 where there are too many.
+fn name_token(at: usize, n: usize) -> Token
+    ensures { λ r. ⌜ r ≡ nameToken at n ⌝ }
+{
+    if limits::NAME_BYTES < n {
+        return Token::Bad(15);
+    }
+    Token::Name(at, n)
+}
+
+// Where the next token begins: behind a name, which has its end; behind a bad token nothing is read.
+fn name_next(at: usize, end: usize, n: usize) -> usize
+    ensures { λ r. ⌜ r ≡ nameNext at end n ⌝ }
+{
+    if limits::NAME_BYTES < n {
+        return at;
+    }
+    end
+}
+
 // The name at a place.
 fn read_name(body: &[u8], at: usize) -> Cut
+    requires { ⌜ at ≤ length (now body) ⌝ }
     ensures { λ r. ⌜ r ≡ nameAt (now (body .entry)) at ⌝ }
 {
-    let end = past_word(body, at);
-    let n = end - at;
-    if limits::NAME_BYTES < n {
-        return bad(15, at);
-    }
+    let n = name_bytes(body, at);
     Cut {
-        token: Token::Name(at, n),
+        token: name_token(at, n),
         at: at,
-        next: end,
+        next: name_next(at, at + n, n),
     }
 }
 

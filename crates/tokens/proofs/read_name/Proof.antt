@@ -1,29 +1,30 @@
-use mathlib.Core.Path.{_∙_}
+use Prim.Native.Nat.{ℕ}
+use mathlib.Core.Path.{ap₂, _∙_}
 use borrow.Author.Needs.{needs}
-use Rattle.tokens.proofs.Cuts.{name-long, name-fine}
+use Rattle.tokens.specs.declared.Token.{Token}
+use Rattle.tokens.specs.Token.{cutOf}
+use Rattle.tokens.proofs.Cuts.{name-read}
 use Rattle.tokens.proofs.read_name.Statement.{statement}
 use Rattle.tokens.proofs.read_name.Tie as tie
 
-past-word-requires : tie.Need-past-word-requires
-past-word-requires c κs = search needs
+name-bytes-requires : tie.Need-name-bytes-requires
+name-bytes-requires c κs = search needs
 
-sub-n : tie.Need-sub-n
-sub-n c = search needs
+name-token-requires : tie.Need-name-token-requires
+name-token-requires c κs = search needs
 
-bad-requires : tie.Need-bad-requires
-bad-requires c κs = search needs
+add-name-next : tie.Need-add-name-next
+add-name-next c = search needs
+
+name-next-requires : tie.Need-name-next-requires
+name-next-requires c κs = search needs
 
 returns : tie.Need-returns
 returns c =
-    let w = c .before .before in
-    let s = w .before .before in
-    c .bad .ensures ∙ name-long (s .args .body .now) (s .args .at) (w .past-word .result) (w .past-word .ensures) (c .before .if1 .taken)
-
-returns-2 : tie.Need-returns-2
-returns-2 c =
-    let w = c .before in
-    let s = w .before .before in
-    name-fine (s .args .body .now) (s .args .at) (w .past-word .result) (w .past-word .ensures) (c .if1 .left)
+    let b = c .before .before in
+    let a = b .before .before .args in
+    ap₂ (λ (t : Token) (e : ℕ). cutOf t (a .at) e) (c .before .name-token .ensures) (c .name-next .ensures)
+    ∙ name-read (a .body .now) (a .at) (b .name-bytes .result) (b .name-bytes .ensures)
 
 pub read-name-spec : {M : Type 1} → statement M
-read-name-spec = tie.close (tie.spec past-word-requires sub-n bad-requires returns returns-2)
+read-name-spec = tie.close (tie.spec name-bytes-requires name-token-requires add-name-next name-next-requires returns)
