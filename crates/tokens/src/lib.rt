@@ -1,7 +1,8 @@
 // Tokens: a name, a mark, or a number with its float value.
 ghost use mathlib.Core.Path.{_≡_};
-ghost use mathlib.Core.Bool.{_||_};
+ghost use mathlib.Core.Bool.{_&&_, _||_};
 ghost use Prim.Native.Nat.{_+_, _*_, _-_, _≤_, _<_, min};
+ghost use lib.Dec.{leb};
 ghost use lib.ListN.{length, getD, take};
 ghost use Rattle.laws.specs.Lists.{sameBytes};
 ghost use Rattle.limits.specs.Limits.{nameBytes, mostTens};
@@ -80,17 +81,24 @@ fn is_tail(b: u8) -> bool
     is_word(b) || b == 46
 }
 
-// / = ( ) * + , -
+// ( ) * + , - which stand side by side.
+fn is_block_mark(b: u8) -> bool
+    ensures { λ r. ⌜ r ≡ (leb 40 b && leb b 45) ⌝ }
+{
+    40 <= b && b <= 45
+}
+
+// ( ) * + , - / =
 fn is_mark(b: u8) -> bool
     ensures { λ r. ⌜ r ≡ isMark b ⌝ }
 {
+    if is_block_mark(b) {
+        return true;
+    }
     if b == 47 {
         return true;
     }
-    if b == 61 {
-        return true;
-    }
-    40 <= b && b <= 45
+    b == 61
 }
 
 // The place behind the spaces from a place on.
@@ -358,7 +366,7 @@ fn name_token(at: usize, n: usize) -> Token
     Token::Name(at, n)
 }
 
-// Where the next token begins: behind a name, which has its end; behind a bad token nothing is read.
+// Where the next token begins: at a name's end; behind a bad token nothing is read.
 fn name_next(at: usize, end: usize, n: usize) -> usize
     ensures { λ r. ⌜ r ≡ nameNext at end n ⌝ }
 {
@@ -397,15 +405,15 @@ pub fn take_cut(body: &[u8], from: usize) -> Cut
     if is_letter(b) {
         return read_name(body, at);
     }
-    if is_figure(b) {
-        return read_number(body, at);
-    }
     if is_mark(b) {
         return Cut {
             token: Token::Mark(b),
             at: at,
             next: at + 1,
         };
+    }
+    if is_figure(b) {
+        return read_number(body, at);
     }
     bad(14, at)
 }

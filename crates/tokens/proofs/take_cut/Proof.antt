@@ -20,11 +20,11 @@ A p = p .past-spaces .result
 abbrev P : tie.After-is-letter → tie.After-past-spaces
 P l = l .before .before .before
 
-abbrev L : tie.After-is-figure → tie.After-is-letter
-L f = f .before .before
+abbrev L : tie.After-is-mark → tie.After-is-letter
+L m = m .before .before
 
-abbrev G : tie.After-is-mark → tie.After-is-figure
-G m = m .before .before
+abbrev G : tie.After-is-figure → tie.After-is-mark
+G f = f .before .before
 
 past-spaces-requires : tie.Need-past-spaces-requires
 past-spaces-requires c κs = search needs
@@ -48,46 +48,46 @@ returns-2 c =
     at-letter (S p) (F p) (A p) (p .past-spaces .ensures) (l .before .before .if1 .left) (sym (l .is-letter .ensures) ∙ c .before .if2 .taken)
     (c .read-name .result) (c .read-name .ensures)
 
+is-mark-requires : tie.Need-is-mark-requires
+is-mark-requires c κs = search needs
+
+add-t13 : tie.Need-add-t13
+add-t13 c = search needs
+
+returns-3 : tie.Need-returns-3
+returns-3 c =
+    let m = c .before in
+    let l = L m in
+    let p = P l in
+    at-mark (S p) (F p) (A p) (p .past-spaces .ensures) (l .before .before .if1 .left) (sym (l .is-letter .ensures) ∙ m .before .if2 .left)
+    (sym (m .is-mark .ensures) ∙ c .if3 .taken)
+
 is-figure-requires : tie.Need-is-figure-requires
 is-figure-requires c κs = search needs
 
 read-number-requires : tie.Need-read-number-requires
 read-number-requires c κs = search needs
 
-returns-3 : tie.Need-returns-3
-returns-3 c =
-    let f = c .before .before in
-    let l = L f in
-    let p = P l in
-    at-figure (S p) (F p) (A p) (p .past-spaces .ensures) (l .before .before .if1 .left) (sym (l .is-letter .ensures) ∙ f .before .if2 .left)
-    (sym (f .is-figure .ensures) ∙ c .before .if3 .taken) (c .read-number .result) (c .read-number .ensures)
-
-is-mark-requires : tie.Need-is-mark-requires
-is-mark-requires c κs = search needs
-
-add-t14 : tie.Need-add-t14
-add-t14 c = search needs
-
 returns-4 : tie.Need-returns-4
 returns-4 c =
-    let m = c .before in
-    let f = G m in
-    let l = L f in
+    let f = c .before .before in
+    let m = G f in
+    let l = L m in
     let p = P l in
-    at-mark (S p) (F p) (A p) (p .past-spaces .ensures) (l .before .before .if1 .left) (sym (l .is-letter .ensures) ∙ f .before .if2 .left)
-    (sym (f .is-figure .ensures) ∙ m .before .if3 .left) (sym (m .is-mark .ensures) ∙ c .if4 .taken)
+    at-figure (S p) (F p) (A p) (p .past-spaces .ensures) (l .before .before .if1 .left) (sym (l .is-letter .ensures) ∙ m .before .if2 .left)
+    (sym (f .is-figure .ensures) ∙ c .before .if4 .taken) (c .read-number .result) (c .read-number .ensures)
 
 bad-requires : tie.Need-bad-requires
 bad-requires c κs = search needs
 
 returns-5 : tie.Need-returns-5
 returns-5 c =
-    let m = c .before .before in
-    let f = G m in
-    let l = L f in
+    let f = c .before .before in
+    let m = G f in
+    let l = L m in
     let p = P l in
-    at-other (S p) (F p) (A p) (p .past-spaces .ensures) (l .before .before .if1 .left) (sym (l .is-letter .ensures) ∙ f .before .if2 .left)
-    (sym (f .is-figure .ensures) ∙ m .before .if3 .left) (sym (m .is-mark .ensures) ∙ c .before .if4 .left) (c .bad .result) (c .bad .ensures)
+    at-other (S p) (F p) (A p) (p .past-spaces .ensures) (l .before .before .if1 .left) (sym (l .is-letter .ensures) ∙ m .before .if2 .left)
+    (sym (m .is-mark .ensures) ∙ f .before .if3 .left) (sym (f .is-figure .ensures) ∙ c .before .if4 .left) (c .bad .result) (c .bad .ensures)
 
 pub take-cut-spec : {M : Type 1} → statement M
 take-cut-spec =
@@ -99,11 +99,11 @@ take-cut-spec =
     is-letter-requires
     read-name-requires
     returns-2
+    is-mark-requires
+    add-t13
+    returns-3
     is-figure-requires
     read-number-requires
-    returns-3
-    is-mark-requires
-    add-t14
     returns-4
     bad-requires
     returns-5)
