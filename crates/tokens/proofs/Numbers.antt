@@ -93,27 +93,35 @@ ends e = ap (λ (x : Decimal). x .end) e
 pub values : {d e : Decimal} → d ≡ e → d .value ≡ e .value
 values e = ap (λ (x : Decimal). x .value) e
 
+-- the byte behind them
+pub behinds : (s : List ℕ) (from a : ℕ) (d : Decimal) → d ≡ decimalAt s from a → d .behind ≡ getD s (d .end) 0
+behinds s from a d e = rw e refl
+
 -- digits, a point, and digits again
-pub with-point : (s : List ℕ) (at : ℕ) (d e : Decimal) → d ≡ decimalAt s at 0 → getD s (d .end) 0 ≡ 46 → e ≡ decimalAt s (d .end + 1) (d .value)
-    → _≡_ {A = Mantissa} (record { value = e .value; after = e .end - (d .end + 1); count = d .end - at + (e .end - (d .end + 1)); end = e .end })
-    (capped (digitsFrom s at))
+pub with-point : (s : List ℕ) (at : ℕ) (d e : Decimal) → d ≡ decimalAt s at 0 → d .behind ≡ 46 → e ≡ decimalAt s (d .end + 1) (d .value)
+    → _≡_ {A = Mantissa}
+    (record { value = e .value; after = e .end - (d .end + 1); count = e .end - (at + 1); end = e .end; behind = e .behind })
+    (capped s (digitsFrom s at))
 unfolding digitsFrom
 with-point s at d e p q r =
     let w = digitsAt s at in
     let f = digitsAt s (at + length w + 1) in
+    let end = at + length w + 1 + length f in
     let q' : getD s (at + length w) 0 ≡ 46 = rw p at q in
     let value = decimal-cap (decimal 0 w) f ∙ ap (min cap) (sym (decimal-append 0 w f)) in
     let after = less (at + length w + 1) (length f) in
-    rw (r, p, eq-eqb _ 46 q') (λ k. record { value = value k; after = after k; count = less at (length w) k + after k; end = at + length w + 1 + length f })
+    let count : end - (at + 1) ≡ length w + length f = omega arith in
+    rw (r, p, eq-eqb _ 46 q') (λ k. record { value = value k; after = after k; count = count k; end = end; behind = getD s end 0 })
 
 -- digits alone
-pub no-point : (s : List ℕ) (at : ℕ) (d : Decimal) → d ≡ decimalAt s at 0 → (getD s (d .end) 0 ≡ 46 → ⊥)
-    → _≡_ {A = Mantissa} (record { value = d .value; after = 0; count = d .end - at; end = d .end }) (capped (digitsFrom s at))
+pub no-point : (s : List ℕ) (at : ℕ) (d : Decimal) → d ≡ decimalAt s at 0 → (d .behind ≡ 46 → ⊥)
+    → _≡_ {A = Mantissa} (record { value = d .value; after = 0; count = d .end - at; end = d .end; behind = d .behind }) (capped s (digitsFrom s at))
 unfolding digitsFrom
 no-point s at d p q =
     let w = digitsAt s at in
-    let q' : getD s (at + length w) 0 ≡ 46 → ⊥ = rw p at q in
-    rw (p, ne-eqb _ 46 q') (λ k. record { value = min cap (decimal 0 w); after = 0; count = less at (length w) k; end = at + length w })
+    let end = at + length w in
+    let q' : getD s end 0 ≡ 46 → ⊥ = rw p at q in
+    rw (p, ne-eqb _ 46 q') (λ k. record { value = min cap (decimal 0 w); after = 0; count = less at (length w) k; end = end; behind = getD s end 0 })
 
 -- a digit is at most 9
 digit-small : (x : ℕ) → isDigit x ≡ true → x - 48 ≤ 9
@@ -141,12 +149,12 @@ module _ (s : List ℕ) (at from : ℕ) (d : Decimal) (letter : getD s at 0 ≡ 
   count = rw (read, ← sign) (less from (length (digitsAt s from)))
 
   -- none
-  pub no-digit : d .end - from ≡ 0 → Wrong ≡ powerOf (exponentFrom s at)
+  pub no-digit : d .end - from ≡ 0 → Wrong ≡ powerOf s (exponentFrom s at)
   unfolding exponentFrom
   no-digit h = let l : length (digitsAt s (signEnd s (at + 1))) < 1 = omega (arith, count) in rw (eq-eqb _ 69 letter, lt-leb 1 _ l)
 
   -- too many
-  pub too-many : exponentDigits < d .end - from → Wrong ≡ powerOf (exponentFrom s at)
+  pub too-many : exponentDigits < d .end - from → Wrong ≡ powerOf s (exponentFrom s at)
   unfolding exponentFrom
   too-many h =
       let n = length (digitsAt s (signEnd s (at + 1))) in
@@ -165,51 +173,55 @@ module _ (s : List ℕ) (at from : ℕ) (d : Decimal) (letter : getD s at 0 ≡ 
 
   -- behind a minus
   pub digits-minus : (d .end - from ≡ 0 → ⊥) → d .end - from ≤ exponentDigits → getD s (at + 1) 0 ≡ 45
-      → Of 0 (d .value) (d .end) ≡ powerOf (exponentFrom s at)
-  digits-minus z h e = rw (← (few-digits z h), eq-eqb _ 45 e)
+      → Of 0 (d .value) (d .end) (d .behind) ≡ powerOf s (exponentFrom s at)
+  digits-minus z h e = rw (← (few-digits z h), eq-eqb _ 45 e, behinds s from 0 d read)
 
   -- behind a plus or no sign
   pub digits-plus : (d .end - from ≡ 0 → ⊥) → d .end - from ≤ exponentDigits → (getD s (at + 1) 0 ≡ 45 → ⊥)
-      → Of (d .value) 0 (d .end) ≡ powerOf (exponentFrom s at)
-  digits-plus z h e = rw (← (few-digits z h), ne-eqb _ 45 e)
+      → Of (d .value) 0 (d .end) (d .behind) ≡ powerOf s (exponentFrom s at)
+  digits-plus z h e = rw (← (few-digits z h), ne-eqb _ 45 e, behinds s from 0 d read)
 
 -- no letter, no exponent
-pub no-letter : (s : List ℕ) (at : ℕ) → (getD s at 0 ≡ 69 → ⊥) → Of 0 0 at ≡ powerOf (exponentFrom s at)
+pub no-letter : (s : List ℕ) (at b : ℕ) → b ≡ getD s at 0 → (b ≡ 69 → ⊥) → Of 0 0 at b ≡ powerOf s (exponentFrom s at)
 unfolding exponentFrom
-no-letter s at h = rw (ne-eqb _ 69 h)
+no-letter s at b e h = rw (ne-eqb _ 69 (λ f. h (e ∙ f)), e)
 
 -- ---- the number, by the exponent as it is held
 abbrev pub endOf : List ℕ → ℕ → Digits → Power → Cut
-endOf s at m (Of up down stop) =
-    cond (isWord (getD s stop 0) || isPoint (getD s stop 0)) (badAt 16 at) (cutOf (numberOf (m .whole) up (down + m .after)) at stop)
+endOf s at m (Of up down stop b) =
+    cond (isWord b || isPoint b) (badAt 16 at) (cutOf (numberOf (m .whole) up (down + m .after)) at stop)
 endOf s at m Wrong = badAt 16 at
 
 -- it is the number that the definition gives
-end-held : (s : List ℕ) (at : ℕ) (m : Digits) (e : Exponent) → endOf s at m (powerOf e) ≡ numberEnd s at m e
+end-held : (s : List ℕ) (at : ℕ) (m : Digits) (e : Exponent) → endOf s at m (powerOf s e) ≡ numberEnd s at m e
 end-held s at m (exponent true e stop) = refl
 end-held s at m (exponent false e stop) = rw zero-add
 end-held s at m wrong = refl
 
 -- m is its digits as they are held
-module _ (s : List ℕ) (at : ℕ) (m : Mantissa) (read : m ≡ capped (digitsFrom s at)) where
+module _ (s : List ℕ) (at : ℕ) (m : Mantissa) (read : m ≡ capped s (digitsFrom s at)) where
   -- a number without digits is bad
   pub empty : m .count ≡ 0 → badAt 16 at ≡ numberAt s at
   unfolding numberAt
   empty h = rw (eq-eqb _ 0 (rw read at h))
 
   -- from what stands behind the digits to the number
-  pub through : (m .count ≡ 0 → ⊥) → (p : Power) → p ≡ powerOf (exponentFrom s (m .end)) → endOf s at (digitsFrom s at) p ≡ numberAt s at
+  pub through : (m .count ≡ 0 → ⊥) → (p : Power) → p ≡ powerOf s (exponentFrom s (m .end)) → endOf s at (digitsFrom s at) p ≡ numberAt s at
   unfolding numberAt
   through z p q = rw (ne-eqb _ 0 (rw read at z), q, read) (end-held s at (digitsFrom s at) (exponentFrom s (digitsFrom s at .end)))
 
-  module _ (up down stop : ℕ) where
+  -- the byte behind the digits
+  pub behind-digits : m .behind ≡ getD s (m .end) 0
+  behind-digits = rw read refl
+
+  module _ (up down stop b : ℕ) where
     -- a letter, digit or point behind it makes it bad
-    pub tail-after : (isWord (getD s stop 0) || isPoint (getD s stop 0)) ≡ true → badAt 16 at ≡ endOf s at (digitsFrom s at) (Of up down stop)
+    pub tail-after : (isWord b || isPoint b) ≡ true → badAt 16 at ≡ endOf s at (digitsFrom s at) (Of up down stop b)
     tail-after h = rw h
 
     -- otherwise its value decides
-    pub no-tail : (isWord (getD s stop 0) || isPoint (getD s stop 0)) ≡ false → (t : Token) → t ≡ numberOf (m .value) up (down + m .after)
-        → cutOf t at stop ≡ endOf s at (digitsFrom s at) (Of up down stop)
+    pub no-tail : (isWord b || isPoint b) ≡ false → (t : Token) → t ≡ numberOf (m .value) up (down + m .after)
+        → cutOf t at stop ≡ endOf s at (digitsFrom s at) (Of up down stop b)
     no-tail h t q = rw (h, q, read, cap-unseen)
 
 -- ---- the counts are small
@@ -219,7 +231,7 @@ digits-short : (s : List ℕ) (i : ℕ) → length (digitsAt s i) ≤ length s
 digits-short s i = omega (arith, run-short isDigit (drop i s), length-drop i s)
 
 -- so the count behind the point is not either
-pub after-short : (s : List ℕ) (at : ℕ) (m : Mantissa) → m ≡ capped (digitsFrom s at) → m .after ≤ length s
+pub after-short : (s : List ℕ) (at : ℕ) (m : Mantissa) → m ≡ capped s (digitsFrom s at) → m .after ≤ length s
 unfolding digitsFrom
 after-short s at m e =
     let p = at + length (digitsAt s at) in
@@ -246,15 +258,15 @@ exponent-few s at =
 
 -- and so it is where it is held
 abbrev SmallDown : Power → Type 0
-SmallDown (Of up down stop) = down < 10 ^ exponentDigits
+SmallDown (Of up down stop b) = down < 10 ^ exponentDigits
 SmallDown Wrong = Unit {0}
 
 -- for it is the same value, or 0
-small-held : (e : Exponent) → Small e → SmallDown (powerOf e)
-small-held (exponent true e stop) h = h
-small-held (exponent false e stop) h = lit< tt
-small-held wrong h = tt
+small-held : (s : List ℕ) (e : Exponent) → Small e → SmallDown (powerOf s e)
+small-held s (exponent true e stop) h = h
+small-held s (exponent false e stop) h = lit< tt
+small-held s wrong h = tt
 
 -- so the sum with the count behind the point fits
-pub down-small : (s : List ℕ) (at up down stop : ℕ) → Of up down stop ≡ powerOf (exponentFrom s at) → down < 10 ^ exponentDigits
-down-small s at up down stop q = subst SmallDown (sym q) (small-held (exponentFrom s at) (exponent-few s at))
+pub down-small : (s : List ℕ) (at up down stop b : ℕ) → Of up down stop b ≡ powerOf s (exponentFrom s at) → down < 10 ^ exponentDigits
+down-small s at up down stop b q = subst SmallDown (sym q) (small-held s (exponentFrom s at) (exponent-few s at))

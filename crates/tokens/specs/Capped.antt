@@ -2,7 +2,7 @@
 use Prim.Native.Nat.{ℕ, _+_, min}
 use mathlib.Core.Bool.{true, false}
 use mathlib.Core.List.{List}
-use lib.ListN.{length}
+use lib.ListN.{length, getD}
 use Rattle.limits.specs.Limits.{mostDigits}
 use Rattle.tokens.specs.declared.Decimal.{Decimal}
 use Rattle.tokens.specs.declared.Mantissa.{Mantissa}
@@ -14,16 +14,18 @@ use Rattle.tokens.specs.Number.{Digits, decimal, Exponent, exponent, wro
 abbrev pub cap : ℕ
 cap = mostDigits + 1
 
--- the digits from a place on, read behind the number a
+-- the digits from a place on, read behind the number a, and the byte behind them
 abbrev pub decimalAt : List ℕ → ℕ → ℕ → Decimal
-decimalAt s from a = record { value = min cap (decimal a (digitsAt s from)); end = from + length (digitsAt s from) }
+decimalAt s from a =
+    let end = from + length (digitsAt s from) in
+    record { value = min cap (decimal a (digitsAt s from)); end = end; behind = getD s end 0 }
 
 -- the digits before an exponent
-abbrev pub capped : Digits → Mantissa
-capped d = record { value = min cap (d .whole); after = d .after; count = d .count; end = d .end }
+abbrev pub capped : List ℕ → Digits → Mantissa
+capped s d = record { value = min cap (d .whole); after = d .after; count = d .count; end = d .end; behind = getD s (d .end) 0 }
 
 -- an exponent: with a minus it stands in down, else in up
-abbrev pub powerOf : Exponent → Power
-powerOf (exponent true e stop) = Of 0 e stop
-powerOf (exponent false e stop) = Of e 0 stop
-powerOf wrong = Wrong
+abbrev pub powerOf : List ℕ → Exponent → Power
+powerOf s (exponent true e stop) = Of 0 e stop (getD s stop 0)
+powerOf s (exponent false e stop) = Of e 0 stop (getD s stop 0)
+powerOf s wrong = Wrong

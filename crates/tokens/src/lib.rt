@@ -117,10 +117,11 @@ fn past_spaces(body: &[u8], from: usize) -> usize
 
 // ---- numbers
 
-// A number read from digits, and the place behind them.
+// A number read from digits, the place behind them, and the byte there.
 struct Decimal {
     value: u64,
     end: usize,
+    behind: u8,
 }
 
 // One more digit behind a number; what is too large stays at one more than the most.
@@ -144,36 +145,44 @@ fn digits(body: &[u8], from: usize, value: u64) -> Decimal
 {
     let mut v = value;
     let mut i = from;
-    while is_digit(byte_at(body, i)) {
-        v = with_digit(v, byte_at(body, i));
+    let mut b = byte_at(body, i);
+    while is_digit(b) {
+        v = with_digit(v, b);
         i += 1;
+        b = byte_at(body, i);
     }
-    Decimal { value: v, end: i }
+    Decimal {
+        value: v,
+        end: i,
+        behind: b,
+    }
 }
 
-// What stands before an exponent: its digits as a number, how many stand after the point, how many there are, the place behind.
+// What stands before an exponent: its digits as a number, how many stand after the point, how many there are, the place behind and its byte.
 struct Mantissa {
     value: u64,
     after: usize,
     count: usize,
     end: usize,
+    behind: u8,
 }
 
 // The digits of a number, with at most one point among them.
 fn read_mantissa(body: &[u8], at: usize) -> Mantissa
-    ensures { λ r. ⌜ r ≡ capped (digitsFrom (now (body .entry)) at) ⌝ }
+    ensures { λ r. ⌜ r ≡ capped (now (body .entry)) (digitsFrom (now (body .entry)) at) ⌝ }
 {
     let w = digits(body, at, 0);
     let p = w.end;
     let v = w.value;
-    if byte_at(body, p) == 46 {
+    if w.behind == 46 {
         let f = digits(body, p + 1, v);
         let after = f.end - (p + 1);
         return Mantissa {
             value: f.value,
             after: after,
-            count: (p - at) + after,
+            count: f.end - (at + 1),
             end: f.end,
+            behind: f.behind,
         };
     }
     Mantissa {
@@ -181,12 +190,18 @@ fn read_mantissa(body: &[u8], at: usize) -> Mantissa
         after: 0,
         count: p - at,
         end: p,
+        behind: w.behind,
     }
 }
 
-// An exponent and the place behind it, or an E that begins none. With a minus the exponent stands in down, else in up.
+// An exponent, the place behind it and its byte, or an E that begins none. With a minus the exponent stands in down, else in up.
 enum Power {
-    Of { up: usize, down: usize, end: usize },
+    Of {
+        up: usize,
+        down: usize,
+        end: usize,
+        behind: u8,
+    },
     Wrong,
 }
 
@@ -205,15 +220,17 @@ fn sign_end(body: &[u8], at: usize) -> usize
     at
 }
 
-// The exponent behind a number's digits; 0 where there is none.
-fn read_exponent(body: &[u8], at: usize) -> Power
-    ensures { λ r. ⌜ r ≡ powerOf (exponentFrom (now (body .entry)) at) ⌝ }
+// The exponent behind a number's digits, where the first byte is known; 0 where there is none.
+fn read_exponent(body: &[u8], at: usize, first: u8) -> Power
+    requires { ⌜ first ≡ getD (now body) at 0 ⌝ }
+    ensures { λ r. ⌜ r ≡ powerOf (now (body .entry)) (exponentFrom (now (body .entry)) at) ⌝ }
 {
-    if byte_at(body, at) != 69 {
+    if first != 69 {
         return Power::Of {
             up: 0,
             down: 0,
             end: at,
+            behind: first,
         };
     }
     let from = sign_end(body, at + 1);
@@ -231,12 +248,14 @@ fn read_exponent(body: &[u8], at: usize) -> Power
             up: 0,
             down: value,
             end: d.end,
+            behind: d.behind,
         };
     }
     Power::Of {
         up: value,
         down: 0,
         end: d.end,
+        behind: d.behind,
     }
 }
 
@@ -320,15 +339,16 @@ fn read_number(body: &[u8], at: usize) -> Cut
         return bad(16, at);
     }
     let end = m.end;
-    let e = read_exponent(body, end);
+    let e = read_exponent(body, end, m.behind);
     match e {
         Power::Wrong => bad(16, at),
         Power::Of {
             up,
             down,
             end: stop,
+            behind: tail,
         } => {
-            if is_tail(byte_at(body, stop)) {
+            if is_tail(tail) {
                 return bad(16, at);
             }
             Cut {

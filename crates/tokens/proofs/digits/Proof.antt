@@ -1,4 +1,4 @@
--- The invariant: from here the digits end where they end from the start, and read behind v they are the same number.
+-- The invariant: from here the digits end where they end from the start, read behind v they are the same number, and b is the byte here.
 use Prim.Native.Nat.{ℕ, _+_, _-_, _<_, _≤_, min}
 use mathlib.Core.Path.{_≡_, refl, sym, ap, _∙_}
 use mathlib.Core.Bool.{Bool}
@@ -15,67 +15,61 @@ use Rattle.tokens.proofs.digits.Statement.{statement}
 use Rattle.tokens.proofs.digits.Tie as tie
 
 abbrev Inv-loop : tie.InvT-loop
-Inv-loop body from value v₀ i₀ v i =
+Inv-loop body from value v₀ i₀ b₀ v i b =
     (i + length (digitsAt body i) ≡ from + length (digitsAt body from))
     × (min cap (decimal v (digitsAt body i)) ≡ min cap (decimal value (digitsAt body from)))
     × (v ≤ cap)
+    × (b ≡ getD body i 0)
 
 abbrev μ-loop : tie.MeasureT-loop
-μ-loop body from value v₀ i₀ v i = length body - i
+μ-loop body from value v₀ i₀ b₀ v i b = length body - i
 
 abbrev S : tie.At-loop Inv-loop μ-loop → List ℕ
-S c = c .before .before .args .body .now
+S c = c .before .before .before .args .body .now
 
 abbrev I : tie.At-loop Inv-loop μ-loop → ℕ
 I c = c .loop .i
 
 -- what the test says of the byte in the text
-told : {b : Bool} (c : tie.After-is-digit Inv-loop μ-loop) → c .is-digit .result ≡ b
-    → isDigit (getD (S (c .before .before)) (I (c .before .before)) 0) ≡ b
-told c t = ap isDigit (sym (c .before .byte-at .ensures)) ∙ sym (c .is-digit .ensures) ∙ t
+told : {b : Bool} (c : tie.After-is-digit Inv-loop μ-loop) → c .is-digit .result ≡ b → isDigit (getD (S (c .before)) (I (c .before)) 0) ≡ b
+told c t = ap isDigit (sym (c .before .loop .inv .3)) ∙ sym (c .is-digit .ensures) ∙ t
 
-within : (c : tie.Then1 Inv-loop μ-loop) → I (c .before .before .before) < length (S (c .before .before .before))
-within c = inside isDigit (S (c .before .before .before)) _ refl (told (c .before) (c .if1 .taken))
+within : (c : tie.Then1 Inv-loop μ-loop) → I (c .before .before) < length (S (c .before .before))
+within c = inside isDigit (S (c .before .before)) _ refl (told (c .before) (c .if1 .taken))
 
 loop-holds : tie.Need-loop-holds Inv-loop μ-loop
-loop-holds c = (refl, refl, c .before .pre)
-
-byte-at-requires : tie.Need-byte-at-requires Inv-loop μ-loop
-byte-at-requires c κs = search needs
-
-is-digit-requires : tie.Need-is-digit-requires Inv-loop μ-loop
-is-digit-requires c κs = search needs
-
-byte-at-requires-2 : tie.Need-byte-at-requires-2 Inv-loop μ-loop
-byte-at-requires-2 c κs = search needs
+loop-holds c = (refl, refl, c .before .before .pre, c .byte-at .ensures)
 
 with-digit-requires : tie.Need-with-digit-requires Inv-loop μ-loop
 with-digit-requires c κs = search needs
 
 add-i : tie.Need-add-i Inv-loop μ-loop
-add-i c = omega (arith, within (c .before .before))
+add-i c = omega (arith, within (c .before))
 
 loop-less : tie.Need-loop-less Inv-loop μ-loop
 loop-less c = omega (arith, within (c .before .before))
 
 loop-again : tie.Need-loop-again Inv-loop μ-loop
 loop-again c =
-    let a = c .before .before .before .before .before in
-    let d = told (c .before .before .before) (c .before .before .if1 .taken) in
-    let more = run-more isDigit (S a) (I a) refl d ∙ ap (λ (x : ℕ). x ∷ digitsAt (S a) (I a + 1)) (sym (c .before .byte-at2 .ensures)) in (
+    let w = c .before in
+    let a = w .before .before .before in
+    let d = told (w .before .before) (w .before .if1 .taken) in
+    let more = run-more isDigit (S a) (I a) refl d ∙ ap (λ (x : ℕ). x ∷ digitsAt (S a) (I a + 1)) (sym (a .loop .inv .3)) in (
       sym (run-len isDigit (S a) _ refl d) ∙ a .loop .inv .0,
-      decimal-more (a .loop .v) (c .with-digit .result) _ (digitsAt (S a) (I a + 1)) (digitsAt (S a) (I a)) (c .with-digit .ensures) more
+      decimal-more (a .loop .v) (w .with-digit .result) _ (digitsAt (S a) (I a + 1)) (digitsAt (S a) (I a)) (w .with-digit .ensures) more
           ∙ a .loop .inv .1,
-      omega (arith, c .with-digit .ensures),
+      omega (arith, w .with-digit .ensures),
+      c .byte-at2 .ensures,
     )
 
 returns : tie.Need-returns Inv-loop μ-loop
 returns c =
-    let a = c .before .before .before in
+    let a = c .before .before in
     let d = told (c .before) (c .if1 .left) in
     let value = decimal-stop (a .loop .v) (digitsAt (S a) (I a)) (a .loop .inv .2) (run-stop isDigit (S a) (I a) d) ∙ a .loop .inv .1 in
     let end = sym (run-end isDigit (S a) (I a) d) ∙ a .loop .inv .0 in
-    λ k. record { value = value k; end = end k }
+    let behind = a .loop .inv .3 ∙ ap (λ (i : ℕ). getD (S a) i 0) end in
+    λ k. record { value = value k; end = end k; behind = behind k }
 
 pub digits-spec : {M : Type 1} → statement M
 digits-spec =
@@ -83,12 +77,12 @@ digits-spec =
     (tie.spec
     Inv-loop
     μ-loop
+    (λ c κs. search needs)
     loop-holds
-    byte-at-requires
-    is-digit-requires
-    byte-at-requires-2
+    (λ c κs. search needs)
     with-digit-requires
     add-i
+    (λ c κs. search needs)
     loop-less
     loop-again
     returns)

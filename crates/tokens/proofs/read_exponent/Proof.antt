@@ -11,27 +11,22 @@ use Rattle.tokens.proofs.read_exponent.Tie as tie
 
 -- the text and the place, where the letter was read and where the digits were
 abbrev S : tie.Else1 → List ℕ
-S t = t .before .before .before .args .body .now
+S t = t .before .before .args .body .now
 
 abbrev A : tie.Else1 → ℕ
-A t = t .before .before .before .args .at
+A t = t .before .before .args .at
 
 abbrev L : tie.After-digits → tie.Else1
 L d = d .before .before
 
 letter : (t : tie.Else1) → getD (S t) (A t) 0 ≡ 69
-letter t = sym (t .before .byte-at .ensures) ∙ t .if1 .left
+letter t = sym (t .before .before .pre) ∙ t .if1 .left
 
 within : (t : tie.Else1) → A t < length (S t)
 within t = held 69 (S t) (A t) refl (letter t)
 
-byte-at-requires : tie.Need-byte-at-requires
-byte-at-requires c κs = search needs
-
 returns : tie.Need-returns
-returns c =
-    let s = c .before .before .before in
-    no-letter (s .args .body .now) (s .args .at) (λ e. c .if1 .taken (c .before .byte-at .ensures ∙ e))
+returns c = let s = c .before .before in no-letter (s .args .body .now) (s .args .at) (s .args .first) (s .pre) (c .if1 .taken)
 
 add-sign-end : tie.Need-add-sign-end
 add-sign-end c = omega (arith, within c)
@@ -60,28 +55,27 @@ returns-3 c =
 add-byte-at : tie.Need-add-byte-at
 add-byte-at c = omega (arith, within (L (c .before .before .before)))
 
-byte-at-requires-2 : tie.Need-byte-at-requires-2
-byte-at-requires-2 c κs = search needs
+byte-at-requires : tie.Need-byte-at-requires
+byte-at-requires c κs = search needs
 
 returns-4 : tie.Need-returns-4
 returns-4 c =
     let b = c .before in
     let d = b .before .before .before .before in
     digits-minus (S (L d)) (A (L d)) (d .before .sign-end .result) (d .digits .result) (letter (L d)) (d .before .sign-end .ensures) (d .digits .ensures)
-    (b .before .before .if2 .left) (b .before .if3 .left) (sym (b .byte-at2 .ensures) ∙ c .if4 .taken)
+    (b .before .before .if2 .left) (b .before .if3 .left) (sym (b .byte-at .ensures) ∙ c .if4 .taken)
 
 returns-5 : tie.Need-returns-5
 returns-5 c =
     let b = c .before in
     let d = b .before .before .before .before in
     digits-plus (S (L d)) (A (L d)) (d .before .sign-end .result) (d .digits .result) (letter (L d)) (d .before .sign-end .ensures) (d .digits .ensures)
-    (b .before .before .if2 .left) (b .before .if3 .left) (λ e. c .if4 .left (b .byte-at2 .ensures ∙ e))
+    (b .before .before .if2 .left) (b .before .if3 .left) (λ e. c .if4 .left (b .byte-at .ensures ∙ e))
 
 pub read-exponent-spec : {M : Type 1} → statement M
 read-exponent-spec =
     tie.close
     (tie.spec
-    byte-at-requires
     returns
     add-sign-end
     sign-end-requires
@@ -90,6 +84,6 @@ read-exponent-spec =
     returns-2
     returns-3
     add-byte-at
-    byte-at-requires-2
+    byte-at-requires
     returns-4
     returns-5)

@@ -1,67 +1,67 @@
+use Prim.Native.Nat.{ℕ, _<_}
 use mathlib.Core.Path.{refl, sym, _∙_}
+use mathlib.Core.List.{List}
 use native.Mathlib.Omega.{arith}
 use borrow.Author.Needs.{needs}
+use lib.ListN.{length}
 use Rattle.laws.proofs.Runs.{held}
-use Rattle.tokens.proofs.Numbers.{ends, values, with-point, no-point}
+use Rattle.tokens.proofs.Numbers.{ends, values, behinds, with-point, no-point}
 use Rattle.tokens.proofs.read_mantissa.Statement.{statement}
 use Rattle.tokens.proofs.read_mantissa.Tie as tie
+
+-- the text and the place
+abbrev S : tie.After-digits → List ℕ
+S d = d .before .before .args .body .now
+
+abbrev A : tie.After-digits → ℕ
+A d = d .before .before .args .at
+
+-- where the first digits were read
+abbrev D : tie.Then1 → tie.After-digits
+D t = t .before .before
+
+-- a point stands before the end
+within : (t : tie.Then1) → D t .digits .result .end < length (S (D t))
+within t =
+    let d = D t in
+    held 46 (S d) (d .digits .result .end) refl (sym (behinds (S d) (A d) 0 (d .digits .result) (d .digits .ensures)) ∙ t .if1 .taken)
 
 digits-requires : tie.Need-digits-requires
 digits-requires c κs = search needs
 
-byte-at-requires : tie.Need-byte-at-requires
-byte-at-requires c κs = search needs
-
--- a point stands before the end
 add-digits : tie.Need-add-digits
-add-digits c =
-    let b = c .before in
-    let s = b .before .before .before in
-    omega (arith, held 46 (s .args .body .now) (b .before .digits .result .end) refl (sym (b .byte-at .ensures) ∙ c .if1 .taken))
+add-digits c = omega (arith, within c)
 
 digits-requires-2 : tie.Need-digits-requires-2
-digits-requires-2 c κs = omega (arith, values (c .before .before .digits .ensures))
+digits-requires-2 c κs = omega (arith, values (D c .digits .ensures))
 
 add-after : tie.Need-add-after
-add-after c = add-digits (c .before)
+add-after c = omega (arith, within (c .before))
 
 sub-after : tie.Need-sub-after
 sub-after c = omega (arith, ends (c .before .digits2 .ensures))
 
-sub-t10 : tie.Need-sub-t10
-sub-t10 c = omega (arith, ends (c .before .before .before .before .digits .ensures))
+add-t9 : tie.Need-add-t9
+add-t9 c = let t = c .before .before in omega (arith, within t, ends (D t .digits .ensures))
 
-add-t11 : tie.Need-add-t11
-add-t11 c = search needs
+sub-t10 : tie.Need-sub-t10
+sub-t10 c =
+    let e = c .before .before in
+    omega (arith, ends (e .digits2 .ensures), ends (D (e .before) .digits .ensures))
 
 returns : tie.Need-returns
 returns c =
-    let b = c .before .before .before in
-    let s = b .before .before .before in
-    with-point (s .args .body .now) (s .args .at) (b .before .digits .result) (c .before .digits2 .result)
-    (b .before .digits .ensures) (sym (b .byte-at .ensures) ∙ c .before .before .if1 .taken) (c .before .digits2 .ensures)
+    let e = c .before .before in
+    let t = e .before in
+    let d = D t in
+    with-point (S d) (A d) (d .digits .result) (e .digits2 .result) (d .digits .ensures) (t .if1 .taken) (e .digits2 .ensures)
 
-sub-t12 : tie.Need-sub-t12
-sub-t12 c = omega (arith, ends (c .before .before .digits .ensures))
+sub-t11 : tie.Need-sub-t11
+sub-t11 c = omega (arith, ends (c .before .before .digits .ensures))
 
 returns-2 : tie.Need-returns-2
-returns-2 c =
-    let b = c .before in
-    let s = b .before .before .before in
-    no-point (s .args .body .now) (s .args .at) (b .before .digits .result) (b .before .digits .ensures) (λ e. c .if1 .left (b .byte-at .ensures ∙ e))
+returns-2 c = let d = c .before .before in no-point (S d) (A d) (d .digits .result) (d .digits .ensures) (c .if1 .left)
 
 pub read-mantissa-spec : {M : Type 1} → statement M
 read-mantissa-spec =
-    tie.close
-    (tie.spec
-    digits-requires
-    byte-at-requires
-    add-digits
-    digits-requires-2
-    add-after
-    sub-after
-    sub-t10
-    add-t11
-    returns
-    sub-t12
-    returns-2)
+    tie.close (tie.spec digits-requires add-digits digits-requires-2 add-after sub-after add-t9 sub-t10 returns sub-t11 returns-2)

@@ -11,7 +11,7 @@ use Rattle.tokens.specs.declared.Power.the-variants.{Wrong}
 use Rattle.tokens.specs.Bytes.{isWord, isPoint}
 use Rattle.tokens.specs.Number.{digitsFrom}
 use Rattle.tokens.specs.Token.{numberAt}
-use Rattle.tokens.proofs.Numbers.{endOf, empty, through, tail-after, no-tail, after-short, down-small}
+use Rattle.tokens.proofs.Numbers.{endOf, empty, through, behind-digits, tail-after, no-tail, after-short, down-small}
 use Rattle.tokens.proofs.read_number.Statement.{statement}
 use Rattle.tokens.proofs.read_number.Tie as tie
 
@@ -49,12 +49,14 @@ abbrev stop-of : tie.After-e → ℕ
 stop-of k = k .e .given .0 .1 .1 .0
 
 -- the byte behind the number
-abbrev K : tie.After-is-tail → tie.After-e
-K w = w .before .before .before
+abbrev tail-of : tie.After-e → ℕ
+tail-of k = k .e .given .0 .1 .1 .1 .0
 
-told : {b : Bool} (w : tie.After-is-tail) → w .is-tail .result ≡ b
-    → (isWord (getD (S (M (X (K w)))) (stop-of (K w)) 0) || isPoint (getD (S (M (X (K w)))) (stop-of (K w)) 0)) ≡ b
-told w t = ap (λ (b : ℕ). isWord b || isPoint b) (sym (w .before .byte-at .ensures)) ∙ sym (w .is-tail .ensures) ∙ t
+abbrev K : tie.After-is-tail → tie.After-e
+K w = w .before .before
+
+told : {b : Bool} (w : tie.After-is-tail) → w .is-tail .result ≡ b → (isWord (tail-of (K w)) || isPoint (tail-of (K w))) ≡ b
+told w t = sym (w .is-tail .ensures) ∙ t
 
 read-mantissa-requires : tie.Need-read-mantissa-requires
 read-mantissa-requires c κs = search needs
@@ -66,7 +68,7 @@ returns : tie.Need-returns
 returns c = let m = c .before .before in c .bad .ensures ∙ empty (S m) (A m) (D m) (m .read-mantissa .ensures) (c .before .if1 .taken)
 
 read-exponent-requires : tie.Need-read-exponent-requires
-read-exponent-requires c κs = search needs
+read-exponent-requires c κs = let m = c .before in behind-digits (S m) (A m) (D m) (m .read-mantissa .ensures)
 
 enum-told : tie.Need-enum-told
 enum-told c = search needs
@@ -76,9 +78,6 @@ bad-requires-2 c κs = search needs
 
 enum-known-e : tie.Need-enum-known-e
 enum-known-e c = search needs
-
-byte-at-requires : tie.Need-byte-at-requires
-byte-at-requires c κs = search needs
 
 is-tail-requires : tie.Need-is-tail-requires
 is-tail-requires c κs = search needs
@@ -92,7 +91,7 @@ returns-2 c =
     let k = K w in
     let m = M (X k) in
     c .bad3 .ensures
-    ∙ tail-after (S m) (A m) (D m) (m .read-mantissa .ensures) (up-of k) (down-of k) (stop-of k) (told w (c .before .if2 .taken))
+    ∙ tail-after (S m) (A m) (D m) (m .read-mantissa .ensures) (up-of k) (down-of k) (stop-of k) (tail-of k) (told w (c .before .if2 .taken))
     ∙ found (X k) _ (k .e .given .1)
 
 add-scaled : tie.Need-add-scaled
@@ -103,7 +102,7 @@ add-scaled c =
     omega (
       arith,
       after-short (S m) (A m) (D m) (m .read-mantissa .ensures),
-      down-small (S m) (D m .end) (up-of k) (down-of k) (stop-of k) (sym (k .e .given .1) ∙ x .read-exponent .ensures),
+      down-small (S m) (D m .end) (up-of k) (down-of k) (stop-of k) (tail-of k) (sym (k .e .given .1) ∙ x .read-exponent .ensures),
       m .before .before .good,
     )
 
@@ -118,7 +117,7 @@ returns-4 c =
     let w = c .before .before .before in
     let k = K w in
     let m = M (X k) in
-    no-tail (S m) (A m) (D m) (m .read-mantissa .ensures) (up-of k) (down-of k) (stop-of k) (told w (c .before .before .if2 .left))
+    no-tail (S m) (A m) (D m) (m .read-mantissa .ensures) (up-of k) (down-of k) (stop-of k) (tail-of k) (told w (c .before .before .if2 .left))
     (c .scaled .result) (c .scaled .ensures)
     ∙ found (X k) _ (k .e .given .1)
 
@@ -133,7 +132,6 @@ read-number-spec =
     enum-told
     bad-requires-2
     enum-known-e
-    byte-at-requires
     is-tail-requires
     bad-requires-3
     returns-2
