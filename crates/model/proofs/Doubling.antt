@@ -14,7 +14,8 @@ use lib.Seq.{slice, slice-cons, take-suc, take-at, drop-at}
 use Rattle.laws.specs.Places.{gather, onlyIf}
 use Rattle.laws.specs.Counts.{count, has}
 use Rattle.laws.proofs.Tests.{cond-ind, bool-cases, eq-or-ne, lt-or-ge}
-use Rattle.laws.proofs.Gathers.{gather-add, gather-done, gather-same}
+use Rattle.laws.proofs.Bools.{or-false}
+use Rattle.laws.proofs.Gathers.{gather-add, gather-done, gather-none, gather-same}
 use Rattle.model.specs.Definitions.{placeIn}
 use Rattle.model.specs.Faults.{again, faultIf}
 use Rattle.model.specs.Places.{defines, begins, ends, definedAt, keysIn, placesIn, doubleAt, doubles}
@@ -87,6 +88,39 @@ module _ (keys : List ℕ) (d e : ℕ) where
   pub repeat-done : e ≤ d → repeats keys d e ≡ false
   unfolding again
   repeat-done h = rw (drop-of-length-le (take e keys) {i = d} (omega (arith, length-take e keys)))
+
+-- ---- where no key stands twice
+module _ (keys : List ℕ) where
+  -- each key stands first at its own place
+  none-at : (k d e : ℕ) → d + k ≡ e → e ≤ length keys → repeats keys d e ≡ false → (i : ℕ) → d ≤ i → i < e → ltb (placeIn (getD keys i 0) keys) i ≡ false
+  none-at zero d e q h z i a b = absurd (omega arith)
+  none-at (suc k) d e q h z i a b =
+      let both = or-false (ltb (placeIn (getD keys d 0) keys) d) (repeats keys (d + 1) e) (sym (repeat-step keys d e (omega arith) h) ∙ z) in
+      ⊎-elim (λ (s : i ≡ d). rw s (both .0)) (λ n. none-at k (d + 1) e (omega arith) h (both .1) i (omega arith) b) (eq-or-ne i d)
+
+  -- so no part has one again
+  none-part : (k a b : ℕ) → a + k ≡ b → b ≤ length keys → ((i : ℕ) → a ≤ i → i < b → ltb (placeIn (getD keys i 0) keys) i ≡ false) → repeats keys a b ≡ false
+  none-part zero a b q h f = repeat-done keys a b (omega arith)
+  none-part (suc k) a b q h f =
+      repeat-step keys a b (omega arith) h
+      ∙ rw (f a (omega arith) (omega arith)) (none-part k (a + 1) b (omega arith) h (λ i l m. f i (omega arith) m))
+
+  -- NO FAULT 21 stands
+  pub repeated-none : (lines bounds places : List ℕ) → length places ≤ length keys → repeats keys 0 (length places) ≡ false
+      → repeated lines bounds keys places ≡ []
+  repeated-none lines bounds places h z =
+      gather-none (repeatAt lines bounds keys places) (length lines) 0 (λ j _ _. ap (λ (t : Bool). faultIf t (getD lines j 0) 21) (at j))
+    where
+      first : (i : ℕ) → i < length places → ltb (placeIn (getD keys i 0) keys) i ≡ false
+      first i l = none-at (length places) 0 (length places) (omega arith) h z i (omega arith) l
+
+      at : (j : ℕ) → repeats keys (before (begins bounds j) places) (before (ends bounds j) places) ≡ false
+      at j =
+          let a = before (begins bounds j) places in
+          let b = before (ends bounds j) places in
+          let m = before-le (ends bounds j) places in
+          ⊎-elim (λ (l : a < b). none-part (b - a) a b (omega arith) (omega arith) (λ i _ k. first i (omega arith)))
+          (λ (l : b ≤ a). repeat-done keys a b l) (lt-or-ge a b)
 
 -- 21 stands once at a statement
 pub repeat-single : (lines bounds keys places : List ℕ) (j : ℕ) → length (repeatAt lines bounds keys places j) ≤ 1

@@ -38,7 +38,7 @@ fn is_repeated(keys: &[u64], hints: &[u8], links: &[u8], from: usize, end: usize
     false
 }
 
-// Writes the faults 21 to the front of the list; how many there are.
+// Writes the faults 21 to the front of the list; how many there are. Where no key stands twice, there is none.
 pub(crate) fn report_doubles(
     lines: &[u16],
     bounds: &[u16],
@@ -53,6 +53,9 @@ pub(crate) fn report_doubles(
     ensures { λ r. ⌜ Reported (repeated (now (lines .entry)) (now (bounds .entry)) (now (keys .entry)) (now (places .entry))) 0 r
         (now (faults .entry)) (now (faults .exit)) ⌝ }
 {
+    if !is_repeated(keys, hints, links, 0, places.len()) {
+        return 0;
+    }
     let mut d = passed(places, short_at(bounds, 0), 0);
     let mut count: usize = 0;
     let mut j = 0;

@@ -1,12 +1,15 @@
 -- Before statement j as many definitions are passed as stand before it.
 use Prim.Native.Nat.{_-_}
-use mathlib.Core.Path.{_≡_, ap, _∙_}
+use mathlib.Core.Path.{_≡_, sym, ap, _∙_}
 use native.Mathlib.Omega.{arith}
+use borrow.Author.Tests.{not-true}
 use borrow.Author.Needs.{needs}
 use lib.ListN.{length}
+use Rattle.laws.specs.Lists.{concat-map}
+use Rattle.sheet.specs.Sheet.{faultList}
 use Rattle.model.specs.Places.{begins}
 use Rattle.model.specs.Working.{before, repeatAt}
-use Rattle.model.proofs.Doubling.{before-le, before-later, repeat-single, repeat-found}
+use Rattle.model.proofs.Doubling.{before-le, before-later, repeat-single, repeat-found, repeated-none}
 use Rattle.model.proofs.Reporting.{Reports, reports-first, reports-next, reports-last}
 use Rattle.model.proofs.doubles.report_doubles.Statement.{statement}
 use Rattle.model.proofs.doubles.report_doubles.Tie as tie
@@ -18,6 +21,18 @@ Inv-loop lines bounds keys hints links places faults₀ d₀ count₀ j₀ fault
 abbrev μ-loop : tie.MeasureT-loop
 μ-loop lines bounds keys hints links places faults₀ d₀ count₀ j₀ faults d count j = length lines - j
 
+is-repeated-requires : tie.Need-is-repeated-requires Inv-loop μ-loop
+is-repeated-requires c κs = let s = c .before .before .before .before .before .before .before .pre in (s .0, s .1)
+
+returns : tie.Need-returns Inv-loop μ-loop
+unfolding faultList concat-map
+returns c =
+    let s = c .before .before .before .before .before .before .before .before .before in
+    let a = s .args in
+    let e = repeated-none (a .keys .now) (a .lines .now) (a .bounds .now) (a .places .now) (s .pre .1)
+    (sym (c .before .is-repeated .ensures) ∙ not-true _ (c .if1 .taken)) in
+    record { behind = rw e; content = rw e }
+
 short-at-requires : tie.Need-short-at-requires Inv-loop μ-loop
 short-at-requires c κs = search needs
 
@@ -26,7 +41,7 @@ passed-requires c κs = omega arith
 
 loop-holds : tie.Need-loop-holds Inv-loop μ-loop
 loop-holds c =
-    let s = c .before .before .before .before .before .before .before .before .before .args in
+    let s = c .before .before .before .before .before .before .before .before .before .before .before .args in
     let first = c .passed .ensures ∙ ap (λ b. before b (s .places .now)) (c .before .short-at .ensures .0) in
     let one = repeat-single (s .lines .now) (s .bounds .now) (s .keys .now) (s .places .now) in
     (first, reports-first (repeatAt (s .lines .now) (s .bounds .now) (s .keys .now) (s .places .now)) (length (s .lines .now)) (s .faults .now) one)
@@ -40,7 +55,7 @@ short-at-requires-2 c κs = search needs
 passed-requires-2 : tie.Need-passed-requires-2 Inv-loop μ-loop
 passed-requires-2 c κs =
     let at = c .before .before in
-    let s = at .before .before .before .before .before .before .before .before .before .before in
+    let s = at .before .before .before .before .before .before .before .before .before .before .before .before in
     let j = at .loop .j in
     let rise = s .pre .2 .rise j (c .before .loop-test .taken) in
     omega (
@@ -50,9 +65,9 @@ passed-requires-2 c κs =
           (omega (arith, rise, c .short-at2 .ensures .0)),
     )
 
-is-repeated-requires : tie.Need-is-repeated-requires Inv-loop μ-loop
-is-repeated-requires c κs =
-    let s = c .before .before .before .before .before .before .before .before .before .before .before .before .before in
+is-repeated-requires-2 : tie.Need-is-repeated-requires-2 Inv-loop μ-loop
+is-repeated-requires-2 c κs =
+    let s = c .before .before .before .before .before .before .before .before .before .before .before .before .before .before .before in
     (s .pre .0, omega (arith, c .passed2 .ensures, before-le (c .before .short-at2 .result) (s .args .places .now), s .pre .1))
 
 short-at-requires-3 : tie.Need-short-at-requires-3 Inv-loop μ-loop
@@ -61,7 +76,7 @@ short-at-requires-3 c κs = search needs
 put-fault-requires : tie.Need-put-fault-requires Inv-loop μ-loop
 put-fault-requires c κs =
     let at = c .before .before .before .before .before .before in
-    let s = at .before .before .before .before .before .before .before .before .before .before in
+    let s = at .before .before .before .before .before .before .before .before .before .before .before .before in
     (c .before .short-at3 .ensures .1, omega (arith, at .loop .inv .1 .few, at .loop .inv .1 .within, s .pre .3))
 
 add-j : tie.Need-add-j Inv-loop μ-loop
@@ -78,10 +93,10 @@ loop-again c =
     let passed = again .before in
     let test = passed .before .before in
     let at = test .before in
-    let s = at .before .before .before .before .before .before .before .before .before .before .args in
+    let s = at .before .before .before .before .before .before .before .before .before .before .before .before .args in
     let bound = passed .before .short-at2 .ensures .0 in
     let found = repeat-found (s .lines .now) (s .bounds .now) (s .keys .now) (s .places .now) (at .loop .j)
-    (again .is-repeated .ensures) (at .loop .inv .0) (passed .passed2 .ensures) bound (line .short-at3 .ensures .0) in (
+    (again .is-repeated2 .ensures) (at .loop .inv .0) (passed .passed2 .ensures) bound (line .short-at3 .ensures .0) in (
       passed .passed2 .ensures ∙ ap (λ b. before b (s .places .now)) bound,
       reports-next (at .loop .inv .1) (test .loop-test .taken) found (put .put-fault .ensures),
     )
@@ -89,8 +104,8 @@ loop-again c =
 same-length : tie.Need-same-length Inv-loop μ-loop
 same-length c = c .before .loop .inv .1 .long
 
-returns : tie.Need-returns Inv-loop μ-loop
-returns c = reports-last (c .before .loop .inv .1) (c .loop-test .left)
+returns-2 : tie.Need-returns-2 Inv-loop μ-loop
+returns-2 c = reports-last (c .before .loop .inv .1) (c .loop-test .left)
 
 pub report-doubles-spec : {M : Type 1} → statement M
 report-doubles-spec =
@@ -98,17 +113,19 @@ report-doubles-spec =
     (tie.spec
     Inv-loop
     μ-loop
+    is-repeated-requires
+    returns
     short-at-requires
     passed-requires
     loop-holds
     add-short-at
     short-at-requires-2
     passed-requires-2
-    is-repeated-requires
+    is-repeated-requires-2
     short-at-requires-3
     put-fault-requires
     add-j
     loop-less
     loop-again
     same-length
-    returns)
+    returns-2)
