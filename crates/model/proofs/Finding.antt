@@ -79,7 +79,7 @@ next-ahead keys b (suc n) i h = go (eqb (getD keys i 0 % buckets) b) (next-ahead
     go true r p = omega arith
     go false r p = omega (arith, r p)
 
--- ---- a key sought: h is 0 and it stands nowhere, or it is the key at h - 1 or one behind it, and that one has its remainder
+-- ---- a key sought: with h = 0 it stands nowhere; else the key at h - 1 has its remainder, and it does not stand before that
 pub record Sought (keys : List ℕ) (key h : ℕ) : Type 0 where
   pub within : h ≤ length keys
   pub none : h ≡ 0 → placeIn key keys ≡ length keys

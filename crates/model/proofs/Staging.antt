@@ -25,8 +25,9 @@ use Rattle.order.specs.declared.Sorted.the-variants.{Placed, Unfit}
 use Rattle.order.proofs.Tables.{fits-iff}
 use Rattle.model.specs.Places.{begins, ends, anyOf, keysIn, placesIn, doubles, resolvedAt, resolved, undefinedAt, unfitAt, namesAt, nameless}
 use Rattle.model.specs.Places.{isEquation, equationRows, assignedSlots, usedIn, startsFrom, loops}
-use Rattle.model.specs.Plan.{Outcome, outcome, held, refused, faulted, some, falls, inTurn, fit, closed, ordered, named, distinct, sheeted, planned}
-use Rattle.model.specs.Working.{Put, Reported, Collected, Keyed, flawedAt, Resolved, Sound, Holds, Rises, Slotted, Tabled, repeated}
+use Rattle.model.specs.Plan.{Lent, lent, withPlaces, Outcome, outcome, refused, faulted, some, falls, inTurn, roomy, fit}
+use Rattle.model.specs.Plan.{closed, weighed, ordered, named, distinct, sheeted, planned}
+use Rattle.model.specs.Working.{Put, Reported, Collected, Keyed, flawedAt, Resolved, Sound, Holds, Wide, Rises, Slotted, Tabled, repeated}
 use Rattle.model.specs.declared.answer.Plan.{Plan}
 use Rattle.model.specs.Definitions.{placeIn}
 use Rattle.model.proofs.Collecting.{only-length}
@@ -44,24 +45,29 @@ front-row array l h = rw (sets-eq l array 0 (omega arith)) (take-append-seam l (
 pub prefix-length : (n : ℕ) (l : List ℕ) → n ≤ length l → n ≡ length (take n l)
 prefix-length n l h = sym (length-take-le n l h)
 
-pub holds-put : {row array : List ℕ} {n : ℕ} → Put row 0 n (replicate mostStatements 0) array → n ≤ mostStatements → Holds array n row
-holds-put p h = record { long = omega (arith, p .behind); within = h; same = p .content }
+pub holds-put : {row array array′ : List ℕ} {n : ℕ} → Put row 0 n array array′ → n ≤ mostStatements → mostStatements ≤ length array
+    → Holds array′ n row
+holds-put {row} {array} {array′} {n} p h w =
+    let l : n ≡ length row = omega (arith, p .behind) in
+    record {
+      long = l;
+      within = h;
+      room = omega (arith, ap length (p .content), length-sets array 0 row);
+      front = rw (p .content, l) (front-row array row (omega arith));
+    }
 
 module _ {array row : List ℕ} {n : ℕ} (h : Holds array n row) where
-  pub holds-row : take n array ≡ row
-  holds-row =
-      let l = length-replicate {A = ℕ} mostStatements 0 in
-      rw (h .same, h .long) (front-row (replicate mostStatements 0) row (omega (arith, h .long, h .within)))
-
-  pub holds-room : n ≤ length array
-  holds-room = omega (arith, h .within, ap length (h .same), front-length mostStatements row)
-
   -- the front is itself a row that is held
   pub holds-front : Holds array n (take n array)
-  holds-front = rw holds-row h
+  holds-front = rw (h .front) h
 
   pub holds-few : length (take n array) ≤ mostStatements
   holds-few = omega (arith, holds-front .long, h .within)
+
+-- ---- an outcome by its parts
+outcome-same : {p q : Plan} {list list′ : List ℕ} {l l′ : Lent} (args used : List ℕ) → p ≡ q → list ≡ list′ → l ≡ l′
+    → outcome p args used list l ≡ outcome q args used list′ l′
+outcome-same args used a b e = cc
 
 or-false : (a b : Bool) → (a || b) ≡ false → (a ≡ false) × (b ≡ false)
 or-false true b e = absurd (not-both refl e)
@@ -74,11 +80,11 @@ no-faults (f ∷ fs) e = absurd (let z : ⊥ = omega arith in z)
 
 module _ {fs : List Fault} {c : ℕ} {list list′ : List ℕ} (v : Reported fs 0 c list list′) where
   -- faults stand
-  pub faults-stand : {p : Plan} (args used : List ℕ) (rest : Outcome) → 0 < c → p ≡ refused 7 c
-      → outcome p args used list′ ≡ cond (some fs) (faulted fs args used list) rest
-  faults-stand args used rest h e =
+  pub faults-stand : {p : Plan} (args used : List ℕ) (l : Lent) (rest : Outcome) → 0 < c → p ≡ refused 7 c
+      → outcome p args used list′ l ≡ cond (some fs) (faulted fs args used list l) rest
+  faults-stand args used l rest h e =
       let n : c ≡ length fs = omega (arith, v .behind) in
-      rw (lt-ltb 0 (length fs) (omega arith)) (ap₂ (λ (q : Plan) (l : List ℕ). outcome q args used l) (e ∙ ap (refused 7) n) (v .content))
+      rw (lt-ltb 0 (length fs) (omega arith)) (outcome-same args used (e ∙ ap (refused 7) n) (v .content) refl)
 
   -- none stands, and nothing is written
   pub faults-none : c ≤ 0 → (list′ ≡ list) × (some fs ≡ false)
@@ -88,50 +94,52 @@ module _ {fs : List Fault} {c : ℕ} {list list′ : List ℕ} (v : Reported fs 
       (v .content ∙ ap (λ (gs : List Fault). sets list 0 (faultList gs)) (no-faults fs n), le-ltb 0 (length fs) (omega arith))
 
 -- ---- 24
-module _ {m : ℕ} {starts used lent out : List ℕ} {r : Sorted} (v : Sorts m starts used lent out r) (f : Fit m starts used) (h : m ≤ length lent) where
-  fitting : fits m starts used (length lent) ≡ true
-  fitting = fits-iff m starts used (length lent) .1 (f, h)
+module _ {m : ℕ} {starts used array out : List ℕ} {r : Sorted} (v : Sorts m starts used array out r) (f : Fit m starts used)
+    (w : mostStatements ≤ length array) where
+  abbrev inOrder : List ℕ
+  inOrder = order m (usesIn starts used)
+
+  sorts-room : m ≤ length array
+  sorts-room = omega (arith, f .few)
+
+  fitting : fits m starts used (length array) ≡ true
+  fitting = fits-iff m starts used (length array) .1 (f, sorts-room)
 
   -- a table that fits is sorted
   pub sorts-fit : r ≡ Unfit → ⊥
-  sorts-fit e = let a = v .answer in let p : r ≡ Placed (length (order m (usesIn starts used))) = rw fitting at a in let z : _≡_ {A = ℕ} 0 1 = cc in omega arith
+  sorts-fit e = let a = v .answer in let p : r ≡ Placed (length inOrder) = rw fitting at a in let z : _≡_ {A = ℕ} 0 1 = cc in omega arith
 
-  sorts-count : {k : ℕ} → r ≡ Placed k → k ≡ length (order m (usesIn starts used))
-  sorts-count e = let a = v .answer in let p : r ≡ Placed (length (order m (usesIn starts used))) = rw fitting at a in cc
+  sorts-count : {k : ℕ} → r ≡ Placed k → k ≡ length inOrder
+  sorts-count e = let a = v .answer in let p : r ≡ Placed (length inOrder) = rw fitting at a in cc
 
-  sorts-content : out ≡ sets lent 0 (order m (usesIn starts used))
+  sorts-content : out ≡ sets array 0 inOrder
   sorts-content = let a = v .content in rw fitting at a
 
-  pub sorts-long : length out ≡ length lent
-  sorts-long = ap length sorts-content ∙ length-sets lent 0 (order m (usesIn starts used))
+  pub sorts-long : length out ≡ length array
+  sorts-long = ap length sorts-content ∙ length-sets array 0 inOrder
 
   -- fewer are placed than there are
-  pub sorts-short : {rows faults faults′ : List ℕ} {k c : ℕ} {p : Plan} (places lines : List ℕ) → r ≡ Placed k → k < m → Holds rows m (take m rows)
-      → Reported (loops (take k out) (take m rows) lines) 0 c faults faults′ → p ≡ refused 7 c → (slots filled : List ℕ)
-      → outcome p slots filled faults′ ≡ closed (order m (usesIn starts used)) places (take m rows) lines slots filled faults
+  pub sorts-short : {rows faults faults′ : List ℕ} {k c : ℕ} {p : Plan} (n : ℕ) (lines : List ℕ) → r ≡ Placed k → k < m → Holds rows m (take m rows)
+      → Reported (loops (take k out) (take m rows) lines) 0 c faults faults′ → p ≡ refused 7 c → (slots filled places : List ℕ)
+      → outcome p slots filled faults′ (lent places rows out) ≡ closed inOrder n (take m rows) lines slots filled faults (lent places rows array)
   unfolding closed
-  sorts-short {rows} {faults} {faults′} {k} {c} places lines e l q v z slots filled =
-      let placed = order m (usesIn starts used) in
-      let front : take k out ≡ placed = rw (sorts-content, sorts-count e) (front-row lent placed (omega (arith, sorts-count e))) in
-      let w : Reported (loops placed (take m rows) lines) 0 c faults faults′ = rw front at v in
-      let n : c ≡ length (loops placed (take m rows) lines) = omega (arith, w .behind) in
-      rw (lt-ltb (length placed) (length (take m rows)) (omega (arith, q .long, sorts-count e)))
-      (ap₂ (λ (a : Plan) (b : List ℕ). outcome a slots filled b) (z ∙ ap (refused 7) n) (w .content))
+  sorts-short {rows} {faults} {faults′} {k} {c} n lines e l q u z slots filled places =
+      let front : take k out ≡ inOrder = rw (sorts-content, sorts-count e) (front-row array inOrder (omega (arith, sorts-room, sorts-count e))) in
+      let told : Reported (loops inOrder (take m rows) lines) 0 c faults faults′ = rw front at u in
+      let count : c ≡ length (loops inOrder (take m rows) lines) = omega (arith, told .behind) in
+      rw (lt-ltb (length inOrder) (length (take m rows)) (omega (arith, q .long, sorts-count e)))
+      (outcome-same slots filled (z ∙ ap (refused 7) count) (told .content) (ap (lent places rows) sorts-content))
 
   -- all are placed
-  pub sorts-whole : {places rows : List ℕ} {k n : ℕ} (lines faults : List ℕ) → lent ≡ replicate mostStatements 0 → r ≡ Placed k → m ≤ k
-      → Holds places n (take n places) → Holds rows m (take m rows) → (slots filled : List ℕ)
-      → outcome (record { number = 0; count = 0; definitions = n; equations = m; places = places; rows = rows; order = out }) slots filled faults
-      ≡ closed (order m (usesIn starts used)) (take n places) (take m rows) lines slots filled faults
+  pub sorts-whole : {rows : List ℕ} {k : ℕ} (n : ℕ) (lines faults : List ℕ) → r ≡ Placed k → m ≤ k → Holds rows m (take m rows)
+      → (slots filled places : List ℕ)
+      → outcome (record { number = 0; count = 0; definitions = n; equations = m }) slots filled faults (lent places rows out)
+      ≡ closed inOrder n (take m rows) lines slots filled faults (lent places rows array)
   unfolding closed
-  sorts-whole {places} {rows} {k} {n} lines faults z e l p q slots filled =
-      let placed = order m (usesIn starts used) in
-      let o : out ≡ held placed = sorts-content ∙ ap (λ (a : List ℕ). sets a 0 placed) z in
-      let l₁ = p .long in
-      let l₂ = q .long in
-      let s₁ = p .same in
-      let s₂ = q .same in
-      rw (le-ltb (length placed) (length (take m rows)) (omega (arith, sorts-count e))) cc
+  sorts-whole {rows} n lines faults e l q slots filled places =
+      rw (le-ltb (length inOrder) (length (take m rows)) (omega (arith, q .long, sorts-count e)))
+      (outcome-same slots filled (ap (λ (b : ℕ). record { number = 0; count = 0; definitions = n; equations = b }) (q .long)) refl
+      (ap (lent places rows) sorts-content))
 
 -- ---- the table of uses
 module _ {lines bounds kinds used rows : List ℕ} {m : ℕ} (slots : List ℕ) (s : Sound lines bounds kinds used)
@@ -147,11 +155,11 @@ module _ {lines bounds kinds used rows : List ℕ} {m : ℕ} (slots : List ℕ) 
   few = omega (arith, used-few own bounds kinds slots (length lines) (s .rises), s .whole)
 
   pub few-used : length (usedIn (assignedSlots (take m rows) bounds kinds slots) bounds kinds slots (take m rows)) < 65536
-  few-used = rw (holds-row h) (omega (arith, few, s .small))
+  few-used = rw (h .front) (omega (arith, few, s .small))
 
   module _ {starts used′ : List ℕ} {w : ℕ} (t : Tabled (take m rows) bounds kinds slots w (replicate (mostStatements + 1) 0) starts used used′) where
     tabled : Tabled listed bounds kinds slots w (replicate (mostStatements + 1) 0) starts used used′
-    tabled = rw (holds-row h) at t
+    tabled = rw (h .front) at t
 
     starts-long : m + 1 ≡ length (startsFrom 0 own bounds kinds slots listed)
     starts-long = omega (arith, starts-length own bounds kinds slots 0 listed, h .long)
@@ -185,17 +193,32 @@ module _ {lines bounds kinds used rows : List ℕ} {m : ℕ} (slots : List ℕ) 
     pub weighed-fit : Fit m (take (m + 1) starts) (take w used′)
     weighed-fit = rw (starts-row, used-row, h .long) (table-fit listed bounds kinds slots (omega (arith, h .within, h .long)))
 
-    pub weighed : {p : Plan} {places faults′ : List ℕ} {n : ℕ} (faults : List ℕ) → Holds places n (placesIn kinds)
-        → ((slots filled : List ℕ)
-        → outcome p slots filled faults′
-        ≡ closed (order m (usesIn (take (m + 1) starts) (take w used′))) (take n places) (take m rows) lines slots filled faults)
-        → outcome p slots used′ faults′ ≡ ordered (placesIn kinds) lines bounds kinds slots used faults
-    unfolding ordered
-    weighed {p} {places} {faults′} {n} faults q e = e slots used′ ∙ same
+    pub weighed-by : {p : Plan} {faults′ placed′ : List ℕ} (n : ℕ) (faults placed : List ℕ)
+        → ((slots filled places : List ℕ)
+        → outcome p slots filled faults′ (lent places rows placed′)
+        ≡ closed (order m (usesIn (take (m + 1) starts) (take w used′))) n (take m rows) lines slots filled faults (lent places rows placed))
+        → (places : List ℕ)
+        → outcome p slots used′ faults′ (lent places rows placed′)
+        ≡ weighed listed n lines bounds kinds slots used faults (lent places rows placed)
+    unfolding weighed
+    weighed-by n faults placed e places = e slots used′ places ∙ same
       where
-        same : closed (order m (usesIn (take (m + 1) starts) (take w used′))) (take n places) (take m rows) lines slots used′ faults
-            ≡ ordered (placesIn kinds) lines bounds kinds slots used faults
-        same = rw (starts-row, used-row, holds-row q, holds-row h, tabled .uses .content, h .long)
+        same : closed (order m (usesIn (take (m + 1) starts) (take w used′))) n (take m rows) lines slots used′ faults (lent places rows placed)
+            ≡ weighed listed n lines bounds kinds slots used faults (lent places rows placed)
+        same = rw (starts-row, used-row, h .front, tabled .uses .content, h .long)
+
+-- the equations written first
+pub ordered-by : {p : Plan} {slots used′ faults′ rows rows′ placed′ : List ℕ} {m : ℕ} (n : ℕ) (lines bounds kinds used faults placed : List ℕ)
+    → Put (equationRows (length lines) bounds kinds) 0 m rows rows′
+    → ((places : List ℕ)
+    → outcome p slots used′ faults′ (lent places rows′ placed′)
+    ≡ weighed (equationRows (length lines) bounds kinds) n lines bounds kinds slots used faults (lent places rows′ placed))
+    → (places : List ℕ)
+    → outcome p slots used′ faults′ (lent places rows′ placed′) ≡ ordered n lines bounds kinds slots used faults (lent places rows placed)
+unfolding ordered
+ordered-by {p} {slots} n lines bounds kinds used faults placed put e places =
+    e places
+    ∙ ap (λ (l : List ℕ). weighed (equationRows (length lines) bounds kinds) n lines bounds kinds slots used faults (lent places l placed)) (put .content)
 
 -- the equations are no more than the statements
 pub rows-few : (n : ℕ) (bounds kinds : List ℕ) → length (equationRows n bounds kinds) ≤ n
@@ -204,22 +227,23 @@ rows-few n bounds kinds =
     gather-short (λ j. onlyIf (isEquation bounds kinds j) j) (λ j. only-length (isEquation bounds kinds j) j) n 0
 
 -- ---- 22 and 23
-module _ {places faults faults′ : List ℕ} {n c : ℕ} (lines bounds kinds slots used : List ℕ) (q : Holds places n (placesIn kinds))
+module _ {places faults faults′ : List ℕ} {n c : ℕ} (lines bounds kinds slots used : List ℕ) (l : Lent) (q : Holds places n (placesIn kinds))
     (v : Reported (nameless (take n places) lines bounds kinds slots) 0 c faults faults′) where
   reported : Reported (nameless (placesIn kinds) lines bounds kinds slots) 0 c faults faults′
-  reported = rw (holds-row q) at v
+  reported = rw (q .front) at v
 
-  pub named-fault : {p : Plan} → 0 < c → p ≡ refused 7 c → outcome p slots used faults′ ≡ named (placesIn kinds) lines bounds kinds slots used faults
+  pub named-fault : {p : Plan} → 0 < c → p ≡ refused 7 c
+      → outcome p slots used faults′ l ≡ named (placesIn kinds) lines bounds kinds slots used faults l
   unfolding named
-  named-fault h e = faults-stand reported slots used (ordered (placesIn kinds) lines bounds kinds slots used faults) h e
+  named-fault h e = faults-stand reported slots used l (ordered (length (placesIn kinds)) lines bounds kinds slots used faults l) h e
 
-  pub named-none : {p : Plan} {used′ faults″ : List ℕ} → c ≤ 0
-      → outcome p slots used′ faults″ ≡ ordered (placesIn kinds) lines bounds kinds slots used faults′
-      → outcome p slots used′ faults″ ≡ named (placesIn kinds) lines bounds kinds slots used faults
+  pub named-none : {p : Plan} {used′ faults″ : List ℕ} {l′ : Lent} → c ≤ 0
+      → outcome p slots used′ faults″ l′ ≡ ordered n lines bounds kinds slots used faults′ l
+      → outcome p slots used′ faults″ l′ ≡ named (placesIn kinds) lines bounds kinds slots used faults l
   unfolding named
   named-none h e =
       let f = faults-none reported h in
-      rw (f .1) (e ∙ ap (ordered (placesIn kinds) lines bounds kinds slots used) (f .0))
+      rw (f .1) (e ∙ ap₂ (λ (k : ℕ) (list : List ℕ). ordered k lines bounds kinds slots used list l) (q .long) (f .0))
 
 -- ---- a name in an expression has a slot
 resolved-at : (keys kinds args : List ℕ) (i : ℕ) → i < length kinds → length kinds ≤ length args
@@ -283,9 +307,10 @@ module _ {lines bounds kinds used : List ℕ} (s : Sound lines bounds kinds used
       none-any (unfitAt places kinds slots) _ (begins bounds j) (λ i a l. none-at i (omega arith) .1) in
       rw (undefined, unfit))
 
-  pub named-clear : (faults : List ℕ) → ordered places lines bounds kinds slots used faults ≡ named places lines bounds kinds slots used faults
+  pub named-clear : (faults : List ℕ) (l : Lent)
+      → ordered (length places) lines bounds kinds slots used faults l ≡ named places lines bounds kinds slots used faults l
   unfolding named
-  named-clear faults = rw nameless-none
+  named-clear faults l = rw nameless-none
 
 module _ {lines bounds kinds args used keys places : List ℕ} {n : ℕ} (k : Keyed lines bounds kinds args used keys places n) where
   -- fewer keys than 256, as many as places
@@ -297,45 +322,47 @@ module _ {lines bounds kinds args used keys places : List ℕ} {n : ℕ} (k : Ke
     pub keyed-slotted : Slotted kinds slots
     keyed-slotted = slotted keys kinds args (omega (arith, keyed-count, k .few)) (k .wide) (r .same)
 
-    pub settled : {p : Plan} {used′ faults′ : List ℕ} (faults : List ℕ)
-        → outcome p slots used′ faults′ ≡ named (placesIn kinds) lines bounds kinds slots used faults
-        → outcome p slots used′ faults′ ≡ named (placesIn kinds) lines bounds kinds (resolved (keysIn kinds args) kinds args) used faults
-    settled faults e =
-        e
-        ∙ ap (λ (l : List ℕ). named (placesIn kinds) lines bounds kinds l used faults) (r .same ∙ ap (λ (l : List ℕ). resolved l kinds args) (k .named))
+    pub settled : {p : Plan} {used′ faults′ : List ℕ} {l′ : Lent} (faults : List ℕ) (l : Lent)
+        → outcome p slots used′ faults′ l′ ≡ named (placesIn kinds) lines bounds kinds slots used faults l
+        → outcome p slots used′ faults′ l′ ≡ named (placesIn kinds) lines bounds kinds (resolved (keysIn kinds args) kinds args) used faults l
+    settled faults l e =
+        let same : slots ≡ resolved (keysIn kinds args) kinds args = r .same ∙ ap (λ (a : List ℕ). resolved a kinds args) (k .named) in
+        e ∙ ap (λ (a : List ℕ). named (placesIn kinds) lines bounds kinds a used faults l) same
 
-    pub settled-clear : {p : Plan} {used′ faults′ : List ℕ} (faults : List ℕ) → flawed ≡ false
-        → outcome p slots used′ faults′ ≡ ordered (placesIn kinds) lines bounds kinds slots used faults
-        → outcome p slots used′ faults′ ≡ named (placesIn kinds) lines bounds kinds (resolved (keysIn kinds args) kinds args) used faults
-    settled-clear faults z e =
-        let row = holds-row (k .placed) in
+    pub settled-clear : {p : Plan} {used′ faults′ : List ℕ} {l′ : Lent} (faults : List ℕ) (l : Lent) → flawed ≡ false
+        → outcome p slots used′ faults′ l′ ≡ ordered n lines bounds kinds slots used faults l
+        → outcome p slots used′ faults′ l′ ≡ named (placesIn kinds) lines bounds kinds (resolved (keysIn kinds args) kinds args) used faults l
+    settled-clear faults l z e =
         let clear : anyIn (flawedAt (placesIn kinds) kinds slots) (length kinds) 0 ≡ false =
-        ap (λ (l : List ℕ). anyIn (flawedAt l kinds slots) (length kinds) 0) (sym row) ∙ sym (r .found) ∙ z in
-        settled faults (e ∙ named-clear (k .sound) (placesIn kinds) slots clear faults)
+        ap (λ (a : List ℕ). anyIn (flawedAt a kinds slots) (length kinds) 0) (sym (k .placed .front)) ∙ sym (r .found) ∙ z in
+        let count = ap (λ (b : ℕ). ordered b lines bounds kinds slots used faults l) (k .placed .long) in
+        settled faults l (e ∙ count ∙ named-clear (k .sound) (placesIn kinds) slots clear faults l)
 
   module _ {faults faults′ : List ℕ} {c : ℕ} (v : Reported (repeated lines bounds keys (take n places)) 0 c faults faults′) where
     doubled : Reported (doubles lines bounds kinds args) 0 c faults faults′
     doubled =
         let s = k .sound in
         let same : repeated lines bounds keys (take n places) ≡ doubles lines bounds kinds args =
-        ap₂ (repeated lines bounds) (k .named) (holds-row (k .placed)) ∙ repeated-doubles kinds args lines bounds (s .rises) (ends-within s) in
+        ap₂ (repeated lines bounds) (k .named) (k .placed .front) ∙ repeated-doubles kinds args lines bounds (s .rises) (ends-within s) in
         rw same at v
 
-    pub distinct-fault : {p : Plan} → 0 < c → p ≡ refused 7 c → outcome p args used faults′ ≡ distinct lines bounds kinds args used faults
+    pub distinct-fault : {p : Plan} (l : Lent) → 0 < c → p ≡ refused 7 c
+        → outcome p args used faults′ l ≡ distinct lines bounds kinds args used faults l
     unfolding distinct
-    distinct-fault h e =
-        faults-stand doubled args used (named (placesIn kinds) lines bounds kinds (resolved (keysIn kinds args) kinds args) used faults) h e
+    distinct-fault l h e =
+        faults-stand doubled args used l (named (placesIn kinds) lines bounds kinds (resolved (keysIn kinds args) kinds args) used faults l) h e
 
-    pub distinct-none : {p : Plan} {slots used′ faults″ : List ℕ} → c ≤ 0
-        → outcome p slots used′ faults″ ≡ named (placesIn kinds) lines bounds kinds (resolved (keysIn kinds args) kinds args) used faults′
-        → outcome p slots used′ faults″ ≡ distinct lines bounds kinds args used faults
+    pub distinct-none : {p : Plan} {slots used′ faults″ : List ℕ} {l′ : Lent} (l : Lent) → c ≤ 0
+        → outcome p slots used′ faults″ l′ ≡ named (placesIn kinds) lines bounds kinds (resolved (keysIn kinds args) kinds args) used faults′ l
+        → outcome p slots used′ faults″ l′ ≡ distinct lines bounds kinds args used faults l
     unfolding distinct
-    distinct-none h e =
+    distinct-none l h e =
         let f = faults-none doubled h in
-        rw (f .1) (e ∙ ap (named (placesIn kinds) lines bounds kinds (resolved (keysIn kinds args) kinds args) used) (f .0))
+        let same = ap (λ (a : List ℕ). named (placesIn kinds) lines bounds kinds (resolved (keysIn kinds args) kinds args) used a l) (f .0) in
+        rw (f .1) (e ∙ same)
 
 -- ---- the definitions
-module _ {kinds args keys places : List ℕ} {n : ℕ} (v : Collected kinds args n (replicate mostStatements 0) keys (replicate mostStatements 0) places) where
+module _ {kinds args keys places places′ : List ℕ} {n : ℕ} (v : Collected kinds args n (replicate mostStatements 0) keys places places′) where
   counted : n ≡ length (keysIn kinds args)
   counted = omega (arith, v .named .behind)
 
@@ -350,34 +377,46 @@ module _ {kinds args keys places : List ℕ} {n : ℕ} (v : Collected kinds args
       let l = length-replicate {A = ℕ} mostStatements 0 in
       rw (v .named .content, counted) (front-row (replicate mostStatements 0) (keysIn kinds args) (omega (arith, counted)))
 
-  pub keyed : {lines bounds used : List ℕ} → Sound lines bounds kinds used → length kinds ≤ length args → n ≤ mostDefinitions
-      → Keyed lines bounds kinds args used (take n keys) places n
-  keyed s w h = record { sound = s; wide = w; few = h; named = keys-row h; placed = holds-put (v .placed) (omega arith) }
+  pub keyed : {lines bounds used : List ℕ} → Sound lines bounds kinds used → length kinds ≤ length args → mostStatements ≤ length places
+      → n ≤ mostDefinitions → Keyed lines bounds kinds args used (take n keys) places′ n
+  keyed s w r h = record { sound = s; wide = w; few = h; named = keys-row h; placed = holds-put (v .placed) (omega arith) r }
 
-  module _ {p : Plan} (lines bounds used faults : List ℕ) where
-    pub sheeted-many : mostDefinitions < n → p ≡ refused 6 0 → outcome p args used faults ≡ sheeted lines bounds kinds args used faults
+  -- the places are written
+  arrays : (rows order : List ℕ) → lent places′ rows order ≡ withPlaces (placesIn kinds) (lent places rows order)
+  arrays rows order = ap (λ (a : List ℕ). lent a rows order) (v .placed .content)
+
+  module _ {p : Plan} (lines bounds used faults rows order : List ℕ) where
+    pub sheeted-many : mostDefinitions < n → p ≡ refused 6 0
+        → outcome p args used faults (lent places′ rows order) ≡ sheeted lines bounds kinds args used faults (lent places rows order)
     unfolding sheeted
     sheeted-many h e =
-        rw (lt-ltb mostDefinitions (length (keysIn kinds args)) (omega (arith, counted))) (ap (λ (q : Plan). outcome q args used faults) e)
+        rw (lt-ltb mostDefinitions (length (keysIn kinds args)) (omega (arith, counted))) (outcome-same args used e refl (arrays rows order))
 
-    pub sheeted-few : {args′ used′ faults′ : List ℕ} → n ≤ mostDefinitions → outcome p args′ used′ faults′ ≡ distinct lines bounds kinds args used faults
-        → outcome p args′ used′ faults′ ≡ sheeted lines bounds kinds args used faults
+    pub sheeted-few : {args′ used′ faults′ : List ℕ} {l′ : Lent} → n ≤ mostDefinitions
+        → outcome p args′ used′ faults′ l′ ≡ distinct lines bounds kinds args used faults (lent places′ rows order)
+        → outcome p args′ used′ faults′ l′ ≡ sheeted lines bounds kinds args used faults (lent places rows order)
     unfolding sheeted
-    sheeted-few h e = rw (le-ltb mostDefinitions (length (keysIn kinds args)) (omega (arith, counted))) e
+    sheeted-few h e =
+        rw (le-ltb mostDefinitions (length (keysIn kinds args)) (omega (arith, counted)))
+        (e ∙ ap (distinct lines bounds kinds args used faults) (arrays rows order))
 
 -- ---- the arrays fit, or they do not
-pub fit-sound : (lines bounds kinds used : List ℕ) (args faults : ℕ) → fit lines bounds kinds args (length used) faults ≡ true
-    → Sound lines bounds kinds used × (length kinds ≤ args)
-unfolding fit inTurn
-fit-sound lines bounds kinds used args faults e =
+pub fit-sound : (lines bounds kinds used rows order : List ℕ) (args faults places : ℕ)
+    → fit lines bounds kinds args (length used) faults places (length rows) (length order) ≡ true
+    → Sound lines bounds kinds used × (length kinds ≤ args) × (mostStatements ≤ places) × Wide rows order
+unfolding fit roomy inTurn
+fit-sound lines bounds kinds used rows order args faults places e =
     let a = and-true (leb (length lines) mostStatements) _ e in
     let b = and-true (eqb (length bounds) (length lines + 1)) _ (a .1) in
     let c = and-true (leb (length kinds) textBytes) _ (b .1) in
     let d = and-true (leb (length kinds) args) _ (c .1) in
     let f = and-true (leb (length kinds) (length used)) _ (d .1) in
     let g = and-true (leb (faultBytes * length lines) faults) _ (f .1) in
-    let i = and-true (eqb (begins bounds 0) 0) _ (g .1) in
+    let w = and-true (roomy places (length rows) (length order)) _ (g .1) in
+    let i = and-true (eqb (begins bounds 0) 0) _ (w .1) in
     let j = and-true (eqb (begins bounds (length lines)) (length kinds)) _ (i .1) in
+    let p = and-true (leb mostStatements places) _ (w .0) in
+    let q = and-true (leb mostStatements (length rows)) _ (p .1) in
     let none = any-none (falls bounds) (length lines) 0 (not-true (anyIn (falls bounds) (length lines) 0) (j .1)) in (
       record {
         few = leb-true _ _ (a .0);
@@ -387,16 +426,21 @@ fit-sound lines bounds kinds used args faults e =
         whole = eqb-true _ _ (j .0);
       },
       leb-true _ _ (d .0),
+      leb-true _ _ (p .0),
+      record { rows-room = leb-true _ _ (q .0); order-room = leb-true _ _ (q .1) },
     )
 
-module _ {p : Plan} (lines bounds kinds args used faults : List ℕ) where
-  pub planned-fit : {args′ used′ faults′ : List ℕ} → fit lines bounds kinds (length args) (length used) (length faults) ≡ true
-      → outcome p args′ used′ faults′ ≡ sheeted lines bounds kinds args used faults
-      → outcome p args′ used′ faults′ ≡ planned lines bounds kinds args used faults
+module _ (lines bounds kinds args used faults : List ℕ) (l : Lent) where
+  -- whether they fit
+  abbrev fitted : Bool
+  fitted = fit lines bounds kinds (length args) (length used) (length faults) (length (l .places)) (length (l .rows)) (length (l .order))
+
+  pub planned-fit : {p : Plan} {args′ used′ faults′ : List ℕ} {l′ : Lent} → fitted ≡ true
+      → outcome p args′ used′ faults′ l′ ≡ sheeted lines bounds kinds args used faults l
+      → outcome p args′ used′ faults′ l′ ≡ planned lines bounds kinds args used faults l
   unfolding planned
   planned-fit t e = rw t e
 
-  pub planned-unfit : fit lines bounds kinds (length args) (length used) (length faults) ≡ false → p ≡ refused 9 0
-      → outcome p args used faults ≡ planned lines bounds kinds args used faults
+  pub planned-unfit : {p : Plan} → fitted ≡ false → p ≡ refused 9 0 → outcome p args used faults l ≡ planned lines bounds kinds args used faults l
   unfolding planned
-  planned-unfit t e = rw t (ap (λ (q : Plan). outcome q args used faults) e)
+  planned-unfit t e = rw t (outcome-same args used e refl refl)

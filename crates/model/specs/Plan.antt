@@ -1,11 +1,12 @@
 -- What `plan` answers for the arrays of a sheet, and what it leaves in those that are lent to it. The tests stand in the order of the
--- paper's verdict: 6; then 7 by the faults 21, by 22 and 23, by 24; else 0, and with it all that the program is written from.
+-- paper's verdict: 6; then 7 by the faults 21, by 22 and 23, by 24; else 0, and with it all that the program is written from: the count of
+-- definitions, with their places at the front of an array, and of equations, with these and their order.
 use Prim.Native.Nat.{ℕ, _+_, _*_}
 use mathlib.Core.Path.{_≡_}
 use mathlib.Core.Bool.{Bool, not, cond, _&&_}
-use mathlib.Core.List.{List, []}
+use mathlib.Core.List.{List}
 use lib.Dec.{eqb, leb, ltb}
-use lib.ListN.{length, replicate}
+use lib.ListN.{length}
 use lib.Seq.{sets}
 use Rattle.limits.specs.Limits.{mostStatements, mostDefinitions, textBytes, faultBytes}
 use Rattle.laws.specs.Places.{anyIn}
@@ -15,27 +16,44 @@ use Rattle.order.specs.Table.{usesIn}
 use Rattle.model.specs.Places.{begins, ends, keysIn, placesIn, doubles, resolved, nameless, equationRows, assignedSlots, usedIn, startsFrom, loops}
 use Rattle.model.specs.declared.answer.Plan.{Plan}
 
--- the answer, and the final content of the arguments, the table of uses and the fault list
+-- the three arrays that are lent for what the program is written from: the places of the definitions, the statements that are equations,
+-- and the order of these
+pub record Lent : Type 0 where
+  pub places : List ℕ
+  pub rows : List ℕ
+  pub order : List ℕ
+
+abbrev pub lent : List ℕ → List ℕ → List ℕ → Lent
+lent places rows order = record { places = places; rows = rows; order = order }
+
+-- a row is written to the front of one of them, as far as there is room; the rest is as lent
+abbrev pub withPlaces : List ℕ → Lent → Lent
+withPlaces row l = lent (sets (l .places) 0 row) (l .rows) (l .order)
+
+abbrev pub withRows : List ℕ → Lent → Lent
+withRows row l = lent (l .places) (sets (l .rows) 0 row) (l .order)
+
+abbrev pub withOrder : List ℕ → Lent → Lent
+withOrder row l = lent (l .places) (l .rows) (sets (l .order) 0 row)
+
+-- the answer, and the final content of the arguments, the table of uses, the fault list and the three arrays
 pub record Outcome : Type 0 where
   pub plan : Plan
   pub args : List ℕ
   pub used : List ℕ
   pub faults : List ℕ
+  pub arrays : Lent
 
-abbrev pub outcome : Plan → List ℕ → List ℕ → List ℕ → Outcome
-outcome p args used faults = record { plan = p; args = args; used = used; faults = faults }
-
--- a row in an array, zeros behind
-abbrev pub held : List ℕ → List ℕ
-held l = sets (replicate mostStatements 0) 0 l
+abbrev pub outcome : Plan → List ℕ → List ℕ → List ℕ → Lent → Outcome
+outcome p args used faults l = record { plan = p; args = args; used = used; faults = faults; arrays = l }
 
 -- a refusal: its number and the count of faults, the rest 0
 abbrev pub refused : ℕ → ℕ → Plan
-refused n c = record { number = n; count = c; definitions = 0; equations = 0; places = held []; rows = held []; order = held [] }
+refused n c = record { number = n; count = c; definitions = 0; equations = 0 }
 
 -- faults stand: they are written to the front of the list
-abbrev pub faulted : List Fault → List ℕ → List ℕ → List ℕ → Outcome
-faulted fs args used faults = outcome (refused 7 (length fs)) args used (sets faults 0 (faultList fs))
+abbrev pub faulted : List Fault → List ℕ → List ℕ → List ℕ → Lent → Outcome
+faulted fs args used faults l = outcome (refused 7 (length fs)) args used (sets faults 0 (faultList fs)) l
 
 abbrev pub some : List Fault → Bool
 some fs = ltb 0 (length fs)
@@ -49,63 +67,66 @@ falls bounds j = ltb (ends bounds j) (begins bounds j)
 unfoldable pub inTurn : List ℕ → ℕ → ℕ → Bool
 inTurn bounds n size = eqb (begins bounds 0) 0 && (eqb (begins bounds n) size && not (anyIn (falls bounds) n 0))
 
--- the last three are the lengths of the arguments, the table of uses and the fault list
-unfoldable pub fit : List ℕ → List ℕ → List ℕ → ℕ → ℕ → ℕ → Bool
-fit lines bounds kinds args used faults =
+-- three arrays of these lengths have room for every statement
+unfoldable pub roomy : ℕ → ℕ → ℕ → Bool
+roomy places rows order = leb mostStatements places && (leb mostStatements rows && leb mostStatements order)
+
+-- the last six are the lengths of the arguments, the table of uses, the fault list and the three arrays
+unfoldable pub fit : List ℕ → List ℕ → List ℕ → ℕ → ℕ → ℕ → ℕ → ℕ → ℕ → Bool
+fit lines bounds kinds args used faults places rows order =
     leb (length lines) mostStatements
     && (eqb (length bounds) (length lines + 1)
     && (leb (length kinds) textBytes
-    && (leb (length kinds) args && (leb (length kinds) used && (leb (faultBytes * length lines) faults && inTurn bounds (length lines) (length kinds))))))
+    && (leb (length kinds) args
+    && (leb (length kinds) used
+    && (leb (faultBytes * length lines) faults && (roomy places rows order && inTurn bounds (length lines) (length kinds)))))))
 
 -- ---- the table, from its end to its beginning
 
--- 24: fewer equations are placed than there are
-unfoldable pub closed : List ℕ → List ℕ → List ℕ → List ℕ → List ℕ → List ℕ → List ℕ → Outcome
-closed placed places rows lines slots used faults =
-    cond (ltb (length placed) (length rows)) (faulted (loops placed rows lines) slots used faults)
-    (outcome
-    (record {
-      number = 0;
-      count = 0;
-      definitions = length places;
-      equations = length rows;
-      places = held places;
-      rows = held rows;
-      order = held placed;
-    }) slots used faults)
+-- 24: fewer equations are placed than there are; n is the count of definitions
+unfoldable pub closed : List ℕ → ℕ → List ℕ → List ℕ → List ℕ → List ℕ → List ℕ → Lent → Outcome
+closed placed n rows lines slots used faults l =
+    cond (ltb (length placed) (length rows)) (faulted (loops placed rows lines) slots used faults (withOrder placed l))
+    (outcome (record { number = 0; count = 0; definitions = n; equations = length rows }) slots used faults (withOrder placed l))
 
--- the equations placed by what they use
-unfoldable pub ordered : List ℕ → List ℕ → List ℕ → List ℕ → List ℕ → List ℕ → List ℕ → Outcome
-ordered places lines bounds kinds slots used faults =
-    let rows = equationRows (length lines) bounds kinds in
+-- the equations of these rows, placed by what they use
+unfoldable pub weighed : List ℕ → ℕ → List ℕ → List ℕ → List ℕ → List ℕ → List ℕ → List ℕ → Lent → Outcome
+weighed rows n lines bounds kinds slots used faults l =
     let assigned = assignedSlots rows bounds kinds slots in
     let table = usedIn assigned bounds kinds slots rows in
     let starts = startsFrom 0 assigned bounds kinds slots rows in
-    closed (order (length rows) (usesIn starts table)) places rows lines slots (sets used 0 table) faults
+    closed (order (length rows) (usesIn starts table)) n rows lines slots (sets used 0 table) faults l
+
+-- all equations, placed by what they use
+unfoldable pub ordered : ℕ → List ℕ → List ℕ → List ℕ → List ℕ → List ℕ → List ℕ → Lent → Outcome
+ordered n lines bounds kinds slots used faults l =
+    let rows = equationRows (length lines) bounds kinds in
+    weighed rows n lines bounds kinds slots used faults (withRows rows l)
 
 -- 22 and 23
-unfoldable pub named : List ℕ → List ℕ → List ℕ → List ℕ → List ℕ → List ℕ → List ℕ → Outcome
-named places lines bounds kinds slots used faults =
+unfoldable pub named : List ℕ → List ℕ → List ℕ → List ℕ → List ℕ → List ℕ → List ℕ → Lent → Outcome
+named places lines bounds kinds slots used faults l =
     let fs = nameless places lines bounds kinds slots in
-    cond (some fs) (faulted fs slots used faults) (ordered places lines bounds kinds slots used faults)
+    cond (some fs) (faulted fs slots used faults l) (ordered (length places) lines bounds kinds slots used faults l)
 
 -- 21
-unfoldable pub distinct : List ℕ → List ℕ → List ℕ → List ℕ → List ℕ → List ℕ → Outcome
-distinct lines bounds kinds args used faults =
+unfoldable pub distinct : List ℕ → List ℕ → List ℕ → List ℕ → List ℕ → List ℕ → Lent → Outcome
+distinct lines bounds kinds args used faults l =
     let fs = doubles lines bounds kinds args in
-    cond (some fs) (faulted fs args used faults)
-    (named (placesIn kinds) lines bounds kinds (resolved (keysIn kinds args) kinds args) used faults)
+    cond (some fs) (faulted fs args used faults l)
+    (named (placesIn kinds) lines bounds kinds (resolved (keysIn kinds args) kinds args) used faults l)
 
--- 6: over 255 definitions, doubles counted
-unfoldable pub sheeted : List ℕ → List ℕ → List ℕ → List ℕ → List ℕ → List ℕ → Outcome
-sheeted lines bounds kinds args used faults =
-    cond (ltb mostDefinitions (length (keysIn kinds args))) (outcome (refused 6 0) args used faults) (distinct lines bounds kinds args used faults)
+-- the places are written; 6: over 255 definitions, doubles counted
+unfoldable pub sheeted : List ℕ → List ℕ → List ℕ → List ℕ → List ℕ → List ℕ → Lent → Outcome
+sheeted lines bounds kinds args used faults l =
+    let m = withPlaces (placesIn kinds) l in
+    cond (ltb mostDefinitions (length (keysIn kinds args))) (outcome (refused 6 0) args used faults m) (distinct lines bounds kinds args used faults m)
 
-unfoldable pub planned : List ℕ → List ℕ → List ℕ → List ℕ → List ℕ → List ℕ → Outcome
-planned lines bounds kinds args used faults =
-    cond (fit lines bounds kinds (length args) (length used) (length faults)) (sheeted lines bounds kinds args used faults)
-    (outcome (refused 9 0) args used faults)
+unfoldable pub planned : List ℕ → List ℕ → List ℕ → List ℕ → List ℕ → List ℕ → Lent → Outcome
+planned lines bounds kinds args used faults l =
+    cond (fit lines bounds kinds (length args) (length used) (length faults) (length (l .places)) (length (l .rows)) (length (l .order)))
+    (sheeted lines bounds kinds args used faults l) (outcome (refused 9 0) args used faults l)
 
 -- THE CONTRACT of `plan`: answer and contents are what is planned. Two outcomes that it allows are equal
-abbrev pub Plans : List ℕ → List ℕ → List ℕ → List ℕ → List ℕ → List ℕ → Plan → List ℕ → List ℕ → List ℕ → Type 0
-Plans lines bounds kinds args used faults p args′ used′ faults′ = outcome p args′ used′ faults′ ≡ planned lines bounds kinds args used faults
+abbrev pub Plans : List ℕ → List ℕ → List ℕ → List ℕ → List ℕ → List ℕ → Lent → Plan → List ℕ → List ℕ → List ℕ → Lent → Type 0
+Plans lines bounds kinds args used faults l p args′ used′ faults′ l′ = outcome p args′ used′ faults′ l′ ≡ planned lines bounds kinds args used faults l

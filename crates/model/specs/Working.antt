@@ -13,7 +13,6 @@ use Rattle.laws.specs.Counts.{has}
 use Rattle.sheet.specs.Sheet.{Fault, faultList}
 use Rattle.model.specs.Definitions.{placeIn}
 use Rattle.model.specs.Faults.{again, faultIf}
-use Rattle.model.specs.Plan.{held}
 use Rattle.model.specs.Places.{defines, asks, begins, ends, keysIn, placesIn, resolved, homeOf, assignedSlots, usedIn, startsFrom}
 
 -- ---- rows that are written
@@ -42,11 +41,17 @@ pub record Sound (lines bounds kinds used : List ℕ) : Type 0 where
   pub rises : Rises bounds (length lines)
   pub whole : begins bounds (length lines) ≡ length kinds
 
--- an array holds a row of n numbers at its front, zeros behind
+-- an array holds a row of n numbers at its front
 pub record Holds (array : List ℕ) (n : ℕ) (row : List ℕ) : Type 0 where
   pub long : n ≡ length row
   pub within : n ≤ mostStatements
-  pub same : array ≡ held row
+  pub room : n ≤ length array
+  pub front : take n array ≡ row
+
+-- two arrays have room for every statement
+pub record Wide (rows order : List ℕ) : Type 0 where
+  pub rows-room : mostStatements ≤ length rows
+  pub order-room : mostStatements ≤ length order
 
 -- ---- definitions: the keys and the places of all, as many as there is room for; r is how many there are
 pub record Collected (kinds args : List ℕ) (r : ℕ) (keys keys′ places places′ : List ℕ) : Type 0 where

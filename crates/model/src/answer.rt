@@ -1,13 +1,8 @@
-use limits::STATEMENTS;
-
-// What `plan` answers: a number, 0 without refusal, and the count of faults. With number 0 come the places of the definitions, the
-// statements that are equations, and the order of these, zeros behind.
+// What `plan` answers: a number, 0 without refusal, and the count of faults. With number 0 come the counts of definitions and
+// equations; the places of the definitions, the equations and the order of these stand at the front of the arrays that were lent.
 pub struct Plan {
     pub number: u8,
     pub count: usize,
     pub definitions: usize,
     pub equations: usize,
-    pub places: [u16; STATEMENTS],
-    pub rows: [u16; STATEMENTS],
-    pub order: [u16; STATEMENTS],
 }

@@ -5,7 +5,7 @@ ghost use Prim.Native.Nat.{_≤_};
 ghost use lib.ListN.{length};
 ghost use Rattle.limits.specs.Limits.{mostStatements};
 ghost use Rattle.laws.specs.Places.{anyIn};
-ghost use Rattle.model.specs.Plan.{falls, inTurn, fit};
+ghost use Rattle.model.specs.Plan.{falls, inTurn, roomy, fit};
 use super::lists::short_at;
 use limits::FAULT_BYTES;
 use limits::STATEMENTS;
@@ -40,7 +40,21 @@ fn is_in_turn(bounds: &[u16], n: usize, size: usize) -> bool
     is_rising(bounds, n)
 }
 
-// Whether the arrays fit; the last three are the lengths of the arguments, the table of uses and the fault list.
+// Whether three arrays of these lengths have room for every statement.
+fn has_room(places: usize, rows: usize, order: usize) -> bool
+    ensures { λ r. ⌜ r ≡ roomy places rows order ⌝ }
+{
+    if places < STATEMENTS {
+        return false;
+    }
+    if rows < STATEMENTS {
+        return false;
+    }
+    STATEMENTS <= order
+}
+
+// Whether the arrays fit; the last six are the lengths of the arguments, the table of uses, the fault list, and the arrays for places,
+// equations and order.
 pub(crate) fn fits(
     lines: &[u16],
     bounds: &[u16],
@@ -48,8 +62,11 @@ pub(crate) fn fits(
     args: usize,
     used: usize,
     faults: usize,
+    places: usize,
+    rows: usize,
+    order: usize,
 ) -> bool
-    ensures { λ r. ⌜ r ≡ fit (now (lines .entry)) (now (bounds .entry)) (now (kinds .entry)) args used faults ⌝ }
+    ensures { λ r. ⌜ r ≡ fit (now (lines .entry)) (now (bounds .entry)) (now (kinds .entry)) args used faults places rows order ⌝ }
 {
     if STATEMENTS < lines.len() {
         return false;
@@ -69,5 +86,8 @@ pub(crate) fn fits(
     if faults < FAULT_BYTES * lines.len() {
         return false;
     }
-    is_in_turn(bounds, lines.len(), kinds.len())
+    if has_room(places, rows, order) {
+        return is_in_turn(bounds, lines.len(), kinds.len());
+    }
+    false
 }

@@ -1,5 +1,5 @@
 // The model of a sheet: what its statements define, the faults 21 to 24, and the order of its equations.
-ghost use Rattle.model.specs.Plan.{Plans};
+ghost use Rattle.model.specs.Plan.{lent, Plans};
 
 pub mod answer;
 mod collect;
@@ -16,7 +16,8 @@ mod stages;
 use answer::Plan;
 
 // Plans a sheet of which lines and bounds are the statements, kinds and args the drafts. The table of uses is written to used, model
-// faults to the list; the names of args are resolved, unless one is defined twice.
+// faults to the list, the places of the definitions, the equations and their order to the front of the last three, which have room for
+// 256 each; the names of args are resolved, unless one is defined twice.
 pub fn plan(
     lines: &[u16],
     bounds: &[u16],
@@ -24,12 +25,36 @@ pub fn plan(
     args: &mut [u64],
     used: &mut [u16],
     faults: &mut [u8],
+    places: &mut [u16],
+    rows: &mut [u16],
+    order: &mut [u16],
 ) -> Plan
     ensures { λ r. ⌜ Plans (now (lines .entry)) (now (bounds .entry)) (now (kinds .entry)) (now (args .entry)) (now (used .entry))
-        (now (faults .entry)) r (now (args .exit)) (now (used .exit)) (now (faults .exit)) ⌝ }
+        (now (faults .entry)) (lent (now (places .entry)) (now (rows .entry)) (now (order .entry))) r (now (args .exit)) (now (used .exit))
+        (now (faults .exit)) (lent (now (places .exit)) (now (rows .exit)) (now (order .exit))) ⌝ }
 {
-    if fitting::fits(lines, bounds, kinds, args.len(), used.len(), faults.len()) {
-        return stages::define(lines, bounds, kinds, args, used, faults);
+    if fitting::fits(
+        lines,
+        bounds,
+        kinds,
+        args.len(),
+        used.len(),
+        faults.len(),
+        places.len(),
+        rows.len(),
+        order.len(),
+    ) {
+        return stages::define(
+            lines,
+            bounds,
+            kinds,
+            args,
+            used,
+            faults,
+            places,
+            rows,
+            order,
+        );
     }
     stages::refusal(9, 0)
 }

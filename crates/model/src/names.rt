@@ -6,7 +6,7 @@ ghost use lib.Dec.{eqb, ltb};
 ghost use lib.ListN.{length, getD};
 ghost use Rattle.limits.specs.Limits.{mostStatements};
 ghost use Rattle.laws.specs.Places.{anyIn};
-ghost use Rattle.model.specs.Places.{isNamed, asks, resolvedAt, homeOf, undefinedAt, unfitAt, nameless};
+ghost use Rattle.model.specs.Places.{isNamed, asks, homeOf, undefinedAt, unfitAt, nameless};
 ghost use Rattle.model.specs.Working.{Reported, Hinted, flawedBy, Resolved, flawOf};
 use super::collect::is_defining;
 use super::hints::find;

@@ -3,11 +3,12 @@ ghost use mathlib.Core.Path.{_≡_};
 ghost use mathlib.Core.List.{List};
 ghost use Prim.Native.Nat.{ℕ, _≤_};
 ghost use lib.ListN.{length, take};
+ghost use Rattle.limits.specs.Limits.{mostStatements};
 ghost use Rattle.order.specs.Greedy.{order};
 ghost use Rattle.order.specs.Table.{Fit, usesIn};
 ghost use Rattle.model.specs.Places.{keysIn, placesIn, resolved, equationRows};
-ghost use Rattle.model.specs.Plan.{refused, outcome, closed, ordered, named, distinct, sheeted};
-ghost use Rattle.model.specs.Working.{Sound, Holds, Hinted, Keyed, Slotted};
+ghost use Rattle.model.specs.Plan.{lent, refused, outcome, closed, weighed, ordered, named, distinct, sheeted};
+ghost use Rattle.model.specs.Working.{Sound, Holds, Wide, Hinted, Keyed, Slotted};
 use super::answer::Plan;
 use super::collect::collect;
 use super::doubles::report_doubles;
@@ -26,36 +27,31 @@ use order::Sorted;
 pub(crate) fn refusal(number: u8, count: usize) -> Plan
     ensures { λ r. ⌜ r ≡ refused number count ⌝ }
 {
-    let none = [0u16; STATEMENTS];
     Plan {
         number,
         count,
         definitions: 0,
         equations: 0,
-        places: none,
-        rows: none,
-        order: none,
     }
 }
 
-// 24: the m equations of rows are ordered by what they use; n definitions stand at places.
+// 24: the m equations of rows are ordered by what they use; there are n definitions.
 fn close(
     starts: &[u16],
     used: &[u16],
-    places: [u16; STATEMENTS],
     n: usize,
-    rows: [u16; STATEMENTS],
+    rows: &[u16],
     m: usize,
+    placed: &mut [u16],
     lines: &[u16],
     faults: &mut [u8],
 ) -> Plan
-    requires { ⌜ Fit m (now starts) (now used) × Holds places n (take n places) × Holds rows m (take m rows) ⌝ }
-    ensures { λ r. ⌜ ((slots filled : List ℕ) → outcome r slots filled (now (faults .exit)) ≡ closed
-        (order m (usesIn (now (starts .entry)) (now (used .entry)))) (take n places) (take m rows) (now (lines .entry)) slots filled
-        (now (faults .entry))) ⌝ }
+    requires { ⌜ Fit m (now starts) (now used) × Holds (now rows) m (take m (now rows)) × (mostStatements ≤ length (now placed)) ⌝ }
+    ensures { λ r. ⌜ ((slots filled p : List ℕ) → outcome r slots filled (now (faults .exit)) (lent p (now (rows .entry)) (now (placed .exit))) ≡
+        closed (order m (usesIn (now (starts .entry)) (now (used .entry)))) n (take m (now (rows .entry))) (now (lines .entry)) slots filled
+        (now (faults .entry)) (lent p (now (rows .entry)) (now (placed .entry)))) ⌝ }
 {
-    let mut placed = [0u16; STATEMENTS];
-    let sorted = order::sort(m, starts, used, &mut placed);
+    let sorted = order::sort(m, starts, used, &mut *placed);
     let Sorted::Placed(k) = sorted else {
         return refusal(9, 0);
     };
@@ -68,9 +64,6 @@ fn close(
         count: 0,
         definitions: n,
         equations: m,
-        places,
-        rows,
-        order: placed,
     }
 }
 
@@ -82,31 +75,33 @@ fn weigh(
     slots: &[u64],
     used: &mut [u16],
     faults: &mut [u8],
-    places: [u16; STATEMENTS],
     n: usize,
-    rows: [u16; STATEMENTS],
+    rows: &[u16],
     m: usize,
+    placed: &mut [u16],
 ) -> Plan
-    requires { ⌜ Sound (now lines) (now bounds) (now kinds) (now used) × Slotted (now kinds) (now slots) × Holds places n (placesIn (now kinds)) ×
-        Holds rows m (equationRows (length (now lines)) (now bounds) (now kinds)) ⌝ }
-    ensures { λ r. ⌜ outcome r (now (slots .entry)) (now (used .exit)) (now (faults .exit)) ≡ ordered (placesIn (now (kinds .entry)))
-        (now (lines .entry)) (now (bounds .entry)) (now (kinds .entry)) (now (slots .entry)) (now (used .entry)) (now (faults .entry)) ⌝ }
+    requires { ⌜ Sound (now lines) (now bounds) (now kinds) (now used) × Slotted (now kinds) (now slots) ×
+        Holds (now rows) m (equationRows (length (now lines)) (now bounds) (now kinds)) × (mostStatements ≤ length (now placed)) ⌝ }
+    ensures { λ r. ⌜ ((p : List ℕ) → outcome r (now (slots .entry)) (now (used .exit)) (now (faults .exit))
+        (lent p (now (rows .entry)) (now (placed .exit))) ≡ weighed (equationRows (length (now (lines .entry))) (now (bounds .entry))
+        (now (kinds .entry))) n (now (lines .entry)) (now (bounds .entry)) (now (kinds .entry)) (now (slots .entry)) (now (used .entry))
+        (now (faults .entry)) (lent p (now (rows .entry)) (now (placed .entry)))) ⌝ }
 {
     let mut starts = [0u16; STATEMENTS + 1];
     let w = table(&rows[..m], bounds, kinds, slots, &mut starts, &mut *used);
     close(
         &starts[..m + 1],
         &used[..w],
-        places,
         n,
         rows,
         m,
+        placed,
         lines,
         faults,
     )
 }
 
-// The equations.
+// The equations; there are n definitions.
 fn arrange(
     lines: &[u16],
     bounds: &[u16],
@@ -114,15 +109,16 @@ fn arrange(
     slots: &[u64],
     used: &mut [u16],
     faults: &mut [u8],
-    places: [u16; STATEMENTS],
     n: usize,
+    rows: &mut [u16],
+    placed: &mut [u16],
 ) -> Plan
-    requires { ⌜ Sound (now lines) (now bounds) (now kinds) (now used) × Slotted (now kinds) (now slots) × Holds places n (placesIn (now kinds)) ⌝ }
-    ensures { λ r. ⌜ outcome r (now (slots .entry)) (now (used .exit)) (now (faults .exit)) ≡ ordered (placesIn (now (kinds .entry)))
-        (now (lines .entry)) (now (bounds .entry)) (now (kinds .entry)) (now (slots .entry)) (now (used .entry)) (now (faults .entry)) ⌝ }
+    requires { ⌜ Sound (now lines) (now bounds) (now kinds) (now used) × Slotted (now kinds) (now slots) × Wide (now rows) (now placed) ⌝ }
+    ensures { λ r. ⌜ ((p : List ℕ) → outcome r (now (slots .entry)) (now (used .exit)) (now (faults .exit))
+        (lent p (now (rows .exit)) (now (placed .exit))) ≡ ordered n (now (lines .entry)) (now (bounds .entry)) (now (kinds .entry))
+        (now (slots .entry)) (now (used .entry)) (now (faults .entry)) (lent p (now (rows .entry)) (now (placed .entry)))) ⌝ }
 {
-    let mut rows = [0u16; STATEMENTS];
-    let m = collect_rows(lines.len(), bounds, kinds, &mut rows);
+    let m = collect_rows(lines.len(), bounds, kinds, &mut *rows);
     weigh(
         lines,
         bounds,
@@ -130,10 +126,10 @@ fn arrange(
         slots,
         used,
         faults,
-        places,
         n,
         rows,
         m,
+        placed,
     )
 }
 
@@ -145,18 +141,22 @@ fn check_names(
     slots: &[u64],
     used: &mut [u16],
     faults: &mut [u8],
-    places: [u16; STATEMENTS],
+    places: &[u16],
     n: usize,
+    rows: &mut [u16],
+    placed: &mut [u16],
 ) -> Plan
-    requires { ⌜ Sound (now lines) (now bounds) (now kinds) (now used) × Slotted (now kinds) (now slots) × Holds places n (placesIn (now kinds)) ⌝ }
-    ensures { λ r. ⌜ outcome r (now (slots .entry)) (now (used .exit)) (now (faults .exit)) ≡ named (placesIn (now (kinds .entry)))
-        (now (lines .entry)) (now (bounds .entry)) (now (kinds .entry)) (now (slots .entry)) (now (used .entry)) (now (faults .entry)) ⌝ }
+    requires { ⌜ Sound (now lines) (now bounds) (now kinds) (now used) × Slotted (now kinds) (now slots) ×
+        Holds (now places) n (placesIn (now kinds)) × Wide (now rows) (now placed) ⌝ }
+    ensures { λ r. ⌜ outcome r (now (slots .entry)) (now (used .exit)) (now (faults .exit)) (lent (now (places .entry)) (now (rows .exit))
+        (now (placed .exit))) ≡ named (placesIn (now (kinds .entry))) (now (lines .entry)) (now (bounds .entry)) (now (kinds .entry))
+        (now (slots .entry)) (now (used .entry)) (now (faults .entry)) (lent (now (places .entry)) (now (rows .entry)) (now (placed .entry))) ⌝ }
 {
     let flaws = report_nameless(lines, bounds, &places[..n], kinds, slots, &mut *faults);
     if 0 < flaws {
         return refusal(7, flaws);
     }
-    arrange(lines, bounds, kinds, slots, used, faults, places, n)
+    arrange(lines, bounds, kinds, slots, used, faults, n, rows, placed)
 }
 
 // The names are resolved. Where none is flawed, no statement is.
@@ -170,18 +170,33 @@ fn settle(
     keys: &[u64],
     hints: &[u8],
     links: &[u8],
-    places: [u16; STATEMENTS],
+    places: &[u16],
     n: usize,
+    rows: &mut [u16],
+    placed: &mut [u16],
 ) -> Plan
-    requires { ⌜ Keyed (now lines) (now bounds) (now kinds) (now args) (now used) (now keys) places n × Hinted (now keys) (now hints) (now links) ⌝ }
-    ensures { λ r. ⌜ outcome r (now (args .exit)) (now (used .exit)) (now (faults .exit)) ≡ named (placesIn (now (kinds .entry))) (now (lines .entry))
-        (now (bounds .entry)) (now (kinds .entry)) (resolved (keysIn (now (kinds .entry)) (now (args .entry))) (now (kinds .entry))
-        (now (args .entry))) (now (used .entry)) (now (faults .entry)) ⌝ }
+    requires { ⌜ Keyed (now lines) (now bounds) (now kinds) (now args) (now used) (now keys) (now places) n ×
+        Hinted (now keys) (now hints) (now links) × Wide (now rows) (now placed) ⌝ }
+    ensures { λ r. ⌜ outcome r (now (args .exit)) (now (used .exit)) (now (faults .exit)) (lent (now (places .entry)) (now (rows .exit))
+        (now (placed .exit))) ≡ named (placesIn (now (kinds .entry))) (now (lines .entry)) (now (bounds .entry)) (now (kinds .entry))
+        (resolved (keysIn (now (kinds .entry)) (now (args .entry))) (now (kinds .entry)) (now (args .entry))) (now (used .entry))
+        (now (faults .entry)) (lent (now (places .entry)) (now (rows .entry)) (now (placed .entry))) ⌝ }
 {
     if resolve(kinds, keys, hints, links, &places[..n], &mut *args) {
-        return check_names(lines, bounds, kinds, args, used, faults, places, n);
+        return check_names(
+            lines,
+            bounds,
+            kinds,
+            args,
+            used,
+            faults,
+            places,
+            n,
+            rows,
+            placed,
+        );
     }
-    arrange(lines, bounds, kinds, args, used, faults, places, n)
+    arrange(lines, bounds, kinds, args, used, faults, n, rows, placed)
 }
 
 // 21.
@@ -195,12 +210,16 @@ fn check_doubles(
     keys: &[u64],
     hints: &[u8],
     links: &[u8],
-    places: [u16; STATEMENTS],
+    places: &[u16],
     n: usize,
+    rows: &mut [u16],
+    placed: &mut [u16],
 ) -> Plan
-    requires { ⌜ Keyed (now lines) (now bounds) (now kinds) (now args) (now used) (now keys) places n × Hinted (now keys) (now hints) (now links) ⌝ }
-    ensures { λ r. ⌜ outcome r (now (args .exit)) (now (used .exit)) (now (faults .exit)) ≡ distinct (now (lines .entry)) (now (bounds .entry))
-        (now (kinds .entry)) (now (args .entry)) (now (used .entry)) (now (faults .entry)) ⌝ }
+    requires { ⌜ Keyed (now lines) (now bounds) (now kinds) (now args) (now used) (now keys) (now places) n ×
+        Hinted (now keys) (now hints) (now links) × Wide (now rows) (now placed) ⌝ }
+    ensures { λ r. ⌜ outcome r (now (args .exit)) (now (used .exit)) (now (faults .exit)) (lent (now (places .entry)) (now (rows .exit))
+        (now (placed .exit))) ≡ distinct (now (lines .entry)) (now (bounds .entry)) (now (kinds .entry)) (now (args .entry)) (now (used .entry))
+        (now (faults .entry)) (lent (now (places .entry)) (now (rows .entry)) (now (placed .entry))) ⌝ }
 {
     let doubles = report_doubles(
         lines,
@@ -226,6 +245,8 @@ fn check_doubles(
         links,
         places,
         n,
+        rows,
+        placed,
     )
 }
 
@@ -238,12 +259,15 @@ fn hint(
     used: &mut [u16],
     faults: &mut [u8],
     keys: &[u64],
-    places: [u16; STATEMENTS],
+    places: &[u16],
     n: usize,
+    rows: &mut [u16],
+    placed: &mut [u16],
 ) -> Plan
-    requires { ⌜ Keyed (now lines) (now bounds) (now kinds) (now args) (now used) (now keys) places n ⌝ }
-    ensures { λ r. ⌜ outcome r (now (args .exit)) (now (used .exit)) (now (faults .exit)) ≡ distinct (now (lines .entry)) (now (bounds .entry))
-        (now (kinds .entry)) (now (args .entry)) (now (used .entry)) (now (faults .entry)) ⌝ }
+    requires { ⌜ Keyed (now lines) (now bounds) (now kinds) (now args) (now used) (now keys) (now places) n × Wide (now rows) (now placed) ⌝ }
+    ensures { λ r. ⌜ outcome r (now (args .exit)) (now (used .exit)) (now (faults .exit)) (lent (now (places .entry)) (now (rows .exit))
+        (now (placed .exit))) ≡ distinct (now (lines .entry)) (now (bounds .entry)) (now (kinds .entry)) (now (args .entry)) (now (used .entry))
+        (now (faults .entry)) (lent (now (places .entry)) (now (rows .entry)) (now (placed .entry))) ⌝ }
 {
     let mut hints = [0u8; BUCKETS];
     let mut links = [0u8; STATEMENTS];
@@ -260,6 +284,8 @@ fn hint(
         &links,
         places,
         n,
+        rows,
+        placed,
     )
 }
 
@@ -271,14 +297,18 @@ pub(crate) fn define(
     args: &mut [u64],
     used: &mut [u16],
     faults: &mut [u8],
+    places: &mut [u16],
+    rows: &mut [u16],
+    placed: &mut [u16],
 ) -> Plan
-    requires { ⌜ Sound (now lines) (now bounds) (now kinds) (now used) × (length (now kinds) ≤ length (now args)) ⌝ }
-    ensures { λ r. ⌜ outcome r (now (args .exit)) (now (used .exit)) (now (faults .exit)) ≡ sheeted (now (lines .entry)) (now (bounds .entry))
-        (now (kinds .entry)) (now (args .entry)) (now (used .entry)) (now (faults .entry)) ⌝ }
+    requires { ⌜ Sound (now lines) (now bounds) (now kinds) (now used) × (length (now kinds) ≤ length (now args)) ×
+        (mostStatements ≤ length (now places)) × Wide (now rows) (now placed) ⌝ }
+    ensures { λ r. ⌜ outcome r (now (args .exit)) (now (used .exit)) (now (faults .exit)) (lent (now (places .exit)) (now (rows .exit))
+        (now (placed .exit))) ≡ sheeted (now (lines .entry)) (now (bounds .entry)) (now (kinds .entry)) (now (args .entry)) (now (used .entry))
+        (now (faults .entry)) (lent (now (places .entry)) (now (rows .entry)) (now (placed .entry))) ⌝ }
 {
     let mut keys = [0u64; STATEMENTS];
-    let mut places = [0u16; STATEMENTS];
-    let n = collect(kinds, args, &mut keys, &mut places);
+    let n = collect(kinds, args, &mut keys, &mut *places);
     if DEFINITIONS < n {
         return refusal(6, 0);
     }
@@ -292,5 +322,7 @@ pub(crate) fn define(
         &keys[..n],
         places,
         n,
+        rows,
+        placed,
     )
 }

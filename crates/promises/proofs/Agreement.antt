@@ -81,10 +81,11 @@ records = record { read = λ program n. one _; decode = λ program n. one _ }
 
 -- a sheet planned
 pub model : Model
-model = record { plan = λ lines bounds kinds args used faults r s a b u v f g p q. parts (p ∙ sym q) }
+model = record { plan = λ lines bounds kinds args used faults l r s a b u v f g m n p q. parts (p ∙ sym q) }
   where
-    parts : {x y : PlanOutcome} → x ≡ y → (x .plan ≡ y .plan) × (x .args ≡ y .args) × (x .used ≡ y .used) × (x .faults ≡ y .faults)
-    parts e = (cc, cc, cc, cc)
+    parts : {x y : PlanOutcome} → x ≡ y
+        → (x .plan ≡ y .plan) × (x .args ≡ y .args) × (x .used ≡ y .used) × (x .faults ≡ y .faults) × (x .arrays ≡ y .arrays)
+    parts e = (cc, cc, cc, cc, cc)
 
 -- a program counted and written
 pub programs : Program

@@ -28,7 +28,7 @@ use Rattle.order.specs.Answer.{Sorts}
 use Rattle.records.specs.declared.Instr.{Instr}
 use Rattle.records.specs.Decode.{readAt, decodedAt}
 use Rattle.model.specs.declared.answer.Plan.{Plan}
-use Rattle.model.specs.Plan.{Plans}
+use Rattle.model.specs.Plan.{Lent, Plans}
 use Rattle.program.specs.Written.{recordCount, writtenProgram}
 use Rattle.evaluator.specs.declared.Answer.{Answer}
 use Rattle.evaluator.specs.Contract.{Evaluated, Started, Stepped}
@@ -53,10 +53,10 @@ Agree2 {A} {B} C = (r s : A) (a b : B) → C r a → C s b → (r ≡ s) × (a �
 abbrev pub Agree3 : {A B D : Type 0} → (A → B → D → Type 0) → Type 0
 Agree3 {A} {B} {D} C = (r s : A) (a b : B) (c d : D) → C r a c → C s b d → (r ≡ s) × (a ≡ b) × (c ≡ d)
 
--- of four: an answer and three buffers
-abbrev pub Agree4 : {A B D E : Type 0} → (A → B → D → E → Type 0) → Type 0
-Agree4 {A} {B} {D} {E} C =
-    (r s : A) (a b : B) (c d : D) (e f : E) → C r a c e → C s b d f → (r ≡ s) × (a ≡ b) × (c ≡ d) × (e ≡ f)
+-- of five: an answer, three buffers, and further arrays that were lent
+abbrev pub Agree5 : {A B D E L : Type 0} → (A → B → D → E → L → Type 0) → Type 0
+Agree5 {A} {B} {D} {E} {L} C =
+    (r s : A) (a b : B) (c d : D) (e f : E) (l m : L) → C r a c e l → C s b d f m → (r ≡ s) × (a ≡ b) × (c ≡ d) × (e ≡ f) × (l ≡ m)
 
 -- get_low, put_low, put_two, put_four, put_eight, float_of, bits_of
 pub record Bits : Type 0 where
@@ -98,8 +98,8 @@ pub record Records : Type 0 where
 
 -- plan
 pub record Model : Type 0 where
-  pub plan : (lines bounds kinds args used faults : List ℕ)
-      → Agree4 (λ (r : Plan) (a u f : List ℕ). Plans lines bounds kinds args used faults r a u f)
+  pub plan : (lines bounds kinds args used faults : List ℕ) (l : Lent)
+      → Agree5 (λ (r : Plan) (a u f : List ℕ) (m : Lent). Plans lines bounds kinds args used faults l r a u f m)
 
 -- count_records, put_program
 pub record Program : Type 0 where

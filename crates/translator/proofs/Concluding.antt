@@ -7,9 +7,9 @@ use native.Mathlib.Omega.{arith}
 use borrow.Author.Tests.{lt-ltb, ltb-true, ltb-false}
 use mathlib.Core.Logic.{⊎-elim}
 use lib.Dec.{ltb}
-use lib.ListN.{length, length-map}
+use lib.ListN.{length, length-map, length-replicate}
 use lib.Seq.{sets}
-use Rattle.limits.specs.Limits.{mostDefinitions}
+use Rattle.limits.specs.Limits.{mostDefinitions, mostStatements}
 use Rattle.sheet.specs.Sheet.{Numbered, Fault, faultList}
 use Rattle.sheet.specs.Layout.{Laid}
 use Rattle.order.specs.Greedy.{order}
@@ -24,7 +24,8 @@ use Rattle.model.proofs.Clean.{order-good}
 use Rattle.model.specs.Definitions.{Def, definitions, keys, equationCount}
 use Rattle.model.specs.Faults.{faults21, nameFaults, faults24, orElse, modelFaults, orderOf, usesIn as uses}
 use Rattle.model.specs.Places.{keysIn, placesIn, doubles, resolved, nameless, equationRows, assignedSlots, usedIn, startsFrom, loopAt, loops}
-use Rattle.model.specs.Plan.{Outcome, outcome, held, refused, faulted, some, fit, closed, ordered, named, distinct, sheeted, planned}
+use Rattle.model.specs.Plan.{Lent, lent, Outcome, outcome, refused, faulted, some, fit, closed, weighed, ordered, named, distinct, sheeted, planned}
+use Rattle.translator.specs.Working.{zeros, blank, held}
 use Rattle.model.proofs.Meant.{keys-meant, doubles-meant, names-meant, rows-meant, order-meant, loops-meant}
 
 -- without a 24 all equations are placed
@@ -72,19 +73,17 @@ module _ (ss : List Numbered) (kinds args lines bounds : List ℕ) (laid : Laid 
   abbrev starts : List ℕ
   starts = startsFrom 0 assigned bounds kinds slots rows
 
+  -- the three arrays: with the places; with the equations too; with their order too
+  abbrev placed : Lent
+  placed = lent (held places) zeros zeros
+
+  abbrev filled : Lent
+  filled = lent (held places) (held rows) (held (orderOf ds))
+
   -- the plan of a sheet without fault
   abbrev pub whole : Outcome
   whole =
-      outcome
-      (record {
-        number = 0;
-        count = 0;
-        definitions = length places;
-        equations = length rows;
-        places = held places;
-        rows = held rows;
-        order = held (orderOf ds);
-      }) slots (sets used 0 table) faults
+      outcome (record { number = 0; count = 0; definitions = length places; equations = length rows }) slots (sets used 0 table) faults filled
 
   -- too many definitions; or faults, listed; or none
   pub data Conclusion (o : Outcome) : Type 0 where
@@ -98,15 +97,15 @@ module _ (ss : List Numbered) (kinds args lines bounds : List ℕ) (laid : Laid 
 
   module _ (few : ltb mostDefinitions (length ds) ≡ false) where
     -- faults that stand are the model's
-    flawed-by : (f : Fault) (fs : List Fault) (a u : List ℕ) → modelFaults ss ≡ f ∷ fs → Conclusion (faulted (f ∷ fs) a u faults)
-    flawed-by f fs a u e = flawed f fs few e refl refl refl
+    flawed-by : (f : Fault) (fs : List Fault) (a u : List ℕ) (l : Lent) → modelFaults ss ≡ f ∷ fs → Conclusion (faulted (f ∷ fs) a u faults l)
+    flawed-by f fs a u l e = flawed f fs few e refl refl refl
 
     some-cons : (f : Fault) (fs : List Fault) → some (f ∷ fs) ≡ true
     some-cons f fs = lt-ltb 0 (length (f ∷ fs)) (omega arith)
 
     -- 24: fewer are placed than there are, and these are the faults; or all are, and there is none
-    by-loops : faults21 [] ss ≡ [] → nameFaults ds ds ≡ [] → Conclusion (ordered places lines bounds kinds slots used faults)
-    unfolding ordered closed modelFaults
+    by-loops : faults21 [] ss ≡ [] → nameFaults ds ds ≡ [] → Conclusion (ordered (length places) lines bounds kinds slots used faults placed)
+    unfolding ordered weighed closed modelFaults
     by-loops e g =
         rw (order-meant ss kinds args lines bounds laid e) (go (ltb (length (orderOf ds)) (length rows)) refl)
       where
@@ -117,42 +116,43 @@ module _ (ss : List Numbered) (kinds args lines bounds : List ℕ) (laid : Laid 
         n = rows-meant ss kinds args lines bounds laid
 
         fewer : (fs : List Fault) → loops (orderOf ds) rows lines ≡ fs → length (orderOf ds) < length rows
-            → Conclusion (faulted fs slots (sets used 0 table) faults)
+            → Conclusion (faulted fs slots (sets used 0 table) faults filled)
         fewer [] q h = absurd (let w = all-placed ds (sym (loops-meant ss kinds args lines bounds laid) ∙ q) in omega (arith, h, n, w))
-        fewer (f ∷ fs) q h = flawed-by f fs slots (sets used 0 table) (model ∙ q)
+        fewer (f ∷ fs) q h = flawed-by f fs slots (sets used 0 table) filled (model ∙ q)
 
         go : (b : Bool) → ltb (length (orderOf ds)) (length rows) ≡ b
-            → Conclusion (cond b (faulted (loops (orderOf ds) rows lines) slots (sets used 0 table) faults) whole)
+            → Conclusion (cond b (faulted (loops (orderOf ds) rows lines) slots (sets used 0 table) faults filled) whole)
         go true t = fewer (loops (orderOf ds) rows lines) refl (ltb-true (length (orderOf ds)) (length rows) t)
         go false t = sound few (model ∙ no-loops ds rows lines (omega (arith, ltb-false (length (orderOf ds)) (length rows) t, n)) n) refl
 
     -- 22 and 23
-    by-names : faults21 [] ss ≡ [] → Conclusion (named places lines bounds kinds slots used faults)
+    by-names : faults21 [] ss ≡ [] → Conclusion (named places lines bounds kinds slots used faults placed)
     unfolding named modelFaults
     by-names e = go (nameless places lines bounds kinds slots) refl
       where
         go : (fs : List Fault) → nameless places lines bounds kinds slots ≡ fs
-            → Conclusion (cond (some fs) (faulted fs slots used faults) (ordered places lines bounds kinds slots used faults))
+            → Conclusion (cond (some fs) (faulted fs slots used faults placed) (ordered (length places) lines bounds kinds slots used faults placed))
         go [] q = by-loops e (sym (names-meant ss kinds args lines bounds laid e) ∙ q)
         go (f ∷ fs) q =
-            rw (some-cons f fs) (flawed-by f fs slots used (rw (e, sym (names-meant ss kinds args lines bounds laid e) ∙ q)))
+            rw (some-cons f fs) (flawed-by f fs slots used placed (rw (e, sym (names-meant ss kinds args lines bounds laid e) ∙ q)))
 
     -- 21
-    by-doubles : Conclusion (distinct lines bounds kinds args used faults)
+    by-doubles : Conclusion (distinct lines bounds kinds args used faults placed)
     unfolding distinct modelFaults
     by-doubles = go (doubles lines bounds kinds args) refl
       where
         go : (fs : List Fault) → doubles lines bounds kinds args ≡ fs
-            → Conclusion (cond (some fs) (faulted fs args used faults) (named places lines bounds kinds slots used faults))
+            → Conclusion (cond (some fs) (faulted fs args used faults placed) (named places lines bounds kinds slots used faults placed))
         go [] q = by-names (sym (doubles-meant ss kinds args lines bounds laid) ∙ q)
-        go (f ∷ fs) q = rw (some-cons f fs) (flawed-by f fs args used (rw (sym (doubles-meant ss kinds args lines bounds laid) ∙ q)))
+        go (f ∷ fs) q = rw (some-cons f fs) (flawed-by f fs args used placed (rw (sym (doubles-meant ss kinds args lines bounds laid) ∙ q)))
 
   -- CONCLUSION: of arrays that fit, what is planned is one of the three
-  pub concluded : fit lines bounds kinds (length args) (length used) (length faults) ≡ true → Conclusion (planned lines bounds kinds args used faults)
+  pub concluded : fit lines bounds kinds (length args) (length used) (length faults) mostStatements mostStatements mostStatements ≡ true
+      → Conclusion (planned lines bounds kinds args used faults blank)
   unfolding planned sheeted
-  concluded h = rw (h, count-keys) (go (ltb mostDefinitions (length ds)) refl)
+  concluded h = rw (length-replicate {A = ℕ} mostStatements 0, h, count-keys) (go (ltb mostDefinitions (length ds)) refl)
     where
       go : (b : Bool) → ltb mostDefinitions (length ds) ≡ b
-          → Conclusion (cond b (outcome (refused 6 0) args used faults) (distinct lines bounds kinds args used faults))
+          → Conclusion (cond b (outcome (refused 6 0) args used faults placed) (distinct lines bounds kinds args used faults placed))
       go true t = many t refl refl
       go false t = by-doubles t

@@ -17,7 +17,7 @@ use Rattle.laws.proofs.Tests.{and-both}
 use Rattle.grammar.specs.Drafts.{Draft, draftsOf}
 use Rattle.sheet.specs.Sheet.{Numbered}
 use Rattle.sheet.specs.Layout.{draftsIn, boundsFrom, Laid}
-use Rattle.model.specs.Plan.{falls, inTurn, fit}
+use Rattle.model.specs.Plan.{falls, inTurn, roomy, fit}
 
 -- ---- the bounds: one more than there are statements, from the first draft to the last, none before the one in front of it
 pub bounds-many : (o : ℕ) (ss : List Numbered) → length (boundsFrom o ss) ≡ length ss + 1
@@ -45,8 +45,8 @@ bounds-rise o (s ∷ ss) (suc j) h = bounds-rise (o + length (draftsOf (s .says)
 -- FIT: with room for all
 pub laid-fits : (ss : List Numbered) (kinds args lines bounds : List ℕ) → Laid ss kinds args lines bounds → (a u f : ℕ)
     → length ss ≤ mostStatements → length kinds ≤ textBytes → length kinds ≤ a → length kinds ≤ u → faultBytes * length ss ≤ f
-    → fit lines bounds kinds a u f ≡ true
-unfolding fit inTurn
+    → fit lines bounds kinds a u f mostStatements mostStatements mostStatements ≡ true
+unfolding fit roomy inTurn
 laid-fits ss kinds args lines bounds laid a u f few short ha hu hf =
     let n : length lines ≡ length ss = ap length (laid .lines-held) ∙ length-map ss (λ (s : Numbered). s .line) in
     let m : length kinds ≡ length (draftsIn ss) = ap length (laid .kinds-held) ∙ length-map (draftsIn ss) (λ (d : Draft). d .kind) in
@@ -56,8 +56,11 @@ laid-fits ss kinds args lines bounds laid a u f few short ha hu hf =
     let last : eqb (getD bounds (length lines) 0) (length kinds) ≡ true =
     eq-eqb (getD bounds (length lines) 0) (length kinds) (rw (n, laid .bounds-held) (omega (arith, bounds-end 0 ss, m))) in
     let turn : not (anyIn (falls bounds) (length lines) 0) ≡ true = rw (n, none-any (falls bounds) (length ss) 0 rises) in
+    let most : leb mostStatements mostStatements ≡ true = le-leb mostStatements mostStatements (omega arith) in
+    let room : roomy mostStatements mostStatements mostStatements ≡ true = and-both _ _ most (and-both _ _ most most) in
     and-both _ _ (le-leb (length lines) mostStatements (omega arith))
     (and-both _ _ (eq-eqb (length bounds) (length lines + 1) (rw (laid .bounds-held) (omega (arith, bounds-many 0 ss, n))))
     (and-both _ _ (le-leb _ _ short)
     (and-both _ _ (le-leb _ _ ha)
-    (and-both _ _ (le-leb _ _ hu) (and-both _ _ (le-leb (faultBytes * length lines) f (rw n hf)) (and-both _ _ first (and-both _ _ last turn)))))))
+    (and-both _ _ (le-leb _ _ hu)
+    (and-both _ _ (le-leb (faultBytes * length lines) f (rw n hf)) (and-both _ _ room (and-both _ _ first (and-both _ _ last turn))))))))

@@ -7,7 +7,7 @@ use native.Mathlib.Omega.{arith}
 use native.Mathlib.Nat.{zero-add}
 use borrow.Author.Tests.{ltb-false}
 use lib.Dec.{ltb}
-use lib.ListN.{length, take, replicate, length-append, length-replicate}
+use lib.ListN.{length, take, length-append, length-replicate}
 use lib.Seq.{sets, length-sets, length-take-le}
 use Rattle.limits.specs.Limits.{mostDefinitions, mostStatements, mostRecords, recordBytes}
 use Rattle.sheet.specs.Sheet.{Numbered}
@@ -15,7 +15,7 @@ use Rattle.sheet.specs.Layout.{Laid}
 use Rattle.model.specs.Definitions.{Def, definitions, equationCount}
 use Rattle.model.specs.Faults.{modelFaults, orderOf}
 use Rattle.model.specs.Places.{keysIn, placesIn, resolved, equationRows}
-use Rattle.model.specs.Plan.{Outcome, outcome, held, Plans, fit, planned}
+use Rattle.model.specs.Plan.{lent, Outcome, outcome, Plans, fit, planned}
 use Rattle.model.specs.declared.answer.Plan.{Plan}
 use Rattle.model.proofs.Clean.{no-faults}
 use Rattle.model.proofs.Meant.{places-meant, rows-meant}
@@ -23,7 +23,7 @@ use Rattle.program.specs.Written.{Led, recordCount, writtenProgram}
 use Rattle.program.proofs.Meant.{led-meant}
 use Rattle.translator.specs.declared.Verdict.{Verdict}
 use Rattle.translator.specs.declared.Verdict.the-variants.{Refused, Faulty, Translated}
-use Rattle.translator.specs.Working.{Ready, Planned, Concludes}
+use Rattle.translator.specs.Working.{zeros, blank, held, Ready, Planned, Concludes}
 use Rattle.translator.proofs.Counted.{equations-few}
 use Rattle.translator.proofs.Progress.{take-sets}
 use Rattle.translator.proofs.Concluding.{Conclusion, concluded, whole, all-placed}
@@ -32,19 +32,18 @@ use Rattle.translator.proofs.Deciding.{written, decides-six, decides-se
 -- a row that an array holds stands at its front
 pub take-held : (l : List ℕ) (n : ℕ) → n ≡ length l → length l ≤ mostStatements → take n (held l) ≡ l
 take-held l n e h =
-    let r : List ℕ = replicate mostStatements 0 in
-    let m : length r ≡ mostStatements = length-replicate {A = ℕ} mostStatements 0 in
-    ap (λ (k : ℕ). take k (sets r 0 l)) (e ∙ sym (zero-add (length l))) ∙ take-sets r 0 l (omega (arith, m, h))
+    let m : length zeros ≡ mostStatements = length-replicate {A = ℕ} mostStatements 0 in
+    ap (λ (k : ℕ). take k (sets zeros 0 l)) (e ∙ sym (zero-add (length l))) ∙ take-sets zeros 0 l (omega (arith, m, h))
 
 length-held : (l : List ℕ) → length (held l) ≡ mostStatements
-length-held l = length-sets (replicate mostStatements 0) 0 l ∙ length-replicate {A = ℕ} mostStatements 0
+length-held l = length-sets zeros 0 l ∙ length-replicate {A = ℕ} mostStatements 0
 
 -- a front has its length
 pub front : (n : ℕ) (l : List ℕ) → n ≤ length l → n ≡ length (take n l)
 front n l h = sym (length-take-le n l h)
 
 -- ---- the plan of a sound model
-module _ {p : Plan} {lines bounds kinds args : List ℕ} (s : Planned p lines bounds kinds args) where
+module _ {p : Plan} {places rows order lines bounds kinds args : List ℕ} (s : Planned p places rows order lines bounds kinds args) where
   abbrev ds : List Def
   ds = definitions (s .statements)
 
@@ -70,36 +69,36 @@ module _ {p : Plan} {lines bounds kinds args : List ℕ} (s : Planned p lines bo
   order-short = omega (arith, order-many, few, equations-few ds)
 
   -- the three rows, cut from their arrays
-  pub places-room : p .definitions ≤ length (p .places)
+  pub places-room : p .definitions ≤ length places
   places-room = rw (s .places-held, length-held (placesIn kinds)) (omega (arith, s .definitions-counted, places-short))
 
-  pub rows-room : p .equations ≤ length (p .rows)
+  pub rows-room : p .equations ≤ length rows
   rows-room = rw (s .rows-held, length-held (equationRows (length lines) bounds kinds)) (omega (arith, s .equations-counted, rows-short))
 
-  pub order-room : p .equations ≤ length (p .order)
+  pub order-room : p .equations ≤ length order
   order-room = rw (s .order-held, length-held (orderOf ds)) (omega (arith, s .equations-counted, rows-short))
 
-  pub places-cut : take (p .definitions) (p .places) ≡ placesIn kinds
+  pub places-cut : take (p .definitions) places ≡ placesIn kinds
   places-cut = rw (s .places-held) (take-held (placesIn kinds) (p .definitions) (s .definitions-counted) places-short)
 
-  pub rows-cut : take (p .equations) (p .rows) ≡ equationRows (length lines) bounds kinds
+  pub rows-cut : take (p .equations) rows ≡ equationRows (length lines) bounds kinds
   rows-cut =
       rw (s .rows-held)
       (take-held (equationRows (length lines) bounds kinds) (p .equations) (s .equations-counted) rows-short)
 
-  pub order-cut : take (p .equations) (p .order) ≡ orderOf ds
+  pub order-cut : take (p .equations) order ≡ orderOf ds
   order-cut =
       rw (s .order-held)
       (take-held (orderOf ds) (p .equations) (s .equations-counted ∙ rows-many ∙ sym order-many) order-short)
 
   -- what is written is the program's bytes
-  pub written-cut : {r₁ r₂ r₃ : List ℕ} → r₁ ≡ take (p .definitions) (p .places) → r₂ ≡ take (p .equations) (p .rows)
-      → r₃ ≡ take (p .equations) (p .order)
+  pub written-cut : {r₁ r₂ r₃ : List ℕ} → r₁ ≡ take (p .definitions) places → r₂ ≡ take (p .equations) rows
+      → r₃ ≡ take (p .equations) order
       → writtenProgram r₁ r₂ lines bounds kinds args r₃ ≡ written (s .statements) kinds (s .named) lines bounds (s .laid) [] [] []
   written-cut e₁ e₂ e₃ = rw (e₁, e₂, e₃, places-cut, rows-cut, order-cut, s .args-resolved)
 
   -- its statements begin with their settings
-  pub program-led : {r₁ : List ℕ} → r₁ ≡ take (p .definitions) (p .places) → Led 1 r₁ lines bounds kinds args × Led 2 r₁ lines bounds kinds args
+  pub program-led : {r₁ : List ℕ} → r₁ ≡ take (p .definitions) places → Led 1 r₁ lines bounds kinds args × Led 2 r₁ lines bounds kinds args
   program-led e₁ = rw (e₁, places-cut, s .args-resolved) (led-meant (s .statements) kinds (s .named) lines bounds (s .laid) (s .clean))
 
   -- ---- the answers, from the count n of records
@@ -111,8 +110,8 @@ module _ {p : Plan} {lines bounds kinds args : List ℕ} (s : Planned p lines bo
     says-eight′ h k f =
         decides-eight′ (s .statements) kinds (s .named) lines bounds (s .laid) [] f out (s .few) (s .clean) (rw (← counted) k) (rw (← counted) h)
 
-    module _ {r₁ r₂ r₃ : List ℕ} (e₁ : r₁ ≡ take (p .definitions) (p .places)) (e₂ : r₂ ≡ take (p .equations) (p .rows))
-        (e₃ : r₃ ≡ take (p .equations) (p .order)) (k : n ≤ length out / recordBytes) where
+    module _ {r₁ r₂ r₃ : List ℕ} (e₁ : r₁ ≡ take (p .definitions) places) (e₂ : r₂ ≡ take (p .equations) rows)
+        (e₃ : r₃ ≡ take (p .equations) order) (k : n ≤ length out / recordBytes) where
       pub program-fits : length (writtenProgram r₁ r₂ lines bounds kinds args r₃) ≤ length out
       program-fits =
           rw (written-cut e₁ e₂ e₃)
@@ -126,24 +125,28 @@ module _ {p : Plan} {lines bounds kinds args : List ℕ} (s : Planned p lines bo
 
 -- ---- what is planned of statements that are laid out
 module _ {lines bounds kinds args used faults : List ℕ} (ready : Ready lines bounds kinds args used faults)
-    {p : Plan} {args′ used′ faults′ : List ℕ} (plans : Plans lines bounds kinds args used faults p args′ used′ faults′)
+    {p : Plan} {args′ used′ faults′ places rows order : List ℕ}
+    (plans : Plans lines bounds kinds args used faults blank p args′ used′ faults′ (lent places rows order))
     (ss : List Numbered) (laid : Laid ss kinds args lines bounds) (out : List ℕ) where
-  conclusion : Conclusion ss kinds args lines bounds laid used faults (outcome p args′ used′ faults′)
+  abbrev reached : Outcome
+  reached = outcome p args′ used′ faults′ (lent places rows order)
+
+  conclusion : Conclusion ss kinds args lines bounds laid used faults reached
   conclusion = rw plans (concluded ss kinds args lines bounds laid used faults (ready .fits))
 
   pub says-six : p .number ≡ 6 → Concludes ss faults out (Refused 6) faults′ out
-  says-six e = decides-six ss kinds args lines bounds laid used faults out (outcome p args′ used′ faults′) conclusion e
+  says-six e = decides-six ss kinds args lines bounds laid used faults out reached conclusion e
 
   pub says-seven : p .number ≡ 7 → Concludes ss faults out (Faulty 7 (p .count)) faults′ out
-  says-seven e = decides-seven ss kinds args lines bounds laid used faults out (outcome p args′ used′ faults′) conclusion e
+  says-seven e = decides-seven ss kinds args lines bounds laid used faults out reached conclusion e
 
   -- neither number: the model is sound, the fault list untouched
   module _ (not-six : p .number ≡ 6 → ⊥) (not-seven : p .number ≡ 7 → ⊥) where
     sound : (ltb mostDefinitions (length (definitions ss)) ≡ false) × (modelFaults ss ≡ [])
-        × (outcome p args′ used′ faults′ ≡ whole ss kinds args lines bounds laid used faults)
-    sound = decides-sound ss kinds args lines bounds laid used faults out (outcome p args′ used′ faults′) conclusion not-six not-seven
+        × (reached ≡ whole ss kinds args lines bounds laid used faults)
+    sound = decides-sound ss kinds args lines bounds laid used faults out reached conclusion not-six not-seven
 
-    pub planned-so : Planned p lines bounds kinds args′
+    pub planned-so : Planned p places rows order lines bounds kinds args′
     planned-so =
         let e = sound .2 in
         record {
@@ -155,12 +158,13 @@ module _ {lines bounds kinds args used faults : List ℕ} (ready : Ready lines b
           args-resolved = ap (λ (o : Outcome). o .args) e;
           definitions-counted = ap (λ (o : Outcome). o .plan .definitions) e;
           equations-counted = ap (λ (o : Outcome). o .plan .equations) e;
-          places-held = ap (λ (o : Outcome). o .plan .places) e;
-          rows-held = ap (λ (o : Outcome). o .plan .rows) e;
-          order-held = ap (λ (o : Outcome). o .plan .order) e;
+          places-held = ap (λ (o : Outcome). o .arrays .places) e;
+          rows-held = ap (λ (o : Outcome). o .arrays .rows) e;
+          order-held = ap (λ (o : Outcome). o .arrays .order) e;
         }
 
     pub says-rest : (r : Verdict) {out′ : List ℕ}
-        → ((s : Planned p lines bounds kinds args′) (f : List ℕ) → Concludes (s .statements) f out r f out′) → Concludes ss faults out r faults′ out′
+        → ((s : Planned p places rows order lines bounds kinds args′) (f : List ℕ) → Concludes (s .statements) f out r f out′)
+        → Concludes ss faults out r faults′ out′
     unfolding planned-so
     says-rest r w = rw (ap (λ (o : Outcome). o .faults) (sound .2)) (w planned-so faults)

@@ -4,7 +4,7 @@ use mathlib.Core.Path.{_≡_}
 use mathlib.Core.Bool.{Bool, true, false, cond}
 use mathlib.Core.List.{List, [], _∷_, _++_, map}
 use lib.Dec.{ltb}
-use lib.ListN.{length, take, drop, set}
+use lib.ListN.{length, take, drop, set, replicate}
 use lib.Seq.{sets}
 use Rattle.limits.specs.Limits.{mostStatements, mostDefinitions, textBytes, textLines, faultRoom}
 use Rattle.deck.specs.declared.Cursor.{Cursor}
@@ -23,7 +23,7 @@ use Rattle.sheet.specs.Layout.{draftsIn, boundsFrom, Laid}
 use Rattle.model.specs.Definitions.{definitions}
 use Rattle.model.specs.Faults.{modelFaults, orderOf}
 use Rattle.model.specs.Places.{keysIn, placesIn, resolved, equationRows}
-use Rattle.model.specs.Plan.{held, fit}
+use Rattle.model.specs.Plan.{Lent, lent, fit}
 use Rattle.model.specs.declared.answer.Plan.{Plan}
 use Rattle.translator.specs.declared.Verdict.{Verdict}
 use Rattle.translator.specs.Contract.{reply, replyOf}
@@ -176,14 +176,25 @@ pub record Read (text list₀ : List ℕ) (n : Tally) (kinds args lines bounds l
 
 -- ---- from the sheet to the verdict
 
+-- an array of zeros, and three that are lent to the plan
+abbrev pub zeros : List ℕ
+zeros = replicate mostStatements 0
+
+abbrev pub blank : Lent
+blank = lent zeros zeros zeros
+
+-- a row in such an array, zeros behind
+abbrev pub held : List ℕ → List ℕ
+held l = sets zeros 0 l
+
 -- the arrays hold some statements, and fit
 pub record Ready (lines bounds kinds args used faults : List ℕ) : Type 0 where
   pub statements : List Numbered
   pub laid : Laid statements kinds args lines bounds
-  pub fits : fit lines bounds kinds (length args) (length used) (length faults) ≡ true
+  pub fits : fit lines bounds kinds (length args) (length used) (length faults) mostStatements mostStatements mostStatements ≡ true
 
 -- the arrays held some statements whose model is sound; the names of their arguments are resolved, and the plan is theirs
-pub record Planned (p : Plan) (lines bounds kinds args : List ℕ) : Type 0 where
+pub record Planned (p : Plan) (places rows order lines bounds kinds args : List ℕ) : Type 0 where
   pub statements : List Numbered
   pub named : List ℕ
   pub laid : Laid statements kinds named lines bounds
@@ -192,9 +203,9 @@ pub record Planned (p : Plan) (lines bounds kinds args : List ℕ) : Type 0 wher
   pub args-resolved : args ≡ resolved (keysIn kinds named) kinds named
   pub definitions-counted : p .definitions ≡ length (placesIn kinds)
   pub equations-counted : p .equations ≡ length (equationRows (length lines) bounds kinds)
-  pub places-held : p .places ≡ held (placesIn kinds)
-  pub rows-held : p .rows ≡ held (equationRows (length lines) bounds kinds)
-  pub order-held : p .order ≡ held (orderOf (definitions statements))
+  pub places-held : places ≡ held (placesIn kinds)
+  pub rows-held : rows ≡ held (equationRows (length lines) bounds kinds)
+  pub order-held : order ≡ held (orderOf (definitions statements))
 
 -- the answer r and the buffers f′ and p′ are what the verdict on the model of the statements gives for the buffers f and p
 abbrev pub Concludes : List Numbered → List ℕ → List ℕ → Verdict → List ℕ → List ℕ → Type 0

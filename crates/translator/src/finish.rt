@@ -7,19 +7,25 @@ ghost use Rattle.translator.specs.Working.{Planned, Ready, Concludes};
 use super::Verdict;
 use limits::RECORD_BYTES;
 use limits::RECORDS;
+use limits::STATEMENTS;
 use model::answer::Plan;
 
-// Writes the program of a sound model, if its records are few enough and there is room for them.
+// Writes the program of a sound model, if its records are few enough and there is room for them. The places of its definitions, its
+// equations and their order stand at the front of places, rows and order.
 fn write_program(
     plan: Plan,
+    places: &[u16],
+    rows: &[u16],
+    order: &[u16],
     lines: &[u16],
     bounds: &[u16],
     kinds: &[u8],
     args: &[u64],
     out: &mut [u8],
 ) -> Verdict
-    requires { ⌜ Planned plan (now lines) (now bounds) (now kinds) (now args) ⌝ }
-    ensures { λ r. ⌜ ((s : Planned plan (now (lines .entry)) (now (bounds .entry)) (now (kinds .entry)) (now (args .entry))) (f : List ℕ)
+    requires { ⌜ Planned plan (now places) (now rows) (now order) (now lines) (now bounds) (now kinds) (now args) ⌝ }
+    ensures { λ r. ⌜ ((s : Planned plan (now (places .entry)) (now (rows .entry)) (now (order .entry)) (now (lines .entry)) (now (bounds .entry))
+        (now (kinds .entry)) (now (args .entry))) (f : List ℕ)
         → Concludes (s .statements) f (now (out .entry)) r f (now (out .exit))) ⌝ }
 {
     let n = program::count_records(kinds);
@@ -31,9 +37,6 @@ fn write_program(
     }
     let d = plan.definitions;
     let e = plan.equations;
-    let places = plan.places;
-    let rows = plan.rows;
-    let order = plan.order;
     program::put_program(
         &places[..d],
         &rows[..e],
@@ -61,12 +64,35 @@ pub(crate) fn conclude(
     ensures { λ r. ⌜ ((ss : List Numbered) → Laid ss (now (kinds .entry)) (now (args .entry)) (now (lines .entry)) (now (bounds .entry))
         → Concludes ss (now (faults .entry)) (now (out .entry)) r (now (faults .exit)) (now (out .exit))) ⌝ }
 {
-    let plan = model::plan(lines, bounds, kinds, &mut *args, used, faults);
+    let mut places = [0u16; STATEMENTS];
+    let mut rows = [0u16; STATEMENTS];
+    let mut order = [0u16; STATEMENTS];
+    let plan = model::plan(
+        lines,
+        bounds,
+        kinds,
+        &mut *args,
+        used,
+        faults,
+        &mut places,
+        &mut rows,
+        &mut order,
+    );
     if plan.number == 6 {
         return Verdict::Refused(6);
     }
     if plan.number == 7 {
         return Verdict::Faulty(7, plan.count);
     }
-    write_program(plan, lines, bounds, kinds, args, out)
+    write_program(
+        plan,
+        &places,
+        &rows,
+        &order,
+        lines,
+        bounds,
+        kinds,
+        args,
+        out,
+    )
 }

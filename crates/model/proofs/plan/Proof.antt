@@ -2,18 +2,26 @@
 use mathlib.Core.Path.{sym, _∙_}
 use borrow.Author.Needs.{needs}
 use lib.ListN.{length}
+use Rattle.model.specs.Plan.{lent}
 use Rattle.model.proofs.Staging.{fit-sound, planned-fit, planned-unfit}
 use Rattle.model.proofs.plan.Statement.{statement}
 use Rattle.model.proofs.plan.Tie as tie
+
+-- where the function begins, from where it is known whether they fit
+abbrev S : tie.After-fits2 → tie.Start
+S k = k .before .before .before .before .before .before .before .before .before .before
 
 fits-requires : tie.Need-fits-requires
 fits-requires c κs = search needs
 
 define-requires : tie.Need-define-requires
 define-requires c κs =
-    let s = c .before .before .before .before .before .before .before .before .before .before .before .args in
-    fit-sound (s .lines .now) (s .bounds .now) (s .kinds .now) (s .used .now) (length (s .args .now)) (length (s .faults .now))
-    (sym (c .before .before .before .before .fits2 .ensures) ∙ c .before .before .before .if1 .taken)
+    let test = c .before .before .before .before .before .before in
+    let k = test .before in
+    let a = S k .args in
+    let told = sym (k .fits2 .ensures) ∙ test .if1 .taken in
+    fit-sound (a .lines .now) (a .bounds .now) (a .kinds .now) (a .used .now) (a .rows .now) (a .order .now) (length (a .args .now)) (length (a .faults .now))
+    (length (a .places .now)) told
 
 same-length : tie.Need-same-length
 same-length c = search needs
@@ -24,21 +32,34 @@ same-length-2 c = search needs
 same-length-3 : tie.Need-same-length-3
 same-length-3 c = search needs
 
+same-length-4 : tie.Need-same-length-4
+same-length-4 c = search needs
+
+same-length-5 : tie.Need-same-length-5
+same-length-5 c = search needs
+
+same-length-6 : tie.Need-same-length-6
+same-length-6 c = search needs
+
 returns : tie.Need-returns
 returns c =
-    let test = c .before .before .before .before .before .before .before .before .before .before in
-    let s = test .before .before .before .before .before .before .before .before .args in
-    planned-fit (s .lines .now) (s .bounds .now) (s .kinds .now) (s .args .now) (s .used .now) (s .faults .now)
-    (sym (test .before .fits2 .ensures) ∙ test .if1 .taken) (c .before .before .before .before .before .before .define .ensures)
+    let done = c .before .before .before .before .before .before .before .before .before .before .before .before in
+    let test = done .before .before .before .before .before .before .before in
+    let k = test .before in
+    let a = S k .args in
+    let told = sym (k .fits2 .ensures) ∙ test .if1 .taken in
+    planned-fit (a .lines .now) (a .bounds .now) (a .kinds .now) (a .args .now) (a .used .now) (a .faults .now)
+    (lent (a .places .now) (a .rows .now) (a .order .now)) told (done .define .ensures)
 
 refusal-requires : tie.Need-refusal-requires
 refusal-requires c κs = search needs
 
 returns-2 : tie.Need-returns-2
 returns-2 c =
-    let s = c .before .before .before .before .before .before .before .before .before .args in
-    planned-unfit (s .lines .now) (s .bounds .now) (s .kinds .now) (s .args .now) (s .used .now) (s .faults .now)
-    (sym (c .before .before .fits2 .ensures) ∙ c .before .if1 .left) (c .refusal .ensures)
+    let k = c .before .before in
+    let a = S k .args in
+    planned-unfit (a .lines .now) (a .bounds .now) (a .kinds .now) (a .args .now) (a .used .now) (a .faults .now)
+    (lent (a .places .now) (a .rows .now) (a .order .now)) (sym (k .fits2 .ensures) ∙ c .before .if1 .left) (c .refusal .ensures)
 
 pub plan-spec : {M : Type 1} → statement M
 plan-spec =
@@ -49,6 +70,9 @@ plan-spec =
     same-length
     same-length-2
     same-length-3
+    same-length-4
+    same-length-5
+    same-length-6
     returns
     refusal-requires
     returns-2)

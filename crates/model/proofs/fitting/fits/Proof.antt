@@ -1,7 +1,11 @@
 -- The tests one after the other.
+use mathlib.Core.Path.{_≡_, sym, _∙_}
+use mathlib.Core.Bool.{_&&_}
 use native.Mathlib.Omega.{arith}
+use borrow.Author.Needs.{needs}
 use borrow.Author.Tests.{le-leb, lt-leb, eq-eqb, ne-eqb}
-use Rattle.model.specs.Plan.{fit}
+use lib.ListN.{length}
+use Rattle.model.specs.Plan.{inTurn, roomy, fit}
 use Rattle.model.proofs.fitting.fits.Statement.{statement}
 use Rattle.model.proofs.fitting.fits.Tie as tie
 
@@ -56,20 +60,39 @@ returns-6 c =
       lt-leb _ _ (c .if6 .taken),
     )
 
+has-room-requires : tie.Need-has-room-requires
+has-room-requires c κs = search needs
+
+-- where the function begins; behind the first six tests the last two are left
+abbrev S : tie.Else6 → tie.Start
+S c = c .before .before .before .before .before .before .before .before .before
+
+left : (c : tie.Else6)
+    → fit (S c .args .lines .now) (S c .args .bounds .now) (S c .args .kinds .now) (S c .args .args) (S c .args .used) (S c .args .faults)
+    (S c .args .places) (S c .args .rows) (S c .args .order)
+    ≡ (roomy (S c .args .places) (S c .args .rows) (S c .args .order)
+    && inTurn (S c .args .bounds .now) (length (S c .args .lines .now)) (length (S c .args .kinds .now)))
+unfolding fit
+left c =
+    rw (
+      le-leb _ _ (c .before .before .before .before .before .if1 .left),
+      eq-eqb _ _ (c .before .before .before .before .if2 .left),
+      le-leb _ _ (c .before .before .before .if3 .left),
+      le-leb _ _ (c .before .before .if4 .left),
+      le-leb _ _ (c .before .if5 .left),
+      le-leb _ _ (c .if6 .left),
+    )
+
 is-in-turn-requires : tie.Need-is-in-turn-requires
 is-in-turn-requires c κs = omega arith
 
 returns-7 : tie.Need-returns-7
-unfolding fit
 returns-7 c =
-    rw (
-      le-leb _ _ (c .before .before .before .before .before .before .if1 .left),
-      eq-eqb _ _ (c .before .before .before .before .before .if2 .left),
-      le-leb _ _ (c .before .before .before .before .if3 .left),
-      le-leb _ _ (c .before .before .before .if4 .left),
-      le-leb _ _ (c .before .before .if5 .left),
-      le-leb _ _ (c .before .if6 .left),
-    ) (c .is-in-turn .ensures)
+    let room = c .before .before in
+    rw (left (room .before), sym (room .has-room .ensures) ∙ c .before .if7 .taken) (c .is-in-turn .ensures)
+
+returns-8 : tie.Need-returns-8
+returns-8 c = rw (left (c .before .before), sym (c .before .has-room .ensures) ∙ c .if7 .left)
 
 pub fits-spec : {M : Type 1} → statement M
 fits-spec =
@@ -83,5 +106,7 @@ fits-spec =
     returns-5
     mul-if6
     returns-6
+    has-room-requires
     is-in-turn-requires
-    returns-7)
+    returns-7
+    returns-8)

@@ -1,19 +1,26 @@
 -- Faults 21 stand, or the plan goes on.
 use native.Mathlib.Omega.{arith}
 use borrow.Author.Needs.{needs}
-use Rattle.model.proofs.Staging.{holds-room, holds-front, keyed-count, distinct-fault, distinct-none}
+use Rattle.model.specs.Plan.{lent}
+use Rattle.model.proofs.Staging.{holds-front, keyed-count, distinct-fault, distinct-none}
 use Rattle.model.proofs.stages.check_doubles.Statement.{statement}
 use Rattle.model.proofs.stages.check_doubles.Tie as tie
 
-array-share-prefix-places : tie.Need-array-share-prefix-places
-array-share-prefix-places c = holds-room (c .before .before .before .before .before .before .before .before .before .pre .0 .placed)
+-- where the function begins, from where the faults are reported
+abbrev S : tie.After-report-doubles → tie.Start
+S k =
+    let a = k .before .before .before .before .before .before .before .before in
+    a .before .before .before .before .before .before .before
 
 slice-aggregate-report-doubles : tie.Need-slice-aggregate-report-doubles
-slice-aggregate-report-doubles c = holds-front (c .before .before .before .before .before .before .before .before .before .before .pre .0 .placed) .long
+slice-aggregate-report-doubles c =
+    let a = c .before .before .before .before .before .before .before in
+    holds-front (a .before .before .before .before .before .before .pre .0 .placed) .long
 
 report-doubles-requires : tie.Need-report-doubles-requires
 report-doubles-requires c κs =
-    let s = c .before .before .before .before .before .before .before .before .before .before .before .pre in
+    let a = c .before .before .before .before .before .before .before .before in
+    let s = a .before .before .before .before .before .before .pre in
     (s .1, omega (arith, holds-front (s .0 .placed) .long, keyed-count (s .0)), s .0 .sound .rises, s .0 .sound .few)
 
 refusal-requires : tie.Need-refusal-requires
@@ -24,14 +31,13 @@ same-length c = search needs
 
 returns : tie.Need-returns
 returns c =
-    let report = c .before .before .before .before in
-    let s = report .before .before .before .before .before .before .before .before .before .before .before .before .pre .0 in
-    distinct-fault s (report .report-doubles .ensures) (c .before .if1 .taken) (c .refusal .ensures)
+    let k = c .before .before .before .before in
+    let s = S k in
+    let l = lent (s .args .places .now) (s .args .rows .now) (s .args .placed .now) in
+    distinct-fault (s .pre .0) (k .report-doubles .ensures) l (c .before .if1 .taken) (c .refusal .ensures)
 
 settle-requires : tie.Need-settle-requires
-settle-requires c κs =
-    let report = c .before .before .before .before .before .before in
-    report .before .before .before .before .before .before .before .before .before .before .before .before .pre
+settle-requires c κs = search needs
 
 same-length-2 : tie.Need-same-length-2
 same-length-2 c = search needs
@@ -42,18 +48,25 @@ same-length-3 c = search needs
 same-length-4 : tie.Need-same-length-4
 same-length-4 c = search needs
 
+same-length-5 : tie.Need-same-length-5
+same-length-5 c = search needs
+
+same-length-6 : tie.Need-same-length-6
+same-length-6 c = search needs
+
 returns-2 : tie.Need-returns-2
 returns-2 c =
-    let test = c .before .before .before .before .before .before .before .before .before .before in
-    let report = test .before .before .before in
-    let s = report .before .before .before .before .before .before .before .before .before .before .before .before .pre .0 in
-    distinct-none s (report .report-doubles .ensures) (test .if1 .left) (c .before .before .before .before .before .before .settle .ensures)
+    let done = c .before .before .before .before .before .before .before .before .before .before in
+    let test = done .before .before .before .before .before .before in
+    let k = test .before .before .before in
+    let s = S k in
+    let l = lent (s .args .places .now) (s .args .rows .now) (s .args .placed .now) in
+    distinct-none (s .pre .0) (k .report-doubles .ensures) l (test .if1 .left) (done .settle .ensures)
 
 pub check-doubles-spec : {M : Type 1} → statement M
 check-doubles-spec =
     tie.close
     (tie.spec
-    array-share-prefix-places
     slice-aggregate-report-doubles
     report-doubles-requires
     refusal-requires
@@ -63,4 +76,6 @@ check-doubles-spec =
     same-length-2
     same-length-3
     same-length-4
+    same-length-5
+    same-length-6
     returns-2)

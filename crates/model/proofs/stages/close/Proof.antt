@@ -1,14 +1,13 @@
 -- A table that fits is sorted; then all are placed, or fewer.
-use mathlib.Core.Path.{refl}
 use native.Mathlib.Omega.{arith}
 use borrow.Author.Needs.{needs}
-use lib.ListN.{take}
-use Rattle.model.proofs.Staging.{prefix-length, holds-room, holds-few, sorts-fit, sorts-long, sorts-short, sorts-whole}
+use Rattle.model.proofs.Staging.{prefix-length, sorts-fit, sorts-long, sorts-short, sorts-whole}
 use Rattle.model.proofs.stages.close.Statement.{statement}
 use Rattle.model.proofs.stages.close.Tie as tie
 
-slice-aggregate-sort : tie.Need-slice-aggregate-sort
-slice-aggregate-sort c = search needs
+-- where the function begins, from where the table is sorted
+abbrev S : tie.After-sort → tie.Start
+S k = k .before .before .before .before .before .before .before .before
 
 sort-requires : tie.Need-sort-requires
 sort-requires c κs = search needs
@@ -22,78 +21,77 @@ enum-told c = search needs
 refusal-requires : tie.Need-refusal-requires
 refusal-requires c κs = search needs
 
+same-length : tie.Need-same-length
+same-length c = search needs
+
 returns : tie.Need-returns
 returns c =
-    let sort = c .before .before .before .before in
-    let s = sort .before .before .before .before .before .before .pre .0 in
-    absurd (sorts-fit (sort .sort .ensures) s (s .few) (c .before .enum-told .given .1))
+    let k = c .before .before .before .before .before in
+    let s = S k .pre in
+    absurd (sorts-fit (k .sort .ensures) (s .0) (s .2) (c .before .enum-told .given .1))
 
-array-share-prefix-placed : tie.Need-array-share-prefix-placed
-array-share-prefix-placed c = search needs
+slice-reshare-prefix-report-loops : tie.Need-slice-reshare-prefix-report-loops
+slice-reshare-prefix-report-loops c = search needs
 
 slice-aggregate-report-loops : tie.Need-slice-aggregate-report-loops
 slice-aggregate-report-loops c =
-    let sort = c .before .before .before .before .before .before in
-    let s = sort .before .before .before .before .before .before .pre .0 in
-    let sorted = sort .sort in
-    prefix-length (c .before .before .before .sorted .given .0 .0) (sorted .last .1 .1 .1 .0)
-    (omega (arith, c .before .if1 .taken, s .few, sorts-long (sorted .ensures) s (s .few)))
-
-array-share-prefix-rows : tie.Need-array-share-prefix-rows
-array-share-prefix-rows c =
-    let sort = c .before .before .before .before .before .before in
-    holds-room (sort .before .before .before .before .before .before .pre .2)
+    let k = c .before .before .before .before .before .before .before in
+    let s = S k .pre in
+    prefix-length (c .before .before .before .sorted .given .0 .0) (k .sort .last .1 .1 .1 .0)
+    (omega (arith, c .before .if1 .taken, s .0 .few, s .2, sorts-long (k .sort .ensures) (s .0) (s .2)))
 
 slice-aggregate-report-loops-2 : tie.Need-slice-aggregate-report-loops-2
-slice-aggregate-report-loops-2 c =
-    let sort = c .before .before .before .before .before .before .before in
-    sort .before .before .before .before .before .before .pre .2 .long
+slice-aggregate-report-loops-2 c = search needs
 
 report-loops-requires : tie.Need-report-loops-requires
-report-loops-requires c κs =
-    let sort = c .before .before .before .before .before .before .before .before in
-    holds-few (sort .before .before .before .before .before .before .pre .2)
+report-loops-requires c κs = search needs
 
 refusal-requires-2 : tie.Need-refusal-requires-2
 refusal-requires-2 c κs = search needs
 
-same-length : tie.Need-same-length
-same-length c = search needs
+same-length-2 : tie.Need-same-length-2
+same-length-2 c = search needs
+
+same-length-3 : tie.Need-same-length-3
+same-length-3 c = search needs
 
 returns-2 : tie.Need-returns-2
 returns-2 c =
     let report = c .before .before .before in
     let test = report .before .before .before .before in
-    let sort = test .before .before .before .before .before in
-    let s = sort .before .before .before .before .before .before in
-    let f = s .pre .0 in
-    sorts-short (sort .sort .ensures) f (f .few) (take (s .args .n) (s .args .places)) (s .args .lines .now) (test .before .before .sorted .given .1)
-    (test .if1 .taken) (s .pre .2) (report .report-loops .ensures) (c .refusal2 .ensures)
+    let k = test .before .before .before .before .before .before in
+    let s = S k in
+    let placed = test .before .before .sorted .given .1 in
+    sorts-short (k .sort .ensures) (s .pre .0) (s .pre .2) (s .args .n) (s .args .lines .now) placed (test .if1 .taken) (s .pre .1)
+    (report .report-loops .ensures) (c .refusal2 .ensures)
+
+same-length-4 : tie.Need-same-length-4
+same-length-4 c = search needs
 
 returns-3 : tie.Need-returns-3
 returns-3 c =
-    let sort = c .before .before .before .before .before in
-    let s = sort .before .before .before .before .before .before in
-    let f = s .pre .0 in
-    sorts-whole (sort .sort .ensures) f (f .few) (s .args .lines .now) (s .args .faults .now) refl (c .before .before .sorted .given .1) (c .if1 .left)
-    (s .pre .1) (s .pre .2)
+    let k = c .before .before .before .before .before .before in
+    let s = S k in
+    let placed = c .before .before .sorted .given .1 in
+    sorts-whole (k .sort .ensures) (s .pre .0) (s .pre .2) (s .args .n) (s .args .lines .now) (s .args .faults .now) placed (c .if1 .left) (s .pre .1)
 
 pub close-spec : {M : Type 1} → statement M
 close-spec =
     tie.close
     (tie.spec
-    slice-aggregate-sort
     sort-requires
     enum-known-sorted
     enum-told
     refusal-requires
+    same-length
     returns
-    array-share-prefix-placed
+    slice-reshare-prefix-report-loops
     slice-aggregate-report-loops
-    array-share-prefix-rows
     slice-aggregate-report-loops-2
     report-loops-requires
     refusal-requires-2
-    same-length
+    same-length-2
+    same-length-3
     returns-2
+    same-length-4
     returns-3)

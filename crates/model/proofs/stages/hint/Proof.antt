@@ -17,7 +17,8 @@ slice-aggregate-note-hints-2 c = search needs
 
 note-hints-requires : tie.Need-note-hints-requires
 note-hints-requires c κs =
-    let s = c .before .before .before .before .before .before .before .before .before .pre in
+    let a = c .before .before .before .before .before .before in
+    let s = a .before .before .before .before .before .before .pre .0 in
     (omega (arith, keyed-count s, s .few), refl, omega (arith, keyed-count s, s .few, length-replicate {A = ℕ} mostStatements 0))
 
 slice-aggregate-check-doubles : tie.Need-slice-aggregate-check-doubles
@@ -27,9 +28,7 @@ slice-aggregate-check-doubles-2 : tie.Need-slice-aggregate-check-doubles-2
 slice-aggregate-check-doubles-2 c = search needs
 
 check-doubles-requires : tie.Need-check-doubles-requires
-check-doubles-requires c κs =
-    let noted = c .before .before .before .before .before .before .before in
-    (noted .before .before .before .before .before .before .before .before .before .before .pre, noted .note-hints .ensures)
+check-doubles-requires c κs = search needs
 
 same-length : tie.Need-same-length
 same-length c = search needs
@@ -40,8 +39,14 @@ same-length-2 c = search needs
 same-length-3 : tie.Need-same-length-3
 same-length-3 c = search needs
 
+same-length-4 : tie.Need-same-length-4
+same-length-4 c = search needs
+
+same-length-5 : tie.Need-same-length-5
+same-length-5 c = search needs
+
 returns : tie.Need-returns
-returns c = c .before .before .before .before .before .before .check-doubles .ensures
+returns c = search needs
 
 pub hint-spec : {M : Type 1} → statement M
 hint-spec =
@@ -56,4 +61,6 @@ hint-spec =
     same-length
     same-length-2
     same-length-3
+    same-length-4
+    same-length-5
     returns)

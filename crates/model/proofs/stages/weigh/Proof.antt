@@ -1,56 +1,55 @@
 -- The table of uses fits the order.
-use native.Mathlib.Omega.{arith}
 use borrow.Author.Needs.{needs}
-use Rattle.model.proofs.Staging.{holds-room, holds-front, holds-few, few-used, starts-room, starts-front, used-room, used-front, weighed-fit, weighed}
+use Rattle.model.proofs.Staging.{holds-front, holds-few, few-used, starts-front, used-room, used-front, weighed-fit, weighed-by}
 use Rattle.model.proofs.stages.weigh.Statement.{statement}
 use Rattle.model.proofs.stages.weigh.Tie as tie
 
-array-share-prefix-rows : tie.Need-array-share-prefix-rows
-array-share-prefix-rows c = holds-room (c .before .before .before .before .before .before .pre .3)
+-- where the function begins, from where the table is made
+abbrev S : tie.After-table → tie.Start
+S t =
+    let a = t .before .before .before .before .before .before .before in
+    a .before .before .before .before .before
 
 slice-aggregate-table : tie.Need-slice-aggregate-table
-slice-aggregate-table c = holds-front (c .before .before .before .before .before .before .before .pre .3) .long
+slice-aggregate-table c = holds-front (c .before .before .before .before .before .before .before .before .before .pre .2) .long
 
 slice-aggregate-table-2 : tie.Need-slice-aggregate-table-2
 slice-aggregate-table-2 c = search needs
 
 table-requires : tie.Need-table-requires
 table-requires c κs =
-    let s = c .before .before .before .before .before .before .before .before .before in
-    (holds-few (s .pre .3), s .pre .1, few-used (s .args .slots .now) (s .pre .0) (s .pre .3))
+    let s = c .before .before .before .before .before .before .before .before .before .before .before in
+    (holds-few (s .pre .2), s .pre .1, few-used (s .args .slots .now) (s .pre .0) (s .pre .2))
 
 add-starts : tie.Need-add-starts
-add-starts c = omega (arith, c .before .before .before .before .before .before .before .before .before .before .before .before .before .pre .3 .within)
+add-starts c = search needs
 
 array-share-prefix-starts : tie.Need-array-share-prefix-starts
-array-share-prefix-starts c =
-    let tabled = c .before .before .before in
-    let s = tabled .before .before .before .before .before .before .before .before .before .before in
-    starts-room (s .args .slots .now) (s .pre .0) (s .pre .3) (tabled .table .ensures)
+array-share-prefix-starts c = search needs
 
 slice-aggregate-close : tie.Need-slice-aggregate-close
 slice-aggregate-close c =
-    let tabled = c .before .before .before .before in
-    let s = tabled .before .before .before .before .before .before .before .before .before .before in
-    starts-front (s .args .slots .now) (s .pre .0) (s .pre .3) (tabled .table .ensures)
+    let t = c .before .before .before .before in
+    let s = S t in
+    starts-front (s .args .slots .now) (s .pre .0) (s .pre .2) (t .table .ensures)
 
 slice-reshare-prefix-close : tie.Need-slice-reshare-prefix-close
 slice-reshare-prefix-close c =
-    let tabled = c .before .before .before .before in
-    let s = tabled .before .before .before .before .before .before .before .before .before .before in
-    used-room (s .args .slots .now) (s .pre .0) (s .pre .3) (tabled .table .ensures)
+    let t = c .before .before .before .before in
+    let s = S t in
+    used-room (s .args .slots .now) (s .pre .0) (s .pre .2) (t .table .ensures)
 
 slice-aggregate-close-2 : tie.Need-slice-aggregate-close-2
 slice-aggregate-close-2 c =
-    let tabled = c .before .before .before .before .before in
-    let s = tabled .before .before .before .before .before .before .before .before .before .before in
-    used-front (s .args .slots .now) (s .pre .0) (s .pre .3) (tabled .table .ensures)
+    let t = c .before .before .before .before .before in
+    let s = S t in
+    used-front (s .args .slots .now) (s .pre .0) (s .pre .2) (t .table .ensures)
 
 close-requires : tie.Need-close-requires
 close-requires c κs =
-    let tabled = c .before .before .before .before .before .before in
-    let s = tabled .before .before .before .before .before .before .before .before .before .before in
-    (weighed-fit (s .args .slots .now) (s .pre .0) (s .pre .3) (tabled .table .ensures), holds-front (s .pre .2), holds-front (s .pre .3))
+    let t = c .before .before .before .before .before .before .before in
+    let s = S t in
+    (weighed-fit (s .args .slots .now) (s .pre .0) (s .pre .2) (t .table .ensures), holds-front (s .pre .2), s .pre .3)
 
 same-length : tie.Need-same-length
 same-length c = search needs
@@ -58,17 +57,21 @@ same-length c = search needs
 same-length-2 : tie.Need-same-length-2
 same-length-2 c = search needs
 
+same-length-3 : tie.Need-same-length-3
+same-length-3 c = search needs
+
 returns : tie.Need-returns
 returns c =
-    let tabled = c .before .before .before .before .before .before .before .before .before in
-    let s = tabled .before .before .before .before .before .before .before .before .before .before in
-    weighed (s .args .slots .now) (s .pre .0) (s .pre .3) (tabled .table .ensures) (s .args .faults .now) (s .pre .2) (c .before .before .close .ensures)
+    let closed = c .before .before .before .before in
+    let t = closed .before .before .before .before .before .before .before .before in
+    let s = S t in
+    weighed-by (s .args .slots .now) (s .pre .0) (s .pre .2) (t .table .ensures) (s .args .n) (s .args .faults .now) (s .args .placed .now)
+    (closed .close .ensures)
 
 pub weigh-spec : {M : Type 1} → statement M
 weigh-spec =
     tie.close
     (tie.spec
-    array-share-prefix-rows
     slice-aggregate-table
     slice-aggregate-table-2
     table-requires
@@ -80,4 +83,5 @@ weigh-spec =
     close-requires
     same-length
     same-length-2
+    same-length-3
     returns)

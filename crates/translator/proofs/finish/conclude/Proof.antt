@@ -1,5 +1,5 @@
 -- The plan is made, and by its number the answer is 6, or 7, or what the writing gives.
-use mathlib.Core.Path.{refl}
+use mathlib.Core.Path.{_≡_}
 use borrow.Author.Needs.{needs}
 use Rattle.translator.proofs.Writing.{says-six, says-seven, planned-so, says-rest}
 use Rattle.translator.proofs.finish.conclude.Statement.{statement}
@@ -7,16 +7,40 @@ use Rattle.translator.proofs.finish.conclude.Tie as tie
 
 -- where the function begins; where it has the plan, from each answer
 abbrev S : tie.After-plan → tie.Start
-S p = p .before .before .before .before .before .before .before .before .before .before .before
+S p =
+    let a = p .before .before .before .before .before .before .before in
+    a .before .before .before .before .before .before .before
 
 abbrev P : tie.Then1 → tie.After-plan
-P c = c .before .before .before .before .before .before .before .before
+P c =
+    let a = c .before .before .before .before .before .before in
+    a .before .before .before .before .before
 
 abbrev P′ : tie.Then2 → tie.After-plan
-P′ c = c .before .before .before .before .before .before .before .before .before .before
+P′ c =
+    let a = c .before .before .before .before .before .before .before in
+    a .before .before .before .before .before .before
 
 abbrev P″ : tie.After-write-program-arg2 → tie.After-plan
-P″ c = c .before .before .before .before .before .before .before .before .before .before .before .before
+P″ c =
+    let a = c .before .before .before .before .before .before .before .before .before in
+    a .before .before .before .before .before .before .before .before .before
+
+-- where the program is written, the number is neither 6 nor 7
+six : (c : tie.After-write-program-arg2) → P″ c .plan .result .number ≡ 6 → ⊥
+six c = c .before .before .before .before .before .before .before .if1 .left
+
+seven : (c : tie.After-write-program-arg2) → P″ c .plan .result .number ≡ 7 → ⊥
+seven c = c .before .before .before .before .before .if2 .left
+
+slice-aggregate-plan : tie.Need-slice-aggregate-plan
+slice-aggregate-plan c = search needs
+
+slice-aggregate-plan-2 : tie.Need-slice-aggregate-plan-2
+slice-aggregate-plan-2 c = search needs
+
+slice-aggregate-plan-3 : tie.Need-slice-aggregate-plan-3
+slice-aggregate-plan-3 c = search needs
 
 plan-requires : tie.Need-plan-requires
 plan-requires c κs = search needs
@@ -51,12 +75,20 @@ returns-2 c =
     let s = S p in
     λ ss laid. says-seven (s .pre) (p .plan .ensures) ss laid (s .args .out .now) (c .if2 .taken)
 
+slice-aggregate-write-program : tie.Need-slice-aggregate-write-program
+slice-aggregate-write-program c = search needs
+
+slice-aggregate-write-program-2 : tie.Need-slice-aggregate-write-program-2
+slice-aggregate-write-program-2 c = search needs
+
+slice-aggregate-write-program-3 : tie.Need-slice-aggregate-write-program-3
+slice-aggregate-write-program-3 c = search needs
+
 write-program-requires : tie.Need-write-program-requires
 write-program-requires c κs =
     let p = P″ c in
     let s = S p in
-    planned-so (s .pre) (p .plan .ensures) (s .pre .statements) (s .pre .laid) (s .args .out .now) (c .before .before .before .before .if1 .left)
-    (c .before .before .if2 .left)
+    planned-so (s .pre) (p .plan .ensures) (s .pre .statements) (s .pre .laid) (s .args .out .now) (six c) (seven c)
 
 same-length-7 : tie.Need-same-length-7
 same-length-7 c = search needs
@@ -77,13 +109,15 @@ returns-3 c =
     let p = P″ a in
     let s = S p in
     λ ss laid.
-    says-rest (s .pre) (p .plan .ensures) ss laid (s .args .out .now) (a .before .before .before .before .if1 .left)
-    (a .before .before .if2 .left) (w .write-program .result) (w .write-program .ensures)
+    says-rest (s .pre) (p .plan .ensures) ss laid (s .args .out .now) (six a) (seven a) (w .write-program .result) (w .write-program .ensures)
 
 pub conclude-spec : {M : Type 1} → statement M
 conclude-spec =
     tie.close
     (tie.spec
+    slice-aggregate-plan
+    slice-aggregate-plan-2
+    slice-aggregate-plan-3
     plan-requires
     same-length
     same-length-2
@@ -93,6 +127,9 @@ conclude-spec =
     same-length-5
     same-length-6
     returns-2
+    slice-aggregate-write-program
+    slice-aggregate-write-program-2
+    slice-aggregate-write-program-3
     write-program-requires
     same-length-7
     same-length-8
