@@ -92,14 +92,16 @@ module _ (keys : List ℕ) (d e : ℕ) where
 -- ---- where no key stands twice
 module _ (keys : List ℕ) where
   -- each key stands first at its own place
-  none-at : (k d e : ℕ) → d + k ≡ e → e ≤ length keys → repeats keys d e ≡ false → (i : ℕ) → d ≤ i → i < e → ltb (placeIn (getD keys i 0) keys) i ≡ false
+  none-at : (k d e : ℕ) → d + k ≡ e → e ≤ length keys → repeats keys d e ≡ false
+      → (i : ℕ) → d ≤ i → i < e → ltb (placeIn (getD keys i 0) keys) i ≡ false
   none-at zero d e q h z i a b = absurd (omega arith)
   none-at (suc k) d e q h z i a b =
       let both = or-false (ltb (placeIn (getD keys d 0) keys) d) (repeats keys (d + 1) e) (sym (repeat-step keys d e (omega arith) h) ∙ z) in
       ⊎-elim (λ (s : i ≡ d). rw s (both .0)) (λ n. none-at k (d + 1) e (omega arith) h (both .1) i (omega arith) b) (eq-or-ne i d)
 
   -- so no part has one again
-  none-part : (k a b : ℕ) → a + k ≡ b → b ≤ length keys → ((i : ℕ) → a ≤ i → i < b → ltb (placeIn (getD keys i 0) keys) i ≡ false) → repeats keys a b ≡ false
+  none-part : (k a b : ℕ) → a + k ≡ b → b ≤ length keys
+      → ((i : ℕ) → a ≤ i → i < b → ltb (placeIn (getD keys i 0) keys) i ≡ false) → repeats keys a b ≡ false
   none-part zero a b q h f = repeat-done keys a b (omega arith)
   none-part (suc k) a b q h f =
       repeat-step keys a b (omega arith) h

@@ -20,6 +20,7 @@ use Rattle.model.specs.Faults.{faultIf, again, faults21, within, namedBy, initi
 use Rattle.model.specs.Faults.{usesIn, fault24, faults24, orElse, modelFaults, orderOf}
 use Rattle.records.specs.Record.{Rec}
 use Rattle.program.specs.Program.{program}
+use Rattle.program.specs.Written.{writes, recordCount}
 use Rattle.translator.specs.Verdict.{Verdict, refused, ifFaults, fitted, programmed, modelled, judged, verdictOf, countOf}
 use Rattle.translator.specs.Verdict.{faulty as flawed, translated}
 
@@ -144,3 +145,11 @@ pub count-few : (v : Verdict) → Few v → countOf v ≤ mostRecords
 count-few (refused n) h = omega arith
 count-few (flawed n fs) h = omega arith
 count-few (translated rs ls) h = h
+
+-- no more records than drafts
+pub records-few : (kinds : List ℕ) → recordCount kinds ≤ length kinds
+unfolding recordCount
+records-few [] = omega arith
+records-few (k ∷ kinds) =
+    cond-ind (λ (n : ℕ). n ≤ suc (length kinds)) (writes k) (suc (recordCount kinds)) (recordCount kinds)
+    (λ _. omega (arith, records-few kinds)) (λ _. omega (arith, records-few kinds))

@@ -107,6 +107,10 @@ module _ (ss : List Numbered) (kinds args lines bounds : List ℕ) (laid : Laid 
           count,
         )
 
+    -- it has so many bytes
+    pub program-long : length written ≡ recordCount kinds * recordBytes
+    program-long = rw (program-meant ss kinds args lines bounds laid clean, length-program recs) (omega (arith, count))
+
     -- there is room for it
     pub program-room : recordCount kinds ≤ length prog / recordBytes → length written ≤ length prog
     program-room k =

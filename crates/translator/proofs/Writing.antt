@@ -1,15 +1,16 @@
 -- From a plan to the program: what the plan's arrays hold, and the answer of each path.
 use Prim.Native.Nat.{ℕ, suc, _+_, _/_, _<_, _≤_}
 use mathlib.Core.Path.{_≡_, refl, sym, ap, _∙_}
-use mathlib.Core.Bool.{Bool, true, false}
+use mathlib.Core.Bool.{Bool, true, false, _||_}
 use mathlib.Core.List.{List, [], _∷_, _++_}
 use native.Mathlib.Omega.{arith}
 use native.Mathlib.Nat.{zero-add}
-use borrow.Author.Tests.{ltb-false}
+use borrow.Author.Tests.{ltb-true, ltb-false}
 use lib.Dec.{ltb}
 use lib.ListN.{length, take, length-append, length-replicate}
 use lib.Seq.{sets, length-sets, length-take-le}
 use Rattle.limits.specs.Limits.{mostDefinitions, mostStatements, mostRecords, recordBytes}
+use Rattle.laws.proofs.Bools.{or-false}
 use Rattle.sheet.specs.Sheet.{Numbered}
 use Rattle.sheet.specs.Layout.{Laid}
 use Rattle.model.specs.Definitions.{Def, definitions, equationCount}
@@ -27,7 +28,8 @@ use Rattle.translator.specs.Working.{zeros, blank, held, Ready, Planned,
 use Rattle.translator.proofs.Counted.{equations-few}
 use Rattle.translator.proofs.Progress.{take-sets}
 use Rattle.translator.proofs.Concluding.{Conclusion, concluded, whole, all-placed}
-use Rattle.translator.proofs.Deciding.{written, decides-six, decides-seven, decides-sound, decides-eight, decides-eight′, decides-zero, program-room}
+use Rattle.translator.proofs.Deciding.{written, decides-six, decides-seven, decides-sound, decides-eight, decides-eight′, decides-zero}
+use Rattle.translator.proofs.Deciding.{program-room, program-long}
 
 -- a row that an array holds stands at its front
 pub take-held : (l : List ℕ) (n : ℕ) → n ≡ length l → length l ≤ mostStatements → take n (held l) ≡ l
@@ -101,27 +103,44 @@ module _ {p : Plan} {places rows order lines bounds kinds args : List ℕ} (s : 
   pub program-led : {r₁ : List ℕ} → r₁ ≡ take (p .definitions) places → Led 1 r₁ lines bounds kinds args × Led 2 r₁ lines bounds kinds args
   program-led e₁ = rw (e₁, places-cut, s .args-resolved) (led-meant (s .statements) kinds (s .named) lines bounds (s .laid) (s .clean))
 
-  -- ---- the answers, from the count n of records
-  module _ {n : ℕ} (counted : n ≡ recordCount kinds) (out : List ℕ) where
-    pub says-eight : mostRecords < n → (f : List ℕ) → Concludes (s .statements) f out (Refused 8) f out
-    says-eight h f = decides-eight (s .statements) kinds (s .named) lines bounds (s .laid) [] f out (s .few) (s .clean) (rw (← counted) h)
+  -- ---- the answers
+  module _ (out : List ℕ) {over : Bool} (tested : over ≡ (ltb mostRecords (recordCount kinds) || ltb (length out / recordBytes) (recordCount kinds))) where
+    -- the records are too many, or too many for the room
+    pub says-eight : over ≡ true → (f : List ℕ) → Concludes (s .statements) f out (Refused 8) f out
+    says-eight t f = go (ltb mostRecords (recordCount kinds)) refl (sym tested ∙ t)
+      where
+        go : (b : Bool) → ltb mostRecords (recordCount kinds) ≡ b → (b || ltb (length out / recordBytes) (recordCount kinds)) ≡ true
+            → Concludes (s .statements) f out (Refused 8) f out
+        go true e _ =
+            decides-eight (s .statements) kinds (s .named) lines bounds (s .laid) [] f out (s .few) (s .clean) (ltb-true mostRecords (recordCount kinds) e)
+        go false e h =
+            decides-eight′ (s .statements) kinds (s .named) lines bounds (s .laid) [] f out (s .few) (s .clean)
+            (ltb-true (length out / recordBytes) (recordCount kinds) h) (ltb-false mostRecords (recordCount kinds) e)
 
-    pub says-eight′ : n ≤ mostRecords → length out / recordBytes < n → (f : List ℕ) → Concludes (s .statements) f out (Refused 8) f out
-    says-eight′ h k f =
-        decides-eight′ (s .statements) kinds (s .named) lines bounds (s .laid) [] f out (s .few) (s .clean) (rw (← counted) k) (rw (← counted) h)
-
+    -- or they are not, and the program is written
     module _ {r₁ r₂ r₃ : List ℕ} (e₁ : r₁ ≡ take (p .definitions) places) (e₂ : r₂ ≡ take (p .equations) rows)
-        (e₃ : r₃ ≡ take (p .equations) order) (k : n ≤ length out / recordBytes) where
+        (e₃ : r₃ ≡ take (p .equations) order) (z : over ≡ false) where
+      under : (recordCount kinds ≤ mostRecords) × (recordCount kinds ≤ length out / recordBytes)
+      under =
+          let both = or-false (ltb mostRecords (recordCount kinds)) (ltb (length out / recordBytes) (recordCount kinds)) (sym tested ∙ z) in
+          (ltb-false mostRecords (recordCount kinds) (both .0), ltb-false (length out / recordBytes) (recordCount kinds) (both .1))
+
       pub program-fits : length (writtenProgram r₁ r₂ lines bounds kinds args r₃) ≤ length out
       program-fits =
-          rw (written-cut e₁ e₂ e₃)
-          (program-room (s .statements) kinds (s .named) lines bounds (s .laid) [] [] out (s .few) (s .clean) (rw (← counted) k))
+          rw (written-cut e₁ e₂ e₃) (program-room (s .statements) kinds (s .named) lines bounds (s .laid) [] [] out (s .few) (s .clean) (under .1))
 
-      pub says-zero : {out′ : List ℕ} → n ≤ mostRecords → out′ ≡ sets out 0 (writtenProgram r₁ r₂ lines bounds kinds args r₃) → (f : List ℕ)
-          → Concludes (s .statements) f out (Translated n) f out′
-      says-zero h e f =
-          rw (e, written-cut e₁ e₂ e₃, counted)
-          (decides-zero (s .statements) kinds (s .named) lines bounds (s .laid) [] f out (s .few) (s .clean) (rw (← counted) h) (rw (← counted) k))
+      -- its bytes tell how many records it has
+      counted : {n : ℕ} → n ≡ length (writtenProgram r₁ r₂ lines bounds kinds args r₃) → n / recordBytes ≡ recordCount kinds
+      counted e =
+          let many = program-long (s .statements) kinds (s .named) lines bounds (s .laid) [] [] out (s .few) (s .clean) in
+          rw (e, written-cut e₁ e₂ e₃) (omega (arith, many))
+
+      pub says-zero : {n : ℕ} {out′ : List ℕ} → (n ≡ length (writtenProgram r₁ r₂ lines bounds kinds args r₃))
+          × (out′ ≡ sets out 0 (writtenProgram r₁ r₂ lines bounds kinds args r₃)) → (f : List ℕ)
+          → Concludes (s .statements) f out (Translated (n / recordBytes)) f out′
+      says-zero e f =
+          rw (counted (e .0), e .1, written-cut e₁ e₂ e₃)
+          (decides-zero (s .statements) kinds (s .named) lines bounds (s .laid) [] f out (s .few) (s .clean) (under .0) (under .1))
 
 -- ---- what is planned of statements that are laid out
 module _ {lines bounds kinds args used faults : List ℕ} (ready : Ready lines bounds kinds args used faults)

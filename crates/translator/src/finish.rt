@@ -1,6 +1,11 @@
 // From the arrays of a sheet without statement fault to the verdict: the model's plan, then the program.
+ghost use mathlib.Core.Path.{_≡_};
+ghost use mathlib.Core.Bool.{_||_};
 ghost use mathlib.Core.List.{List};
 ghost use Prim.Native.Nat.{ℕ};
+ghost use lib.Dec.{ltb};
+ghost use Rattle.limits.specs.Limits.{mostRecords};
+ghost use Rattle.program.specs.Written.{recordCount};
 ghost use Rattle.sheet.specs.Sheet.{Numbered};
 ghost use Rattle.sheet.specs.Layout.{Laid};
 ghost use Rattle.translator.specs.Working.{Planned, Ready, Concludes};
@@ -9,6 +14,22 @@ use limits::RECORD_BYTES;
 use limits::RECORDS;
 use limits::STATEMENTS;
 use model::answer::Plan;
+
+// Whether the drafts of these kinds write more records than there may be, or than there is room for. Few drafts need no count.
+fn is_over(kinds: &[u8], room: usize) -> bool
+    ensures { λ r. ⌜ r ≡ (ltb mostRecords (recordCount (now (kinds .entry))) || ltb room (recordCount (now (kinds .entry)))) ⌝ }
+{
+    if kinds.len() <= RECORDS {
+        if kinds.len() <= room {
+            return false;
+        }
+    }
+    let n = program::count_records(kinds);
+    if RECORDS < n {
+        return true;
+    }
+    room < n
+}
 
 // Writes the program of a sound model, if its records are few enough and there is room for them. The places of its definitions, its
 // equations and their order stand at the front of places, rows and order.
@@ -28,16 +49,12 @@ fn write_program(
         (now (kinds .entry)) (now (args .entry))) (f : List ℕ)
         → Concludes (s .statements) f (now (out .entry)) r f (now (out .exit))) ⌝ }
 {
-    let n = program::count_records(kinds);
-    if RECORDS < n {
-        return Verdict::Refused(8);
-    }
-    if out.len() / RECORD_BYTES < n {
+    if is_over(kinds, out.len() / RECORD_BYTES) {
         return Verdict::Refused(8);
     }
     let d = plan.definitions;
     let e = plan.equations;
-    program::put_program(
+    let bytes = program::put_program(
         &places[..d],
         &rows[..e],
         lines,
@@ -47,7 +64,7 @@ fn write_program(
         &order[..e],
         out,
     );
-    Verdict::Translated(n)
+    Verdict::Translated(bytes / RECORD_BYTES)
 }
 
 // The verdict on the model: 6, 7 with the faults listed, 8, or 0 with the program written.
