@@ -1,4 +1,4 @@
-// The working room of a translation: arrays in which what is read of the text stands, of five sizes.
+// The working room of a translation: arrays in which what is read of the text stands, of six sizes.
 ghost use Prim.Native.Nat.{_≤_, _<_};
 ghost use lib.ListN.{length};
 ghost use Rattle.limits.specs.Limits.{mostStatements, textBytes, faultRoom};
@@ -17,7 +17,9 @@ const SMALL: usize = 256;
 
 const MIDDLE: usize = 1024;
 
-const LARGE: usize = 4096;
+const LARGE: usize = 3072;
+
+const VAST: usize = 8192;
 
 const WHOLE: usize = TEXT_BYTES + 1;
 
@@ -143,7 +145,7 @@ fn in_middle_room(text: &[u8], faults: &mut [u8], program: &mut [u8]) -> Verdict
 
 // The verdict on a long text.
 fn in_large_room(text: &[u8], faults: &mut [u8], program: &mut [u8]) -> Verdict
-    requires { ⌜ (length (sheetOf (now text)) ≤ mostStatements) × (length (now text) < 4096) × (faultRoom ≤ length (now faults)) ⌝ }
+    requires { ⌜ (length (sheetOf (now text)) ≤ mostStatements) × (length (now text) < 3072) × (faultRoom ≤ length (now faults)) ⌝ }
     ensures { λ r. ⌜ Judges (now (text .entry)) (now (faults .entry)) (now (program .entry)) r (now (faults .exit)) (now (program .exit)) ⌝ }
 {
     let mut row_kinds = [0u8; deck::JOINED_BYTES];
@@ -151,6 +153,32 @@ fn in_large_room(text: &[u8], faults: &mut [u8], program: &mut [u8]) -> Verdict
     let mut kinds = [0u8; LARGE];
     let mut args = [0u64; LARGE];
     let mut used = [0u16; LARGE];
+    let mut lines = [0u16; STATEMENTS];
+    let mut bounds = [0u16; STATEMENTS + 1];
+    judge(
+        text,
+        faults,
+        program,
+        &mut row_kinds,
+        &mut row_args,
+        &mut kinds,
+        &mut args,
+        &mut used,
+        &mut lines,
+        &mut bounds,
+    )
+}
+
+// The verdict on a very long text.
+fn in_vast_room(text: &[u8], faults: &mut [u8], program: &mut [u8]) -> Verdict
+    requires { ⌜ (length (sheetOf (now text)) ≤ mostStatements) × (length (now text) < 8192) × (faultRoom ≤ length (now faults)) ⌝ }
+    ensures { λ r. ⌜ Judges (now (text .entry)) (now (faults .entry)) (now (program .entry)) r (now (faults .exit)) (now (program .exit)) ⌝ }
+{
+    let mut row_kinds = [0u8; deck::JOINED_BYTES];
+    let mut row_args = [0u64; deck::JOINED_BYTES];
+    let mut kinds = [0u8; VAST];
+    let mut args = [0u64; VAST];
+    let mut used = [0u16; VAST];
     let mut lines = [0u16; STATEMENTS];
     let mut bounds = [0u16; STATEMENTS + 1];
     judge(
@@ -209,6 +237,9 @@ pub(crate) fn in_some_room(text: &[u8], faults: &mut [u8], program: &mut [u8]) -
     }
     if text.len() < LARGE {
         return in_large_room(text, faults, program);
+    }
+    if text.len() < VAST {
+        return in_vast_room(text, faults, program);
     }
     in_whole_room(text, faults, program)
 }
