@@ -176,6 +176,10 @@ width-clear (suc k) (b ∷ t) h e = go (eqb b 10) e (width-clear k t (omega arit
 pub passes-first : (t : List ℕ) (at : ℕ) → at ≤ length t → Passes t at at
 passes-first t at h = record { from = omega arith; upto = h; same = refl }
 
+-- from one place to another, and on from there
+pub passes-both : {t : List ℕ} {at i j : ℕ} → Passes t at i → Passes t i j → Passes t at j
+passes-both w v = record { from = omega (arith, w .from, v .from); upto = v .upto; same = omega (arith, w .same, v .same) }
+
 pub passes-on : {t : List ℕ} {at i : ℕ} (k : ℕ) → Passes t at i → i + k ≤ length t → ltb 0 (endsOf (take (i + k - i) (drop i t))) ≡ false
     → Passes t at (i + k)
 passes-on {t} {at} {i} k w h q =

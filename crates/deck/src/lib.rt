@@ -36,8 +36,10 @@ pub enum Found {
 // The most bytes of a joined text where no fault 11, 12 or 13 stands.
 pub const JOINED_BYTES: usize = limits::CARDS * (limits::CARD_BYTES + 1) - 1;
 
-// How many bytes are searched at once for a byte 10, and how many are counted at once: fewer than 256.
+// How many bytes are searched at once for a byte 10, at first and then, and how many are counted at once: fewer than 256.
 const STRIDE: usize = 16;
+
+const PACE: usize = 8;
 
 const PART: usize = 192;
 
@@ -104,14 +106,14 @@ fn count_ends(text: &[u8]) -> usize
     n + wide(ends_in(&text[i..]))
 }
 
-// A place before which no byte 10 stands, from a place on: many bytes are passed at once.
-fn pass(text: &[u8], at: usize) -> usize
-    requires { ⌜ at ≤ length (now text) ⌝ }
+// A place before which no byte 10 stands, from a place on: so many bytes are passed at once.
+fn pass(text: &[u8], at: usize, stride: usize) -> usize
+    requires { ⌜ (at ≤ length (now text)) × (0 < stride) ⌝ }
     ensures { λ r. ⌜ Passes (now (text .entry)) at r ⌝ }
 {
     let mut i = at;
-    while STRIDE <= text.len() - i {
-        let e = i + STRIDE;
+    while stride <= text.len() - i {
+        let e = i + stride;
         if has_end(&text[i..e]) {
             return i;
         }
@@ -128,7 +130,8 @@ fn line_end(text: &[u8], at: usize) -> usize
     ensures value { λ r. ⌜ r ≡ at + width (drop at (now (text .entry))) ⌝ }
     ensures within { λ r. ⌜ (at ≤ r) × (r ≤ length (now (text .entry))) ⌝ }
 {
-    let mut i = pass(text, at);
+    let far = pass(text, at, STRIDE);
+    let mut i = pass(text, far, PACE);
     while i < text.len() {
         if text[i] == 10 {
             return i;

@@ -4,18 +4,19 @@ use native.Mathlib.Omega.{arith}
 use borrow.Author.Needs.{needs}
 use lib.ListN.{length}
 use Rattle.deck.specs.Next.{Passes}
+use Rattle.deck.proofs.Ends.{passes-both}
 use Rattle.deck.proofs.Bytes.{width-ten, width-more, width-end}
 use Rattle.deck.proofs.line_end.Statement.{statement}
 use Rattle.deck.proofs.line_end.Tie as tie
 
 abbrev Inv-loop : tie.InvT-loop
-Inv-loop text at i₀ i = Passes text at i
+Inv-loop text at far i₀ i = Passes text at i
 
 abbrev μ-loop : tie.MeasureT-loop
-μ-loop text at i₀ i = length text - i
+μ-loop text at far i₀ i = length text - i
 
 loop-holds : tie.Need-loop-holds Inv-loop μ-loop
-loop-holds c = c .pass .ensures
+loop-holds c = passes-both (c .before .pass .ensures) (c .pass2 .ensures)
 
 shared-slice-read-if1 : tie.Need-shared-slice-read-if1 Inv-loop μ-loop
 shared-slice-read-if1 c = search needs
@@ -24,7 +25,7 @@ returns : tie.Need-returns Inv-loop μ-loop
 returns c =
     let b = c .before .before .before in
     let w = b .loop .inv in
-    let m = width-ten (b .before .before .before .args .text .now) (b .loop .i) (c .before .before .loop-test .taken) (c .if1 .taken) in
+    let m = width-ten (b .before .before .before .before .args .text .now) (b .loop .i) (c .before .before .loop-test .taken) (c .if1 .taken) in
     omega (arith, w .same, w .from, w .upto, m)
 
 add-i : tie.Need-add-i Inv-loop μ-loop
@@ -38,15 +39,15 @@ loop-again c =
     let b = c .before .before .before in
     let w = b .loop .inv in
     let h = c .before .before .loop-test .taken in
-    let m = width-more (b .before .before .before .args .text .now) (b .loop .i) h (c .if1 .left) in
+    let m = width-more (b .before .before .before .before .args .text .now) (b .loop .i) h (c .if1 .left) in
     record { from = omega (arith, w .from); upto = omega arith; same = omega (arith, w .same, m) }
 
 returns-2 : tie.Need-returns-2 Inv-loop μ-loop
 returns-2 c =
     let w = c .before .loop .inv in
-    omega (arith, w .same, w .from, w .upto, width-end (c .before .before .before .before .args .text .now) (c .before .loop .i) (c .loop-test .left))
+    omega (arith, w .same, w .from, w .upto, width-end (c .before .before .before .before .before .args .text .now) (c .before .loop .i) (c .loop-test .left))
 
 pub line-end-spec : {M : Type 1} → statement M
 line-end-spec =
     tie.close
-    (tie.spec Inv-loop μ-loop (λ c κs. search needs) loop-holds shared-slice-read-if1 returns add-i loop-less loop-again returns-2)
+    (tie.spec Inv-loop μ-loop (λ c κs. search needs) (λ c κs. (c .pass .ensures .upto, search needs)) loop-holds shared-slice-read-if1 returns add-i loop-less loop-again returns-2)

@@ -10,13 +10,13 @@ use Rattle.deck.proofs.pass.Statement.{statement}
 use Rattle.deck.proofs.pass.Tie as tie
 
 abbrev Inv-loop : tie.InvT-loop
-Inv-loop text at i₀ i = Passes text at i
+Inv-loop text at stride i₀ i = Passes text at i
 
 abbrev μ-loop : tie.MeasureT-loop
-μ-loop text at i₀ i = length text - i
+μ-loop text at stride i₀ i = length text - i
 
 loop-holds : tie.Need-loop-holds Inv-loop μ-loop
-loop-holds c = passes-first _ _ (c .before .pre)
+loop-holds c = passes-first _ _ (c .before .pre .0)
 
 returns : tie.Need-returns Inv-loop μ-loop
 returns c = c .before .before .before .before .loop .inv
@@ -26,7 +26,7 @@ loop-again c =
     let at-ends = c .before in
     let at-test = at-ends .before .before in
     let i = at-test .before .loop .inv in
-    passes-on 16 i (omega (arith, at-test .loop-test .taken, i .upto)) (sym (at-ends .has-end .ensures) ∙ c .if1 .left)
+    passes-on _ i (omega (arith, at-test .loop-test .taken, i .upto)) (sym (at-ends .has-end .ensures) ∙ c .if1 .left)
 
 returns-2 : tie.Need-returns-2 Inv-loop μ-loop
 returns-2 c = c .before .loop .inv
