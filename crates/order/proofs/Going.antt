@@ -1,66 +1,65 @@
 -- The loop that places statements.
 use mathlib.Core.Path.{_≡_, refl, sym, ap, _∙_}
-use mathlib.Core.Bool.{Bool, false, cond}
+use mathlib.Core.Bool.{Bool, cond}
 use mathlib.Core.Logic.{⊎-elim}
 use mathlib.Core.List.{List, [], _∷_, _++_}
 use Prim.Native.Nat.{ℕ, suc, _+_, _-_, _≤_, _<_}
 use native.Mathlib.Nat.{sub-zero}
 use native.Mathlib.Numerals.{add-one}
 use native.Mathlib.Omega.{arith}
-use borrow.Author.Tests.{lt-ltb, le-ltb}
+use borrow.Author.Tests.{lt-ltb, le-ltb, ltb-true, ltb-false}
 use lib.Dec.{ltb}
-use lib.ListN.{length, getD, take, set, replicate, length-set, length-replicate}
+use lib.ListN.{length, getD, take, set, replicate, length-set, length-replicate, getD-replicate}
 use lib.Seq.{sets, length-sets, length-take-le, take-suc-set, getD-set-same, getD-set-other}
 use Rattle.limits.specs.Limits.{mostStatements}
 use Rattle.laws.specs.Counts.{count}
-use Rattle.laws.proofs.Tests.{bool-cases, lt-or-ge, eq-or-ne}
+use Rattle.laws.proofs.Tests.{lt-or-ge, eq-or-ne}
 use Rattle.laws.proofs.Sets.{sets-append}
 use Rattle.laws.proofs.Counts.{count-snoc-same, count-snoc-other}
 use Rattle.order.specs.Greedy.{first, ready, next, place, order}
 use Rattle.order.specs.Table.{usesIn, Fit}
-use Rattle.order.specs.Marks.{readyIn, Search, Users, never, always, marksRoom}
+use Rattle.order.specs.Marks.{readyIn, none, flag, State, Woken, Awake}
 use Rattle.order.specs.Answer.{Filled}
-use Rattle.order.proofs.Sorting.{first-before, first-same, ready-free, next-ready}
+use Rattle.order.proofs.Sorting.{first-before, first-hit, first-same, ready-free, next-ready}
 use Rattle.order.proofs.Searches.{first-skip, first-bound}
-use Rattle.order.proofs.Marking.{ready-same}
-use Rattle.order.proofs.Waiting.{unmarked, unmarked-at, search-mark, search-none}
-use Rattle.order.proofs.Users.{ready-kept}
+use Rattle.order.proofs.Marking.{ready-same, cursors-mark}
+use Rattle.order.proofs.Flagging.{flags-tell, flags-mark}
 
 -- k statements are placed: they stand at the front of `out` and are marked, and with those that are still to be placed they make the
--- order; none before `from` is ready
-pub record Going (n : ℕ) (s u lent users out marks cursors waits : List ℕ) (from k : ℕ) : Type 0 where
+-- order; none before `from` is flagged
+pub record Going (n : ℕ) (s u lent out marks flags cursors heads links waits : List ℕ) (from k : ℕ) : Type 0 where
   pub fit : Fit n s u
   pub room : n ≤ length lent
   pub few : k ≤ n
-  pub size : length marks ≡ marksRoom
+  pub size : length marks ≡ mostStatements
   pub content : out ≡ sets lent 0 (take k out)
   pub mark : (j : ℕ) → j < n → getD marks j 0 ≡ count j (take k out)
   pub left : place n (usesIn s u) (n - k) (take k out) ≡ order n (usesIn s u)
-  pub search : Search n s u marks cursors waits
-  pub noted : Users n s u users 0
+  pub state : State n n s u marks flags cursors heads links waits none none
   pub begun : from ≤ n
-  pub none : (j : ℕ) → j < from → readyIn n s u marks j ≡ false
+  pub clear : (j : ℕ) → j < from → getD flags j 0 ≡ 0
 
 -- none is placed
-pub going-start : {n : ℕ} {s u users : List ℕ} (lent : List ℕ) → Fit n s u → n ≤ length lent → Users n s u users 0
-    → Going n s u lent users lent unmarked (replicate mostStatements 0) (replicate mostStatements always) 0 0
+pub going-start : {n : ℕ} {s u flags cursors heads links waits : List ℕ} (lent : List ℕ) → Fit n s u → n ≤ length lent
+    → State n n s u (replicate mostStatements 0) flags cursors heads links waits none none
+    → Going n s u lent lent (replicate mostStatements 0) flags cursors heads links waits 0 0
 unfolding order count
 going-start {n} {s} {u} lent t h w =
     record {
       fit = t;
       room = h;
       few = omega arith;
-      size = length-set (replicate {A = ℕ} marksRoom 0) always 1 ∙ length-replicate {A = ℕ} marksRoom 0;
+      size = length-replicate {A = ℕ} mostStatements 0;
       content = refl;
-      mark = λ j l. unmarked-at j (omega (arith, t .few));
+      mark = λ j l. getD-replicate {A = ℕ} mostStatements j 0 0 (omega (arith, t .few));
       left = rw sub-zero;
-      search = search-none n s u (t .few);
-      noted = w;
+      state = w;
       begun = omega arith;
-      none = λ j l. absurd (omega arith);
+      clear = λ j l. absurd (omega arith);
     }
 
-module _ {n : ℕ} {s u lent users out marks cursors waits : List ℕ} {from k : ℕ} (g : Going n s u lent users out marks cursors waits from k) where
+module _ {n : ℕ} {s u lent out marks flags cursors heads links waits : List ℕ} {from k : ℕ}
+    (g : Going n s u lent out marks flags cursors heads links waits from k) where
   -- what each uses
   abbrev uses : ℕ → ℕ → Bool
   uses = usesIn s u
@@ -75,18 +74,20 @@ module _ {n : ℕ} {s u lent users out marks cursors waits : List ℕ} {from k :
 
   -- what the search from `from` on finds
   abbrev found : ℕ
-  found = first (readyIn n s u marks) (n - from) from
+  found = first (flag flags) (n - from) from
 
   -- that is the same
   going-next : found ≡ chosen
   unfolding next
   going-next =
-      sym (first-skip (readyIn n s u marks) n from (g .begun) (g .none))
-      ∙ first-same (readyIn n s u marks) (ready n uses placed) n n 0 (omega arith) (λ i h. ready-same n s u marks i placed (g .mark) h)
+      let told : (i : ℕ) → i < n → flag flags i ≡ readyIn n s u marks i =
+      flags-tell (g .fit) (g .state .known) (λ i _ l e. omega (arith, g .fit .few)) in
+      sym (first-skip (flag flags) n from (g .begun) (λ j h. le-ltb 0 (getD flags j 0) (omega (arith, g .clear j h))))
+      ∙ first-same (flag flags) (ready n uses placed) n n 0 (omega arith) (λ i h. told i h ∙ ready-same n s u marks i placed (g .mark) h)
 
   -- what is found is one of the n, if it is not n itself
   pub going-found : (i : ℕ) → i ≡ found → (i ≡ n → ⊥) → i < n
-  going-found i e h = omega (arith, first-bound (readyIn n s u marks) (n - from) from, g .begun)
+  going-found i e h = omega (arith, first-bound (flag flags) (n - from) from, g .begun)
 
   -- `out` is as long as it was
   pub going-long : length out ≡ length lent
@@ -114,19 +115,31 @@ module _ {n : ℕ} {s u lent users out marks cursors waits : List ℕ} {from k :
   pub going-stop : k < n → (i : ℕ) → i ≡ found → i ≡ n → Filled n s u lent out k
   going-stop h i e z = done (sym (g .left) ∙ going-on h ∙ rw (le-ltb chosen n (omega (arith, going-next))))
 
-  -- with i placed, none is ready before i and before the least that uses i
-  none-kept : (i j : ℕ) → i ≡ found → i < n → j < i → j < getD users i 0 → readyIn n s u (set marks i 1) j ≡ false
-  none-kept i j e l h q =
-      let f = readyIn n s u marks in
-      let old : f j ≡ false = ⊎-elim (g .none j) (λ w. first-before f (n - from) from j w (omega arith)) (lt-or-ge j from) in
-      let no : uses j i ≡ false =
-      ⊎-elim (λ t. absurd (omega (arith, g .noted .from j i (omega arith) (omega arith) t))) (λ t. t) (bool-cases (uses j i)) in
-      ready-kept n s u marks i j (λ w. omega arith) no ∙ old
+  -- i is found: it is marked, and those that wait for it are woken
+  pub going-woken : (i : ℕ) → i ≡ found → i < n → Woken n s u (set marks i 1) (set flags i 0) cursors heads links waits i i
+  going-woken i e l =
+      let li : i < length marks = omega (arith, g .size, g .fit .few) in
+      let hit : 0 < getD flags i 0 =
+      ltb-true 0 (getD flags i 0) (rw (← e) at (first-hit (flag flags) (n - from) from (omega (arith, g .begun)))) in
+      record {
+        fit = g .fit;
+        one = l;
+        mark = omega (arith, getD-set-same marks i 1 0 li);
+        moved = cursors-mark n s u marks cursors (g .state .moved) i li;
+        lists = g .state .lists;
+        known = flags-mark (g .fit) (g .state .known) i l hit li;
+        clear =
+            λ j h.
+            getD-set-other flags i j 0 0 (λ q. omega arith)
+            ∙ ⊎-elim (g .clear j)
+            (λ w. omega (arith, ltb-false 0 (getD flags j 0) (first-before (flag flags) (n - from) from j w (omega arith)))) (lt-or-ge j from);
+      }
 
   -- one more is placed
-  pub going-step : {moves rests : List ℕ} {at : ℕ} → k < n → (i : ℕ) → i ≡ found → i < n → Search n s u marks moves rests
-      → at ≤ i → at ≤ getD users i 0 → Going n s u lent users (set out k i) (set marks i 1) moves (set rests i never) at (k + 1)
-  going-step {moves} {rests} {at} h i e l m lo hi =
+  pub going-step : {flags′ cursors′ heads′ links′ waits′ : List ℕ} {at : ℕ} → k < n → (i : ℕ) → i ≡ found → i < n
+      → Awake n s u (set marks i 1) flags′ cursors′ heads′ links′ waits′ i at
+      → Going n s u lent (set out k i) (set marks i 1) flags′ cursors′ heads′ links′ waits′ at (k + 1)
+  going-step {at = at} h i e l m =
       let f : i ≡ chosen = e ∙ going-next in
       let ln : chosen < n = rw f at l in
       let li : i < length marks = omega (arith, g .size, g .fit .few) in
@@ -147,8 +160,7 @@ module _ {n : ℕ} {s u lent users out marks cursors waits : List ℕ} {from k :
             (⊎-elim (λ (q : j ≡ i). rw q (omega (arith, getD-set-same marks i 1 0 li, count-snoc-same i placed)))
             (λ q. getD-set-other marks i j 1 0 q ∙ g .mark j hj ∙ sym (count-snoc-other j i placed q)) (eq-or-ne j i));
         left = rw (front, f) (sym (going-on h ∙ rw (lt-ltb chosen n ln)) ∙ g .left);
-        search = search-mark (g .fit) m i l li;
-        noted = g .noted;
-        begun = omega arith;
-        none = λ j w. none-kept i j e l (omega arith) (omega arith);
+        state = m .state;
+        begun = omega (arith, m .early);
+        clear = m .clear;
       }

@@ -5,7 +5,9 @@ pub mod Theorems
 pub mod Tables
 pub mod Searches
 pub mod Marking
-pub mod Waiting
-pub mod Users
+pub mod Queues
+pub mod Flagging
+pub mod Seeking
+pub mod Settling
 pub mod Going
 pub mod Answers

@@ -1,15 +1,15 @@
--- What the code keeps while it places statements: a mark for each that is placed, a cursor for each past what it uses that is placed,
--- for each what it waits for, and for each the least statement that uses it.
+-- What the code keeps while it places statements: a mark for each that is placed, a cursor for each past what it uses that is placed, a
+-- flag for each that is ready; any other waits for one that it uses, in a list of those that do.
 use mathlib.Core.Path.{_≡_}
 use mathlib.Core.Bool.{Bool, true, false, not, _&&_, _||_}
-use mathlib.Core.Logic.{_⊎_}
-use mathlib.Core.List.{List}
+use mathlib.Core.List.{List, [], _∷_}
 use Prim.Native.Nat.{ℕ, _+_, _≤_, _<_}
-use lib.Dec.{ltb}
-use lib.ListN.{length, getD}
+use lib.Dec.{eqb, ltb}
+use lib.ListN.{length, getD, set}
 use Rattle.limits.specs.Limits.{mostStatements}
+use Rattle.laws.specs.Counts.{once, count, _∈_}
 use Rattle.order.specs.Greedy.{all}
-use Rattle.order.specs.Table.{usesIn}
+use Rattle.order.specs.Table.{usesIn, Fit}
 
 -- j is marked
 abbrev pub marked : List ℕ → ℕ → Bool
@@ -32,33 +32,82 @@ pub record Cursors (n : ℕ) (starts used marks cursors : List ℕ) : Type 0 whe
   pub size : length cursors ≡ mostStatements
   pub pass : (i d : ℕ) → i < n → d < getD cursors i 0 → openAt used marks (getD starts i 0 + d) ≡ false
 
--- behind the marks of the statements, the place of one that is never set
-abbrev pub never : ℕ
-never = mostStatements
+-- ---- who waits for whom
 
--- and of one that always is
-abbrev pub always : ℕ
-always = mostStatements + 1
+-- no statement
+abbrev pub none : ℕ
+none = mostStatements
 
--- how many marks there are
-abbrev pub marksRoom : ℕ
-marksRoom = mostStatements + 2
+-- links lead from x through these statements, one after the other, to the end
+unfoldable pub Leads : List ℕ → ℕ → List ℕ → Type 0
+Leads links x [] = x ≡ none
+Leads links x (y ∷ ys) = (x ≡ y) × Leads links (getD links y 0) ys
 
--- a marked statement waits for the mark that is never set; any other for that of a statement that it uses, or at first for the one
--- that always is
-pub record Waits (n : ℕ) (starts used marks waits : List ℕ) : Type 0 where
-  pub size : length waits ≡ mostStatements
-  pub shut : getD marks never 0 ≡ 0
-  pub free : 0 < getD marks always 0
-  pub past : (i : ℕ) → i < n → 0 < getD marks i 0 → getD waits i 0 ≡ never
-  pub other : (i : ℕ) → i < n → getD marks i 0 ≡ 0 → (getD waits i 0 ≡ always) ⊎ (usesIn starts used i (getD waits i 0) ≡ true)
+-- who waits for q stands once in the list of q, and nobody else does; the list of p is gone through, and goes on at x
+pub record Lists (n : ℕ) (heads links waits : List ℕ) (p x : ℕ) : Type 0 where
+  pub heads-size : length heads ≡ mostStatements
+  pub links-size : length links ≡ mostStatements
+  pub waits-size : length waits ≡ mostStatements
+  pub row : ℕ → List ℕ
+  pub own : p < n → Leads links x (row p)
+  pub shut : p < n → getD heads p 0 ≡ none
+  pub others : (q : ℕ) → q < n → (q ≡ p → ⊥) → Leads links (getD heads q 0) (row q)
+  pub stands : (i q : ℕ) → i < n → q < n → count i (row q) ≡ once (eqb (getD waits i 0) q)
+  pub only : (i q : ℕ) → q < n → i ∈ row q → i < n
 
--- what a search for a ready statement needs
-pub record Search (n : ℕ) (starts used marks cursors waits : List ℕ) : Type 0 where
+-- ---- who is ready
+
+-- the flag of i is set
+abbrev pub flag : List ℕ → ℕ → Bool
+flag flags i = ltb 0 (getD flags i 0)
+
+-- one of them is
+unfoldable pub someFlag : List ℕ → Bool
+someFlag [] = false
+someFlag (a ∷ l) = ltb 0 a || someFlag l
+
+-- of the statements before k: who is flagged is ready, and waits for none; nor does one that is marked; any other waits for one that it
+-- uses and that is not marked, unless that is p
+pub record Flags (n k : ℕ) (starts used marks flags waits : List ℕ) (p : ℕ) : Type 0 where
+  pub flags-size : length flags ≡ mostStatements
+  pub flagged : (i : ℕ) → i < k → 0 < getD flags i 0 → (readyIn n starts used marks i ≡ true) × (getD waits i 0 ≡ none)
+  pub placed : (i : ℕ) → i < k → 0 < getD marks i 0 → getD waits i 0 ≡ none
+  pub blocked : (i : ℕ) → i < k → getD marks i 0 ≡ 0 → getD flags i 0 ≡ 0
+      → (getD waits i 0 < n) × (usesIn starts used i (getD waits i 0) ≡ true) × ((getD waits i 0 ≡ p → ⊥) → getD marks (getD waits i 0) 0 ≡ 0)
+
+-- all that is known between two steps
+pub record State (n k : ℕ) (starts used marks flags cursors heads links waits : List ℕ) (p x : ℕ) : Type 0 where
   pub moved : Cursors n starts used marks cursors
-  pub known : Waits n starts used marks waits
+  pub lists : Lists n heads links waits p x
+  pub known : Flags n k starts used marks flags waits p
 
--- of the statements from i on, none that uses j stands before users[j]
-pub record Users (n : ℕ) (starts used users : List ℕ) (i : ℕ) : Type 0 where
-  pub size : length users ≡ mostStatements
-  pub from : (p j : ℕ) → i ≤ p → p < n → usesIn starts used p j ≡ true → getD users j 0 ≤ p
+-- what `settle` gives: whether i is ready; if not, i waits for one that it uses and that is not marked, at the front of its list
+pub record Settles (n : ℕ) (starts used marks : List ℕ) (i : ℕ) (r : Bool) (cursors heads links waits heads′ links′ waits′ : List ℕ) : Type 0 where
+  pub moved : Cursors n starts used marks cursors
+  pub told : r ≡ readyIn n starts used marks i
+  pub kept : r ≡ true → (heads′ ≡ heads) × (links′ ≡ links) × (waits′ ≡ waits)
+  pub hung : r ≡ false → (j : ℕ) × (j < n) × (usesIn starts used i j ≡ true) × (getD marks j 0 ≡ 0)
+      × (heads′ ≡ set heads j i) × (links′ ≡ set links i (getD heads j 0)) × (waits′ ≡ set waits i j)
+
+-- at first no statement is marked, flagged or waits
+pub record Blank (n : ℕ) (starts used marks flags cursors heads links waits : List ℕ) : Type 0 where
+  pub state : State n 0 starts used marks flags cursors heads links waits none none
+  pub unmarked : (i : ℕ) → i < n → getD marks i 0 ≡ 0
+  pub unflagged : (i : ℕ) → i < n → getD flags i 0 ≡ 0
+  pub idle : (i : ℕ) → i < n → getD waits i 0 ≡ none
+
+-- j is marked, and those that wait for it still do
+pub record Woken (n : ℕ) (starts used marks flags cursors heads links waits : List ℕ) (j low : ℕ) : Type 0 where
+  pub fit : Fit n starts used
+  pub one : j < n
+  pub mark : 0 < getD marks j 0
+  pub moved : Cursors n starts used marks cursors
+  pub lists : Lists n heads links waits none none
+  pub known : Flags n n starts used marks flags waits j
+  pub clear : (i : ℕ) → i < low → getD flags i 0 ≡ 0
+
+-- nobody does; no flag is set before r
+pub record Awake (n : ℕ) (starts used marks flags cursors heads links waits : List ℕ) (low r : ℕ) : Type 0 where
+  pub state : State n n starts used marks flags cursors heads links waits none none
+  pub early : r ≤ low
+  pub clear : (i : ℕ) → i < r → getD flags i 0 ≡ 0

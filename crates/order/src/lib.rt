@@ -1,22 +1,19 @@
 // The order of statements: each after all it uses, the least first.
 ghost use mathlib.Core.Path.{_≡_};
-ghost use Prim.Native.Nat.{ℕ, _+_, _-_, _≤_, _<_, min};
-ghost use lib.ListN.{length, getD};
+ghost use Prim.Native.Nat.{ℕ, _-_, _≤_, _<_, min};
+ghost use lib.ListN.{length, getD, set};
 ghost use Rattle.limits.specs.Limits.{mostStatements};
 ghost use Rattle.order.specs.Greedy.{all, first};
 ghost use Rattle.order.specs.Table.{Fit, endsIn, belowAt, fits};
-ghost use Rattle.order.specs.Marks.{openAt, readyIn, Search, Users};
+ghost use Rattle.order.specs.Marks.{openAt, none, flag, someFlag, Cursors, Settles, Blank, State, Woken, Awake};
 ghost use Rattle.order.specs.Answer.{Filled, Sorts};
 use limits::STATEMENTS;
 
-// How many marks there are: one for each statement, and behind them two more.
-const MARKS: usize = STATEMENTS + 2;
+// No statement: where a list ends, and what a statement waits for that waits for none.
+const NONE: usize = STATEMENTS;
 
-// The place of the mark that is never set: what is placed waits for it.
-const NEVER: usize = STATEMENTS;
-
-// The place of the mark that always is: what was not tested yet waits for it.
-const ALWAYS: usize = STATEMENTS + 1;
+// How many flags are looked at at once.
+const STRIDE: usize = 16;
 
 // What `sort` answers: how many statements were placed, or that the table does not fit.
 pub enum Sorted {
@@ -80,7 +77,7 @@ fn fit(n: usize, starts: &[u16], used: &[u16], room: usize) -> bool
 }
 
 // The first place from a place on and before an end whose statement is not marked; the end where there is none.
-fn advance(from: usize, end: usize, used: &[u16], marks: &[u8; MARKS]) -> usize
+fn advance(from: usize, end: usize, used: &[u16], marks: &[u8; STATEMENTS]) -> usize
     requires { ⌜ (end ≤ length (now used)) × ((k : ℕ) → k < end → getD (now used) k 0 < mostStatements) ⌝ }
     ensures { λ r. ⌜ r ≡ first (openAt (now (used .entry)) (now (marks .entry))) (end - from) from ⌝ }
 {
@@ -95,26 +92,39 @@ fn advance(from: usize, end: usize, used: &[u16], marks: &[u8; MARKS]) -> usize
     k
 }
 
-// Whether statement i is not marked and uses only marked ones. It is not while the mark that it waits for is not set; then its cursor
-// moves to the next that it waits for.
-fn test(
+// Puts statement i to the front of the list of those that wait for j.
+fn attach(
+    i: usize,
+    j: usize,
+    heads: &mut [u16; STATEMENTS],
+    links: &mut [u16; STATEMENTS],
+    waits: &mut [u16; STATEMENTS],
+)
+    requires { ⌜ (i < mostStatements) × (j < mostStatements) ⌝ }
+    ensures { λ _. ⌜ (now (heads .exit) ≡ set (now (heads .entry)) j i) × (now (links .exit) ≡ set (now (links .entry)) i (getD (now (heads .entry)) j 0))
+        × (now (waits .exit) ≡ set (now (waits .entry)) i j) ⌝ }
+{
+    links[i] = heads[j];
+    heads[j] = i as u16;
+    waits[i] = j as u16;
+}
+
+// Whether statement i, which is not marked, uses only marked ones. If not, its cursor moves to the first that is not, and it waits for that.
+fn settle(
     i: usize,
     n: usize,
     starts: &[u16],
     used: &[u16],
-    marks: &[u8; MARKS],
+    marks: &[u8; STATEMENTS],
     cursors: &mut [u16; STATEMENTS],
+    heads: &mut [u16; STATEMENTS],
+    links: &mut [u16; STATEMENTS],
     waits: &mut [u16; STATEMENTS],
 ) -> bool
-    requires { ⌜ Fit n (now starts) (now used) × (i < n) × Search n (now starts) (now used) (now marks) (now cursors) (now waits) ⌝ }
-    ensures ready { λ r. ⌜ r ≡ readyIn n (now (starts .entry)) (now (used .entry)) (now (marks .entry)) i ⌝ }
-    ensures kept { λ r.
-        ⌜ Search n (now (starts .entry)) (now (used .entry)) (now (marks .entry)) (now (cursors .exit)) (now (waits .exit)) ⌝ }
+    requires { ⌜ Fit n (now starts) (now used) × (i < n) × Cursors n (now starts) (now used) (now marks) (now cursors) × (getD (now marks) i 0 ≡ 0) ⌝ }
+    ensures { λ r. ⌜ Settles n (now (starts .entry)) (now (used .entry)) (now (marks .entry)) i r (now (cursors .exit))
+        (now (heads .entry)) (now (links .entry)) (now (waits .entry)) (now (heads .exit)) (now (links .exit)) (now (waits .exit)) ⌝ }
 {
-    let w = wide(waits[i]);
-    if marks[w] == 0 {
-        return false;
-    }
     let start = wide(starts[i]);
     let end = wide(starts[i + 1]);
     let passed = wide(cursors[i]);
@@ -123,59 +133,8 @@ fn test(
         return true;
     }
     cursors[i] = (k - start) as u16;
-    waits[i] = used[k];
+    attach(i, wide(used[k]), heads, links, waits);
     false
-}
-
-// The least statement from a place on that is ready, n where there is none.
-fn next(
-    from: usize,
-    n: usize,
-    starts: &[u16],
-    used: &[u16],
-    marks: &[u8; MARKS],
-    cursors: &mut [u16; STATEMENTS],
-    waits: &mut [u16; STATEMENTS],
-) -> usize
-    requires { ⌜ Fit n (now starts) (now used) × Search n (now starts) (now used) (now marks) (now cursors) (now waits) ⌝ }
-    ensures found { λ r. ⌜ r ≡ first (readyIn n (now (starts .entry)) (now (used .entry)) (now (marks .entry))) (n - from) from ⌝ }
-    ensures kept { λ r.
-        ⌜ Search n (now (starts .entry)) (now (used .entry)) (now (marks .entry)) (now (cursors .exit)) (now (waits .exit)) ⌝ }
-{
-    let mut i = from;
-    while i < n {
-        if test(i, n, starts, used, marks, cursors, waits) {
-            return i;
-        }
-        i += 1;
-    }
-    i
-}
-
-// Notes statement i as the user of each that it uses.
-fn note(i: usize, n: usize, starts: &[u16], used: &[u16], users: &mut [u16; STATEMENTS])
-    requires { ⌜ Fit n (now starts) (now used) × (i < n) × Users n (now starts) (now used) (now users) (i + 1) ⌝ }
-    ensures { λ r. ⌜ Users n (now (starts .entry)) (now (used .entry)) (now (users .exit)) i ⌝ }
-{
-    let end = wide(starts[i + 1]);
-    let mut k = wide(starts[i]);
-    while k < end {
-        let j = wide(used[k]);
-        users[j] = i as u16;
-        k += 1;
-    }
-}
-
-// Notes for each statement the least that uses it.
-fn note_all(n: usize, starts: &[u16], used: &[u16], users: &mut [u16; STATEMENTS])
-    requires { ⌜ Fit n (now starts) (now used) × (length (now users) ≡ mostStatements) ⌝ }
-    ensures { λ r. ⌜ Users n (now (starts .entry)) (now (used .entry)) (now (users .exit)) 0 ⌝ }
-{
-    let mut i = n;
-    while 0 < i {
-        i -= 1;
-        note(i, n, starts, used, users);
-    }
 }
 
 // The lesser of two numbers.
@@ -185,29 +144,154 @@ fn least(a: usize, b: usize) -> usize
     if a < b { a } else { b }
 }
 
-// Writes the order of a table that fits to the front of out; how many were placed. Once i is placed only those that use it may become
-// ready: the search goes on at the least of them, or at i where that is less.
+// Settles each statement: those that use none are ready.
+fn settle_all(
+    n: usize,
+    starts: &[u16],
+    used: &[u16],
+    marks: &[u8; STATEMENTS],
+    ready: &mut [u8; STATEMENTS],
+    cursors: &mut [u16; STATEMENTS],
+    heads: &mut [u16; STATEMENTS],
+    links: &mut [u16; STATEMENTS],
+    waits: &mut [u16; STATEMENTS],
+)
+    requires { ⌜ Fit n (now starts) (now used) × Blank n (now starts) (now used) (now marks) (now ready) (now cursors) (now heads) (now links) (now waits) ⌝ }
+    ensures { λ _. ⌜ State n n (now (starts .entry)) (now (used .entry)) (now (marks .entry)) (now (ready .exit)) (now (cursors .exit))
+        (now (heads .exit)) (now (links .exit)) (now (waits .exit)) none none ⌝ }
+{
+    let mut i = 0;
+    while i < n {
+        if settle(i, n, starts, used, marks, cursors, heads, links, waits) {
+            ready[i] = 1;
+        }
+        i += 1;
+    }
+}
+
+// Settles each statement that waits for j, which is placed; the least that is ready then, or low where that is less.
+fn wake(
+    j: usize,
+    n: usize,
+    starts: &[u16],
+    used: &[u16],
+    marks: &[u8; STATEMENTS],
+    ready: &mut [u8; STATEMENTS],
+    cursors: &mut [u16; STATEMENTS],
+    heads: &mut [u16; STATEMENTS],
+    links: &mut [u16; STATEMENTS],
+    waits: &mut [u16; STATEMENTS],
+    low: usize,
+) -> usize
+    requires { ⌜ Woken n (now starts) (now used) (now marks) (now ready) (now cursors) (now heads) (now links) (now waits) j low ⌝ }
+    ensures { λ r. ⌜ Awake n (now (starts .entry)) (now (used .entry)) (now (marks .entry)) (now (ready .exit)) (now (cursors .exit))
+        (now (heads .exit)) (now (links .exit)) (now (waits .exit)) low r ⌝ }
+{
+    let mut least_ready = low;
+    let mut x = wide(heads[j]);
+    heads[j] = NONE as u16;
+    while x < NONE {
+        let next = wide(links[x]);
+        waits[x] = NONE as u16;
+        if settle(x, n, starts, used, marks, cursors, heads, links, waits) {
+            ready[x] = 1;
+            least_ready = least(least_ready, x);
+        }
+        x = next;
+    }
+    least_ready
+}
+
+// Whether one of some flags is set. Each is looked at, so that many are at once.
+fn has_one(part: &[u8]) -> bool
+    ensures { λ r. ⌜ r ≡ someFlag (now (part .entry)) ⌝ }
+{
+    let mut found = false;
+    let mut i: usize = 0;
+    while i < part.len() {
+        found = found | (part[i] != 0);
+        i += 1;
+    }
+    found
+}
+
+// The first flag that is set from a place on and before n, looked for one by one; n where there is none.
+fn seek_one(from: usize, n: usize, ready: &[u8]) -> usize
+    requires { ⌜ (from ≤ n) × (n ≤ length (now ready)) ⌝ }
+    ensures { λ r. ⌜ r ≡ first (flag (now (ready .entry))) (n - from) from ⌝ }
+{
+    let mut i = from;
+    while i < n {
+        if ready[i] != 0 {
+            return i;
+        }
+        i += 1;
+    }
+    i
+}
+
+// The same, where many are looked at at once.
+fn seek(from: usize, n: usize, ready: &[u8]) -> usize
+    requires { ⌜ (from ≤ n) × (n ≤ length (now ready)) ⌝ }
+    ensures { λ r. ⌜ r ≡ first (flag (now (ready .entry))) (n - from) from ⌝ }
+{
+    let mut i = from;
+    while STRIDE <= n - i {
+        let e = i + STRIDE;
+        if has_one(&ready[i..e]) {
+            return seek_one(i, n, ready);
+        }
+        i = e;
+    }
+    seek_one(i, n, ready)
+}
+
+// Writes the order of a table that fits to the front of out; how many were placed. Once i is placed only those that wait for it may become
+// ready.
 fn place(n: usize, starts: &[u16], used: &[u16], out: &mut [u16]) -> usize
     requires { ⌜ Fit n (now starts) (now used) × (n ≤ length (now out)) ⌝ }
     ensures { λ r. ⌜ Filled n (now (starts .entry)) (now (used .entry)) (now (out .entry)) (now (out .exit)) r ⌝ }
 {
-    let mut marks = [0u8; MARKS];
-    marks[ALWAYS] = 1;
+    let mut marks = [0u8; STATEMENTS];
+    let mut ready = [0u8; STATEMENTS];
     let mut cursors = [0u16; STATEMENTS];
-    let mut waits = [ALWAYS as u16; STATEMENTS];
-    let mut users = [n as u16; STATEMENTS];
-    note_all(n, starts, used, &mut users);
+    let mut heads = [NONE as u16; STATEMENTS];
+    let mut links = [0u16; STATEMENTS];
+    let mut waits = [NONE as u16; STATEMENTS];
+    settle_all(
+        n,
+        starts,
+        used,
+        &marks,
+        &mut ready,
+        &mut cursors,
+        &mut heads,
+        &mut links,
+        &mut waits,
+    );
     let mut from = 0;
     let mut k = 0;
     while k < n {
-        let i = next(from, n, starts, used, &marks, &mut cursors, &mut waits);
+        let i = seek(from, n, &ready);
         if i == n {
             return k;
         }
         out[k] = i as u16;
         marks[i] = 1;
-        waits[i] = NEVER as u16;
-        from = least(i, wide(users[i]));
+        ready[i] = 0;
+        from = wake(
+            i,
+            n,
+            starts,
+            used,
+            &marks,
+            &mut ready,
+            &mut cursors,
+            &mut heads,
+            &mut links,
+            &mut waits,
+            i,
+        );
         k += 1;
     }
     k
