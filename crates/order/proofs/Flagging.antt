@@ -1,19 +1,23 @@
 -- Laws of flags: who is ready.
-use mathlib.Core.Path.{_≡_, refl, sym, _∙_}
+use mathlib.Core.Path.{_≡_, refl, sym, ap, _∙_}
 use mathlib.Core.Bool.{Bool, true, false, not, _||_}
 use mathlib.Core.Logic.{⊎-elim}
 use mathlib.Core.List.{List}
 use Prim.Native.Nat.{ℕ, _+_, _-_, _≤_, _<_}
 use native.Mathlib.Omega.{arith}
 use borrow.Author.Tests.{lt-ltb, le-ltb, ltb-false, not-true}
-use lib.ListN.{length, getD, set, length-set}
+use lib.ListN.{length, getD, set, length-set, getD-replicate}
 use lib.Seq.{getD-set-same, getD-set-other}
+use Rattle.limits.specs.Limits.{mostStatements}
 use Rattle.laws.proofs.Tests.{lt-or-ge, eq-or-ne, and-true, and-both, not-both}
-use Rattle.order.specs.Table.{usesIn, Fit}
-use Rattle.order.specs.Marks.{marked, openAt, freeIn, readyIn, none, flag, Cursors, Flags, Settles}
+use Rattle.laws.proofs.Members.{in-has}
+use Rattle.order.specs.Table.{usedOf, usesIn, Fit}
+use Rattle.order.specs.Marks.{marked, openAt, freeIn, readyIn, none, flag, Cursors, Flags, Settles, zeros}
 use Rattle.order.specs.Greedy.{first}
+use Rattle.order.proofs.Searches.{first-from}
+use Rattle.order.proofs.Tables.{in-part}
 use Rattle.order.proofs.Sorting.{all-true, all-intro, first-hit}
-use Rattle.order.proofs.Marking.{ready-marked, ready-unmarked, free-not, goal-used, goal-open, goal-end, goal-moves}
+use Rattle.order.proofs.Marking.{ready-marked, ready-unmarked, free-not, goal-used, goal-open, goal-end, goal-moves, cursors-none}
 
 -- ---- one more mark
 module _ (n : ℕ) (s u m : List ℕ) (j : ℕ) (lm : j < length m) where
@@ -161,3 +165,49 @@ module _ {n : ℕ} {s u m c : List ℕ} (t : Fit n s u) (g : Cursors n s u m c) 
           kept = λ f. absurd (not-both f refl);
           hung = λ _. (j, rw ej wait-below, rw ej uses, rw ej (omega (arith, free)), e .0, e .1, e .2);
         }
+
+-- ---- the same at the first place of its row, where its cursor has not moved
+module _ {n : ℕ} {s u m c : List ℕ} (t : Fit n s u) (g : Cursors n s u m c) (i : ℕ) (hi : i < n) (z : getD m i 0 ≡ 0) {h l v : List ℕ} where
+  -- there is none
+  pub first-ready : getD s (i + 1) 0 ≤ getD s i 0 → Settles n s u m i true c h l v h l v
+  first-ready le =
+      let a = getD s i 0 + getD c i 0 in
+      let e = first-from (openAt u m) (getD s (i + 1) 0 - a) a in
+      record {
+        moved = g;
+        told = sym (ready-unmarked n s u m i z ∙ goal-end n s u m c t g i hi (omega arith));
+        kept = λ _. (refl, refl, refl);
+        hung = λ f. absurd (not-both refl f);
+      }
+
+  -- or the statement there is not marked
+  pub first-wait : getD s i 0 < getD s (i + 1) 0 → {h′ l′ v′ : List ℕ} (j : ℕ) → j ≡ getD u (getD s i 0) 0 → getD m j 0 ≡ 0
+      → (h′ ≡ set h j i) × (l′ ≡ set l i (getD h j 0)) × (v′ ≡ set v i j) → Settles n s u m i false c h l v h′ l′ v′
+  first-wait lt j ej mj e =
+      let a = getD s i 0 in
+      let ends = t .ends i hi in
+      let uses : usesIn s u i j ≡ true = rw ej (in-has (getD u a 0) (usedOf s u i) (in-part a (getD s (i + 1) 0) u ends a (omega arith) lt)) in
+      let hj : j < n = rw ej (t .below a (omega arith)) in
+      record {
+        moved = g;
+        told = sym (ready-unmarked n s u m i z ∙ free-not n s u m i j uses hj (omega arith));
+        kept = λ f. absurd (not-both f refl);
+        hung = λ _. (j, hj, uses, mj, e .0, e .1, e .2);
+      }
+
+-- while none is marked; the row goes from a to b
+module _ {n : ℕ} {s u : List ℕ} (t : Fit n s u) (i : ℕ) (hi : i < n) {a b : ℕ} (ea : a ≡ getD s i 0) (eb : b ≡ getD s (i + 1) 0) where
+  clear-at : (j : ℕ) → j < n → getD zeros j 0 ≡ 0
+  clear-at j hj = getD-replicate {A = ℕ} mostStatements j 0 0 (omega (arith, t .few))
+
+  pub start-ready : {h l v : List ℕ} → b ≤ a → Settles n s u zeros i true zeros h l v h l v
+  start-ready le = first-ready t (cursors-none n s u zeros (t .few)) i hi (clear-at i hi) (omega arith)
+
+  pub start-below : a < b → getD u a 0 < n
+  start-below lt = t .below a (omega (arith, t .ends i hi))
+
+  pub start-wait : {h l v h′ l′ v′ : List ℕ} → a < b → (j : ℕ) → j ≡ getD u a 0
+      → (h′ ≡ set h j i) × (l′ ≡ set l i (getD h j 0)) × (v′ ≡ set v i j) → Settles n s u zeros i false zeros h l v h′ l′ v′
+  start-wait lt j ej e =
+      first-wait t (cursors-none n s u zeros (t .few)) i hi (clear-at i hi) (omega arith) j (ej ∙ ap (λ k. getD u k 0) ea)
+      (clear-at j (rw ej (start-below lt))) e

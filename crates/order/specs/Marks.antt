@@ -5,7 +5,7 @@ use mathlib.Core.Bool.{Bool, true, false, not, _&&_, _||_}
 use mathlib.Core.List.{List, [], _∷_}
 use Prim.Native.Nat.{ℕ, _+_, _≤_, _<_}
 use lib.Dec.{eqb, ltb}
-use lib.ListN.{length, getD, set}
+use lib.ListN.{length, getD, set, replicate}
 use Rattle.limits.specs.Limits.{mostStatements}
 use Rattle.laws.specs.Counts.{once, count, _∈_}
 use Rattle.order.specs.Greedy.{all}
@@ -88,6 +88,10 @@ pub record Settles (n : ℕ) (starts used marks : List ℕ) (i : ℕ) (r : Bool)
   pub kept : r ≡ true → (heads′ ≡ heads) × (links′ ≡ links) × (waits′ ≡ waits)
   pub hung : r ≡ false → (j : ℕ) × (j < n) × (usesIn starts used i j ≡ true) × (getD marks j 0 ≡ 0)
       × (heads′ ≡ set heads j i) × (links′ ≡ set links i (getD heads j 0)) × (waits′ ≡ set waits i j)
+
+-- an array at first
+abbrev pub zeros : List ℕ
+zeros = replicate mostStatements 0
 
 -- at first no statement is marked, flagged or waits
 pub record Blank (n : ℕ) (starts used marks flags cursors heads links waits : List ℕ) : Type 0 where

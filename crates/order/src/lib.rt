@@ -5,7 +5,7 @@ ghost use lib.ListN.{length, getD, set};
 ghost use Rattle.limits.specs.Limits.{mostStatements};
 ghost use Rattle.order.specs.Greedy.{all, first};
 ghost use Rattle.order.specs.Table.{Fit, endsIn, belowAt, fits};
-ghost use Rattle.order.specs.Marks.{openAt, none, flag, someFlag, Cursors, Settles, Blank, State, Woken, Awake};
+ghost use Rattle.order.specs.Marks.{openAt, none, zeros, flag, someFlag, Cursors, Settles, Blank, State, Woken, Awake};
 ghost use Rattle.order.specs.Answer.{Filled, Sorts};
 use limits::STATEMENTS;
 
@@ -144,25 +144,45 @@ fn least(a: usize, b: usize) -> usize
     if a < b { a } else { b }
 }
 
-// Settles each statement: those that use none are ready.
+// The same while none is marked: i uses none, or waits for the first that it uses.
+fn settle_first(
+    i: usize,
+    n: usize,
+    starts: &[u16],
+    used: &[u16],
+    heads: &mut [u16; STATEMENTS],
+    links: &mut [u16; STATEMENTS],
+    waits: &mut [u16; STATEMENTS],
+) -> bool
+    requires { ⌜ Fit n (now starts) (now used) × (i < n) ⌝ }
+    ensures { λ r. ⌜ Settles n (now (starts .entry)) (now (used .entry)) zeros i r zeros
+        (now (heads .entry)) (now (links .entry)) (now (waits .entry)) (now (heads .exit)) (now (links .exit)) (now (waits .exit)) ⌝ }
+{
+    let at = wide(starts[i]);
+    if wide(starts[i + 1]) <= at {
+        return true;
+    }
+    attach(i, wide(used[at]), heads, links, waits);
+    false
+}
+
+// Settles each statement while none is marked.
 fn settle_all(
     n: usize,
     starts: &[u16],
     used: &[u16],
-    marks: &[u8; STATEMENTS],
     ready: &mut [u8; STATEMENTS],
-    cursors: &mut [u16; STATEMENTS],
     heads: &mut [u16; STATEMENTS],
     links: &mut [u16; STATEMENTS],
     waits: &mut [u16; STATEMENTS],
 )
-    requires { ⌜ Fit n (now starts) (now used) × Blank n (now starts) (now used) (now marks) (now ready) (now cursors) (now heads) (now links) (now waits) ⌝ }
-    ensures { λ _. ⌜ State n n (now (starts .entry)) (now (used .entry)) (now (marks .entry)) (now (ready .exit)) (now (cursors .exit))
+    requires { ⌜ Fit n (now starts) (now used) × Blank n (now starts) (now used) zeros (now ready) zeros (now heads) (now links) (now waits) ⌝ }
+    ensures { λ _. ⌜ State n n (now (starts .entry)) (now (used .entry)) zeros (now (ready .exit)) zeros
         (now (heads .exit)) (now (links .exit)) (now (waits .exit)) none none ⌝ }
 {
     let mut i = 0;
     while i < n {
-        if settle(i, n, starts, used, marks, cursors, heads, links, waits) {
+        if settle_first(i, n, starts, used, heads, links, waits) {
             ready[i] = 1;
         }
         i += 1;
@@ -246,6 +266,19 @@ fn seek(from: usize, n: usize, ready: &[u8]) -> usize
     seek_one(i, n, ready)
 }
 
+// The same; often it is the first that is looked at.
+fn find(from: usize, n: usize, ready: &[u8]) -> usize
+    requires { ⌜ (from ≤ n) × (n ≤ length (now ready)) ⌝ }
+    ensures { λ r. ⌜ r ≡ first (flag (now (ready .entry))) (n - from) from ⌝ }
+{
+    if from < n {
+        if ready[from] != 0 {
+            return from;
+        }
+    }
+    seek(from, n, ready)
+}
+
 // Writes the order of a table that fits to the front of out; how many were placed. Once i is placed only those that wait for it may become
 // ready.
 fn place(n: usize, starts: &[u16], used: &[u16], out: &mut [u16]) -> usize
@@ -262,9 +295,7 @@ fn place(n: usize, starts: &[u16], used: &[u16], out: &mut [u16]) -> usize
         n,
         starts,
         used,
-        &marks,
         &mut ready,
-        &mut cursors,
         &mut heads,
         &mut links,
         &mut waits,
@@ -272,7 +303,7 @@ fn place(n: usize, starts: &[u16], used: &[u16], out: &mut [u16]) -> usize
     let mut from = 0;
     let mut k = 0;
     while k < n {
-        let i = seek(from, n, &ready);
+        let i = find(from, n, &ready);
         if i == n {
             return k;
         }

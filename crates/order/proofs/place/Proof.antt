@@ -17,16 +17,16 @@ abbrev μ-loop : tie.MeasureT-loop
 
 settle-all-requires : tie.Need-settle-all-requires Inv-loop μ-loop
 settle-all-requires c κs =
-    let s = c .before .before .before .before .before .before .before .before .before in
+    let s = c .before .before .before .before .before .before .before in
     (s .pre .0, blank (s .args .n) (s .args .starts .now) (s .args .used .now) (s .pre .0 .few))
 
 loop-holds : tie.Need-loop-holds Inv-loop μ-loop
 loop-holds c =
-    let s = c .before .before .before .before .before .before .before .before .before .before in
+    let s = c .before .before .before .before .before .before .before .before in
     going-start (s .args .out .now) (s .pre .0) (s .pre .1) (c .settle-all .ensures)
 
-seek-requires : tie.Need-seek-requires Inv-loop μ-loop
-seek-requires c κs =
+find-requires : tie.Need-find-requires Inv-loop μ-loop
+find-requires c κs =
     let g = c .before .before .loop .inv in
     (g .begun, omega (arith, g .state .known .flags-size, g .fit .few))
 
@@ -36,13 +36,13 @@ same-length c = going-long (c .before .before .before .before .loop .inv)
 returns : tie.Need-returns Inv-loop μ-loop
 returns c =
     let t = c .before .before .before in
-    going-stop (t .before .loop .inv) (t .loop-test .taken) (c .before .seek .result) (c .before .seek .ensures) (c .if1 .taken)
+    going-stop (t .before .loop .inv) (t .loop-test .taken) (c .before .find .result) (c .before .find .ensures) (c .if1 .taken)
 
 -- the statement found is one of the n
-below : (c : tie.Else1 Inv-loop μ-loop) → c .before .seek .result < mostStatements
+below : (c : tie.Else1 Inv-loop μ-loop) → c .before .find .result < mostStatements
 below c =
     let g = c .before .before .before .before .loop .inv in
-    omega (arith, going-found g (c .before .seek .result) (c .before .seek .ensures) (c .if1 .left), g .fit .few)
+    omega (arith, going-found g (c .before .find .result) (c .before .find .ensures) (c .if1 .left), g .fit .few)
 
 cast-out : tie.Need-cast-out Inv-loop μ-loop
 cast-out c = omega (arith, below c)
@@ -64,7 +64,7 @@ wake-requires c κs =
     let e = c .before .before .before .before .before .before in
     let k = e .before in
     let g = k .before .before .before .loop .inv in
-    going-woken g (k .seek .result) (k .seek .ensures) (going-found g (k .seek .result) (k .seek .ensures) (e .if1 .left))
+    going-woken g (k .find .result) (k .find .ensures) (going-found g (k .find .result) (k .find .ensures) (e .if1 .left))
 
 loop-again : tie.Need-loop-again Inv-loop μ-loop
 loop-again c =
@@ -72,8 +72,8 @@ loop-again c =
     let k = e .before in
     let t = k .before .before in
     let g = t .before .loop .inv in
-    let l = going-found g (k .seek .result) (k .seek .ensures) (e .if1 .left) in
-    going-step g (t .loop-test .taken) (k .seek .result) (k .seek .ensures) l (c .wake .ensures)
+    let l = going-found g (k .find .result) (k .find .ensures) (e .if1 .left) in
+    going-step g (t .loop-test .taken) (k .find .result) (k .find .ensures) l (c .wake .ensures)
 
 same-length-2 : tie.Need-same-length-2 Inv-loop μ-loop
 same-length-2 c = going-long (c .before .loop .inv)
@@ -92,7 +92,7 @@ place-spec =
     settle-all-requires
     loop-holds
     (λ c. search needs)
-    seek-requires
+    find-requires
     same-length
     returns
     cast-out
