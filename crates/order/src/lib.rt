@@ -92,6 +92,13 @@ fn advance(from: usize, end: usize, used: &[u16], marks: &[u8; STATEMENTS]) -> u
     k
 }
 
+// The lesser of two numbers.
+fn least(a: usize, b: usize) -> usize
+    ensures { λ r. ⌜ r ≡ min a b ⌝ }
+{
+    if a < b { a } else { b }
+}
+
 // Puts statement i to the front of the list of those that wait for j.
 fn attach(
     i: usize,
@@ -135,13 +142,6 @@ fn settle(
     cursors[i] = (k - start) as u16;
     attach(i, wide(used[k]), heads, links, waits);
     false
-}
-
-// The lesser of two numbers.
-fn least(a: usize, b: usize) -> usize
-    ensures { λ r. ⌜ r ≡ min a b ⌝ }
-{
-    if a < b { a } else { b }
 }
 
 // The same while none is marked: i uses none, or waits for the first that it uses.
