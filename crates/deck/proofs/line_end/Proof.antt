@@ -45,9 +45,21 @@ loop-again c =
 returns-2 : tie.Need-returns-2 Inv-loop μ-loop
 returns-2 c =
     let w = c .before .loop .inv in
-    omega (arith, w .same, w .from, w .upto, width-end (c .before .before .before .before .before .args .text .now) (c .before .loop .i) (c .loop-test .left))
+    let e = width-end (c .before .before .before .before .before .args .text .now) (c .before .loop .i) (c .loop-test .left) in
+    omega (arith, w .same, w .from, w .upto, e)
 
 pub line-end-spec : {M : Type 1} → statement M
 line-end-spec =
     tie.close
-    (tie.spec Inv-loop μ-loop (λ c κs. search needs) (λ c κs. (c .pass .ensures .upto, search needs)) loop-holds shared-slice-read-if1 returns add-i loop-less loop-again returns-2)
+    (tie.spec
+    Inv-loop
+    μ-loop
+    (λ c κs. search needs)
+    (λ c κs. (c .pass .ensures .upto, search needs))
+    loop-holds
+    shared-slice-read-if1
+    returns
+    add-i
+    loop-less
+    loop-again
+    returns-2)
