@@ -1,5 +1,5 @@
 -- A rule for each way through `parse_row`.
-use Prim.Native.Nat.{ℕ, _+_, _-_}
+use Prim.Native.Nat.{ℕ, _+_, _-_, _<_}
 use mathlib.Core.Path.{_≡_, sym, ap, _∙_}
 use mathlib.Core.Bool.{true, false}
 use mathlib.Core.List.{List, [], _∷_, map, append-nil}
@@ -13,15 +13,13 @@ use Rattle.tokens.specs.Symbol.{Symbol, mark}
 use Rattle.tokens.specs.Held.{heldRow}
 use Rattle.tokens.proofs.Holding.{held-length}
 use Rattle.grammar.specs.declared.Part.{Part}
-use Rattle.grammar.specs.declared.Part.the-variants.{Passed, Stopped}
 use Rattle.grammar.specs.declared.Parsed.{Parsed}
 use Rattle.grammar.specs.declared.Parsed.the-variants.{Done, Fault, NoRoom}
 use Rattle.grammar.specs.Tree.{Says}
 use Rattle.grammar.specs.Drafts.{Draft}
 use Rattle.grammar.specs.Parser.{End, got, bad, Res, onward, bind, statement, ended, entire, calls, answer, readRow}
-use Rattle.grammar.specs.Contract.{Outcome, outcome, wrote, partOf, partWrote, parsedAs, rowOutcome, ParsesRow, Ready, Meets}
-use Rattle.grammar.proofs.Outcome.{clash}
-use Rattle.grammar.proofs.Room.{statement-fits}
+use Rattle.grammar.specs.Contract.{Outcome, outcome, wrote, parsedAs, rowOutcome, ParsesRow, Ready, passed, partOf, partWrote, Meets}
+use Rattle.grammar.proofs.Room.{Fits, FitsEnd, statement-fits}
 use Rattle.grammar.proofs.Meets.{Went, went, place-is}
 
 -- the outcome of a reading of n tokens
@@ -29,21 +27,25 @@ abbrev answered : ℕ → Res Says → ℕ → List ℕ → List ℕ → Outcome
 answered n x p l u = wrote (parsedAs (p + length (x .out)) (answer n (x .end))) (x .out) p l u
 
 -- a statement that stops
-entire-stops : (n : ℕ) (x : Res Says) (c j p : ℕ) (l u l₁ u₁ : List ℕ) → outcome (Stopped c j) l₁ u₁ ≡ partWrote n x p l u
-    → outcome (Fault c j) l₁ u₁ ≡ answered n (bind x ended) p l u
+entire-stops : (n : ℕ) (x : Res Says) (r : Part) (p : ℕ) (l u l₁ u₁ : List ℕ) → (r .code ≡ 0 → ⊥) → outcome r l₁ u₁ ≡ partWrote n x p l u
+    → outcome (Fault (r .code) (r .next)) l₁ u₁ ≡ answered n (bind x ended) p l u
 unfolding bind wrote
-entire-stops n x c j p l u l₁ u₁ h = go (x .end) h
+entire-stops n x r p l u l₁ u₁ z h = go (x .end) h
   where
-    go : (t : End Says) → outcome (Stopped c j) l₁ u₁ ≡ wrote (partOf n (p + length (x .out)) t) (x .out) p l u
-        → outcome (Fault c j) l₁ u₁ ≡ answered n (onward (x .out) t ended) p l u
-    go (got e t) h = clash (cc (ap (λ (z : Outcome Part). z .reply) h))
-    go (bad d t) h =
-        let a = ap (λ (z : Outcome Part). z .reply) h in
-        let b = ap (λ (z : Outcome Part). z .kinds) h in
-        let e = ap (λ (z : Outcome Part). z .args) h in
-        let m : c ≡ d = cc in
-        let k : j ≡ n - length t = cc in
-        rw (m, k, b, e)
+    go : (t : End Says) → outcome r l₁ u₁ ≡ wrote (partOf n (p + length (x .out)) t) (x .out) p l u
+        → outcome (Fault (r .code) (r .next)) l₁ u₁ ≡ answered n (onward (x .out) t ended) p l u
+    go (got e t) h = absurd (z (ap (λ (y : Outcome Part). y .reply .code) h))
+    go (bad d t) h = ap (λ (y : Outcome Part). outcome (Fault (y .reply .code) (y .reply .next)) (y .kinds) (y .args)) h
+
+-- a part ends with a code that is a byte
+part-byte : (n : ℕ) (s : List Symbol) (x : Res Says) (r : Part) (p : ℕ) (l u l₁ u₁ : List ℕ) → Fits s 0 0 x → outcome r l₁ u₁ ≡ partWrote n x p l u
+    → r .code < 256
+unfolding wrote
+part-byte n s x r p l u l₁ u₁ f h = go (x .end) (f .ends) h
+  where
+    go : (t : End Says) → FitsEnd s 0 0 (length (x .out)) t → outcome r l₁ u₁ ≡ wrote (partOf n (p + length (x .out)) t) (x .out) p l u → r .code < 256
+    go (got e t) f h = let a = ap (λ (y : Outcome Part). y .reply .code) h in omega arith
+    go (bad d t) f h = let a = ap (λ (y : Outcome Part). y .reply .code) h in omega (arith, f .4)
 
 -- a statement that passes, and what is left
 module _ (n : ℕ) (x : Res Says) (e : Says) (p q : ℕ) (l u l₁ u₁ : List ℕ) (up : q ≡ p + length (x .out))
@@ -96,13 +98,19 @@ module _ (ks us : List ℕ) (p : ℕ) (l u : List ℕ) where
         (h ∙ ap (λ (n : ℕ). answered n (bind (statement (calls (heldRow ks us)) levels (heldRow ks us)) ended) p l u) (sym (held-length ks us even)))
 
     module _ {r : Part} {l₁ u₁ : List ℕ} (h : Meets ks us (statement (calls (heldRow ks us)) levels) 0 p l u r l₁ u₁) where
-      pub entry-stopped : {c j : ℕ} → r ≡ Stopped c j → ParsesRow ks us l u p (Fault c j) l₁ u₁
-      entry-stopped {c} {j} e =
-          entry-by (entire-stops (length ks) (statement (calls (heldRow ks us)) levels (heldRow ks us)) c j p l u l₁ u₁ (rw e at (h .same)))
+      -- its code is a byte
+      pub entry-byte : r .code < 256
+      entry-byte =
+          let row = heldRow ks us in
+          part-byte (length ks) row (statement (calls row) levels row) r p l u l₁ u₁ (statement-fits (calls row) levels row) (h .same)
 
-      module _ {j q : ℕ} (e : r ≡ Passed j q) where
-        passed : Went (heldRow ks us) (statement (calls (heldRow ks us)) levels (heldRow ks us)) 0 p l u j q l₁ u₁
-        passed =
+      -- it stops
+      pub entry-stopped : (r .code ≡ 0 → ⊥) → ParsesRow ks us l u p (Fault (r .code) (r .next)) l₁ u₁
+      entry-stopped z = entry-by (entire-stops (length ks) (statement (calls (heldRow ks us)) levels (heldRow ks us)) r p l u l₁ u₁ z (h .same))
+
+      module _ {j q : ℕ} (e : r ≡ passed j q) where
+        through : Went (heldRow ks us) (statement (calls (heldRow ks us)) levels (heldRow ks us)) 0 p l u j q l₁ u₁
+        through =
             let row = heldRow ks us in
             let n = held-length ks us even in
             went row (statement (calls row) levels row) 0 p l u j q l₁ u₁ (omega arith) (statement-fits (calls row) levels row) (rw (e, ← n) at (h .same))
@@ -112,7 +120,7 @@ module _ (ks us : List ℕ) (p : ℕ) (l u : List ℕ) where
         entry-done z =
             let row = heldRow ks us in
             let n = held-length ks us even in
-            let w = passed in
+            let w = through in
             let none = drop-of-length-le row {i = j} (omega arith) in
             entry-by (entire-ends (length ks) (statement (calls row) levels row) (w .what) p q l u l₁ u₁ (w .up) (w .kinds) (w .args)
             (w .ends ∙ ap (got (w .what)) none))
@@ -122,7 +130,7 @@ module _ (ks us : List ℕ) (p : ℕ) (l u : List ℕ) where
         entry-more z =
             let row = heldRow ks us in
             let n = held-length ks us even in
-            let w = passed in
+            let w = through in
             let i = w .inside in
             let cons = drop-cons row j (mark 0) (omega arith) in
             let at : length ks - length (drop j row) ≡ j = place-is ks us j even (omega arith) in

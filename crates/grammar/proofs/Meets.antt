@@ -14,12 +14,10 @@ use Rattle.tokens.specs.Symbol.{Symbol}
 use Rattle.tokens.specs.Held.{heldRow}
 use Rattle.tokens.proofs.Holding.{held-length}
 use Rattle.grammar.specs.declared.Part.{Part}
-use Rattle.grammar.specs.declared.Part.the-variants.{Passed, Stopped}
 use Rattle.grammar.specs.Drafts.{Draft, draft}
 use Rattle.grammar.specs.Look.{next, rest, byteOf}
 use Rattle.grammar.specs.Parser.{End, got, bad, Res, give, stop, tell, onward, bind, when, need}
-use Rattle.grammar.specs.Contract.{Outcome, outcome, wrote, opDrafts, PutsOp, partOf, partWrote, Meets}
-use Rattle.grammar.proofs.Outcome.{clash}
+use Rattle.grammar.specs.Contract.{Outcome, outcome, wrote, opDrafts, PutsOp, passed, stopped, partOf, partWrote, Meets}
 use Rattle.grammar.proofs.Clauses.{rest-at, left-at}
 use Rattle.grammar.proofs.Room.{Fits, FitsEnd}
 use Rattle.grammar.proofs.Seen.{token-at, mark-test}
@@ -37,6 +35,10 @@ wrote-one r k a o p l u = simp (add-one)
 
 -- ---- what a part that has passed tells
 
+-- the code 0 tells it
+pub is-passed : {r : Part} → r .code ≡ 0 → r ≡ passed (r .next) (r .place)
+is-passed {r} e = ap (λ (c : ℕ). record { code = c; next = r .next; place = r .place }) e
+
 -- it has read up to the place j, with drafts up to q, at most one for each token
 pub record Went {A : Type 0} (row : List Symbol) (x : Res A) (i p : ℕ) (l u : List ℕ) (j q : ℕ) (l₁ u₁ : List ℕ) : Type 0 where
   pub what : A
@@ -49,19 +51,18 @@ pub record Went {A : Type 0} (row : List Symbol) (x : Res A) (i p : ℕ) (l u : 
   pub args : u₁ ≡ sets u p (map (λ (d : Draft). d .arg) (x .out))
 
 pub went : {A : Type 0} (row : List Symbol) (x : Res A) (i p : ℕ) (l u : List ℕ) (j q : ℕ) (l₁ u₁ : List ℕ) → i ≤ length row → Fits (drop i row) 0 0 x
-    → outcome (Passed j q) l₁ u₁ ≡ partWrote (length row) x p l u → Went row x i p l u j q l₁ u₁
+    → outcome (passed j q) l₁ u₁ ≡ partWrote (length row) x p l u → Went row x i p l u j q l₁ u₁
 unfolding wrote
 went {A} row x i p l u j q l₁ u₁ le f h = go (x .end) refl (f .ends) h
   where
     go : (t : End A) → x .end ≡ t → FitsEnd (drop i row) 0 0 (length (x .out)) t
-        → outcome (Passed j q) l₁ u₁ ≡ wrote (partOf (length row) (p + length (x .out)) t) (x .out) p l u → Went row x i p l u j q l₁ u₁
+        → outcome (passed j q) l₁ u₁ ≡ wrote (partOf (length row) (p + length (x .out)) t) (x .out) p l u → Went row x i p l u j q l₁ u₁
     go (got e t) s r h =
         let a = length-append (r .0) t in
         let b = ap length (r .1) in
         let c = length-drop i row in
-        let reply = ap (λ (z : Outcome Part). z .reply) h in
-        let m : j ≡ length row - length t = cc in
-        let n : q ≡ p + length (x .out) = cc in
+        let m : j ≡ length row - length t = ap (λ (z : Outcome Part). z .reply .next) h in
+        let n : q ≡ p + length (x .out) = ap (λ (z : Outcome Part). z .reply .place) h in
         let z : t ≡ drop j row = left-at row (r .0) t i le (r .1) ∙ ap (λ (k : ℕ). drop k row) (sym m) in
         record {
           what = e;
@@ -73,7 +74,7 @@ went {A} row x i p l u j q l₁ u₁ le f h = go (x .end) refl (f .ends) h
           kinds = ap (λ (z : Outcome Part). z .kinds) h;
           args = ap (λ (z : Outcome Part). z .args) h;
         }
-    go (bad c t) s r h = clash (cc (ap (λ (z : Outcome Part). z .reply) h))
+    go (bad c t) s r h = let a = ap (λ (z : Outcome Part). z .reply .code) h in absurd (omega (arith, r .3))
 
 -- ---- one reading after another, from place to place
 
@@ -97,14 +98,14 @@ bind-wrote n x k e t p q l u l₁ u₁ h up a b =
     rw (h, m, a, b, up) (sym (wrote-append _ (x .out) (z .out) p l u))
 
 -- where the one stops, so do both
-stop-wrote : {A B : Type 0} (n : ℕ) (x : Res A) (k : A → List Symbol → Res B) (c j p : ℕ) (l u l₁ u₁ : List ℕ)
-    → outcome (Stopped c j) l₁ u₁ ≡ partWrote n x p l u → outcome (Stopped c j) l₁ u₁ ≡ partWrote n (bind x k) p l u
+stop-wrote : {A B : Type 0} (n : ℕ) (x : Res A) (k : A → List Symbol → Res B) (r : Part) (p : ℕ) (l u l₁ u₁ : List ℕ) → (r .code ≡ 0 → ⊥)
+    → outcome r l₁ u₁ ≡ partWrote n x p l u → outcome r l₁ u₁ ≡ partWrote n (bind x k) p l u
 unfolding bind wrote
-stop-wrote {A} n x k c j p l u l₁ u₁ h = go (x .end) h
+stop-wrote {A} n x k r p l u l₁ u₁ z h = go (x .end) h
   where
-    go : (t : End A) → outcome (Stopped c j) l₁ u₁ ≡ wrote (partOf n (p + length (x .out)) t) (x .out) p l u
-        → outcome (Stopped c j) l₁ u₁ ≡ partWrote n (onward (x .out) t k) p l u
-    go (got e t) h = clash (cc (ap (λ (z : Outcome Part). z .reply) h))
+    go : (t : End A) → outcome r l₁ u₁ ≡ wrote (partOf n (p + length (x .out)) t) (x .out) p l u
+        → outcome r l₁ u₁ ≡ partWrote n (onward (x .out) t k) p l u
+    go (got e t) h = absurd (z (ap (λ (y : Outcome Part). y .reply .code) h))
     go (bad d t) h = h
 
 -- and nothing read after it
@@ -128,12 +129,12 @@ module _ {ks us : List ℕ} where
   meets-rest {i = i} {x = x} h = meets-by (λ s. x (rest s)) (ap x (rest-at (heldRow ks us) i)) h
 
   -- nothing read: it has passed, or stops
-  pub meets-give : {A : Type 0} {i p : ℕ} {l u : List ℕ} → length us ≡ length ks → i ≤ length ks → (e : A) → Meets ks us (give e) i p l u (Passed i p) l u
+  pub meets-give : {A : Type 0} {i p : ℕ} {l u : List ℕ} → length us ≡ length ks → i ≤ length ks → (e : A) → Meets ks us (give e) i p l u (passed i p) l u
   unfolding wrote
   meets-give {i = i} q le e = record { same = rw (place-is ks us i q le, add-zero) }
 
   pub meets-stop : {A : Type 0} {i p : ℕ} {l u : List ℕ} → length us ≡ length ks → i ≤ length ks → (c : ℕ)
-      → Meets {A = A} ks us (stop c) i p l u (Stopped c i) l u
+      → Meets {A = A} ks us (stop c) i p l u (stopped c i) l u
   unfolding wrote
   meets-stop {i = i} q le c = record { same = rw (place-is ks us i q le) }
 
@@ -155,15 +156,15 @@ module _ {ks us : List ℕ} where
       record { same = h .same ∙ bind-wrote (length ks) y (λ _ _. x row) row row p q l u l₁ u₁ refl (w .place) (w .kinds) (w .args) }
 
   -- a part that stops stops the whole
-  pub meets-bad : {A B : Type 0} {i p c j : ℕ} {l u : List ℕ} {r : Part} {l₁ u₁ : List ℕ} {x : List Symbol → Res A} (k : A → List Symbol → Res B)
-      → r ≡ Stopped c j → Meets ks us x i p l u r l₁ u₁ → Meets ks us (λ s. bind (x s) k) i p l u r l₁ u₁
-  meets-bad {i = i} {p = p} {c = c} {j = j} {l = l} {u = u} {l₁ = l₁} {u₁ = u₁} {x = x} k e h =
-      rw e (record { same = stop-wrote (length ks) (x (drop i (heldRow ks us))) k c j p l u l₁ u₁ (rw e at (h .same)) })
+  pub meets-bad : {A B : Type 0} {i p : ℕ} {l u : List ℕ} {r : Part} {l₁ u₁ : List ℕ} {x : List Symbol → Res A} (k : A → List Symbol → Res B)
+      → (r .code ≡ 0 → ⊥) → Meets ks us x i p l u r l₁ u₁ → Meets ks us (λ s. bind (x s) k) i p l u r l₁ u₁
+  meets-bad {i = i} {p = p} {l = l} {u = u} {r = r} {l₁ = l₁} {u₁ = u₁} {x = x} k z h =
+      record { same = stop-wrote (length ks) (x (drop i (heldRow ks us))) k r p l u l₁ u₁ z (h .same) }
 
   -- one part has passed, and the other goes on from there
   pub meets-bind : {A B : Type 0} {i p j q : ℕ} {l u : List ℕ} {r r₁ : Part} {l₁ u₁ l₂ u₂ : List ℕ} {x : List Symbol → Res A} (k : A → List Symbol → Res B)
       → Fits (drop i (heldRow ks us)) 0 0 (x (drop i (heldRow ks us))) → length us ≡ length ks → i ≤ length ks
-      → r₁ ≡ Passed j q → Meets ks us x i p l u r₁ l₁ u₁
+      → r₁ ≡ passed j q → Meets ks us x i p l u r₁ l₁ u₁
       → ((e : A) → x (drop i (heldRow ks us)) .end ≡ got e (drop j (heldRow ks us)) → Meets ks us (k e) j q l₁ u₁ r l₂ u₂)
       → Meets ks us (λ s. bind (x s) k) i p l u r l₂ u₂
   meets-bind {i = i} {p = p} {j = j} {q = q} {l = l} {u = u} {l₁ = l₁} {u₁ = u₁} {x = x} k f even le e h g =
@@ -172,7 +173,7 @@ module _ {ks us : List ℕ} where
       let y = x (drop i row) in
       let w = went row y i p l u j q l₁ u₁ (omega arith) f (rw (e, ← n) at (h .same)) in
       let z = bind-wrote (length ks) y k (w .what) (drop j row) p q l u l₁ u₁ (w .ends) (w .up) (w .kinds) (w .args) in
-      record { same = g (w .what) (w .ends) .same ∙ z }
+      record { same = _∙_ {b = partWrote (length ks) (k (w .what) (drop j row)) q l₁ u₁} (g (w .what) (w .ends) .same) z }
 
   -- and nothing read after it
   pub meets-map : {A B : Type 0} {i p : ℕ} {l u : List ℕ} {r : Part} {l₁ u₁ : List ℕ} {x : List Symbol → Res A} (g : A → B)
@@ -198,5 +199,5 @@ module _ {ks us : List ℕ} where
   meets-need b even h e g = meets-mark (stop 18) b even h e (meets-rest g)
 
   pub meets-shut : {A : Type 0} {i p : ℕ} {l u : List ℕ} (k : List Symbol → Res A) (b : ℕ) → length us ≡ length ks → i ≤ length ks → 10 < b
-      → (getD ks i 0 ≡ b → ⊥) → Meets ks us (λ s. need b s k) i p l u (Stopped 18 i) l u
+      → (getD ks i 0 ≡ b → ⊥) → Meets ks us (λ s. need b s k) i p l u (stopped 18 i) l u
   meets-shut k b even le h e = meets-else (λ s. k (rest s)) b even h e (meets-stop even le 18)

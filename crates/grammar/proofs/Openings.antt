@@ -10,7 +10,6 @@ use lib.ListN.{length, getD, set, drop}
 use Rattle.tokens.specs.Symbol.{Symbol, mark}
 use Rattle.tokens.specs.Held.{symbolOf, heldRow}
 use Rattle.grammar.specs.declared.Part.{Part}
-use Rattle.grammar.specs.declared.Part.the-variants.{Passed, Stopped}
 use Rattle.grammar.specs.declared.Face.{Face}
 use Rattle.grammar.specs.declared.Face.the-variants.{One, Group, Function, Nothing}
 use Rattle.grammar.specs.Tree.{insw, limit, Tree}
@@ -20,7 +19,7 @@ use Rattle.grammar.specs.Look.{Shape, Leaf, Paren, Call, NoFactor, shape
 use Rattle.grammar.specs.Grammar.{expr, factor, opened, list}
 use Rattle.grammar.specs.Parser.{Res, give, stop, tell, when, byShape, byGiven, need, openDrafts, reads}
 use Rattle.grammar.specs.Codes.{wantOf, kindOpening, closerOf, leafKind, leafArg, faceOf}
-use Rattle.grammar.specs.Contract.{Ready, Meets, Parses}
+use Rattle.grammar.specs.Contract.{Ready, passed, stopped, Meets, Parses}
 use Rattle.grammar.proofs.Clauses.{reads-factor, reads-opened, reads-deep, reads-list}
 use Rattle.grammar.proofs.Seen.{token-at, stands, leaf-told, face-told}
 use Rattle.grammar.proofs.Meets.{meets-by, meets-rest, meets-give, meets-stop, meets-tell, meets-mark, meets-else, meets-need, meets-shut}
@@ -69,7 +68,7 @@ module _ {ks us : List ℕ} {i p k : ℕ} {l u : List ℕ} {f : Face} (w : Ready
   one-room e = let a = one-inside e in (omega (arith, w .room-kinds), omega (arith, w .room-args))
 
   pub factor-one : {d n a : ℕ} {l₁ u₁ : List ℕ} → f ≡ One n → a ≡ leafArg n (getD us i 0) → l₁ ≡ set l p n → u₁ ≡ set u p a
-      → Parses ks us factor d i p l u (Passed (i + 1) (p + 1)) l₁ u₁
+      → Parses ks us factor d i p l u (passed (i + 1) (p + 1)) l₁ u₁
   factor-one {d} {n} {a} e g x y =
       let row = heldRow ks us in
       let b = one-inside e in
@@ -107,7 +106,7 @@ module _ {ks us : List ℕ} {i p k : ℕ} {l u : List ℕ} {f : Face} (w : Ready
             (meets-rest (meets-mark (stop 18) 40 (w .even) (omega arith) z (g (h .0) (h .2) (h .3) .meets)));
       }
 
-  pub factor-shut : {d n c : ℕ} → f ≡ Function n c → (getD ks (i + 1) 0 ≡ 40 → ⊥) → Parses ks us factor d i p l u (Stopped 18 (i + 1)) l u
+  pub factor-shut : {d n c : ℕ} → f ≡ Function n c → (getD ks (i + 1) 0 ≡ 40 → ⊥) → Parses ks us factor d i p l u (stopped 18 (i + 1)) l u
   factor-shut {d} e z =
       let a = function-inside e in
       let h = as-shown k (getD us i 0) (sym e ∙ ef (getD us i 0)) in
@@ -116,7 +115,7 @@ module _ {ks us : List ℕ} {i p k : ℕ} {l u : List ℕ} {f : Face} (w : Ready
             (meets-rest (meets-else (reads (opened (h .0)) d) 40 (w .even) (omega arith) z (meets-stop (w .even) (omega arith) 18)));
       }
 
-  pub factor-none : {d : ℕ} → f ≡ Nothing → Parses ks us factor d i p l u (Stopped 18 i) l u
+  pub factor-none : {d : ℕ} → f ≡ Nothing → Parses ks us factor d i p l u (stopped 18 i) l u
   factor-none {d} e =
       record {
         meets = meets-by (reads factor d) (by-shape d (as-shown k (getD us i 0) (sym e ∙ ef (getD us i 0)))) (meets-stop (w .even) (w .within) 18);
@@ -126,7 +125,7 @@ module _ {ks us : List ℕ} {i p k : ℕ} {l u : List ℕ} {f : Face} (w : Ready
 
 module _ {ks us : List ℕ} {i p : ℕ} {l u : List ℕ} (w : (getD ks i 0 ≡ 40) × Ready ks us i p l u) where
   -- no level is left
-  pub opened-deep : {d : ℕ} → d ≡ 0 → (o : Opening) → Parses ks us (opened o) d i p l u (Stopped 19 i) l u
+  pub opened-deep : {d : ℕ} → d ≡ 0 → (o : Opening) → Parses ks us (opened o) d i p l u (stopped 19 i) l u
   opened-deep z o =
       let row = heldRow ks us in
       rw z (record { meets = meets-by (reads (opened o) 0) (reads-deep (drop i row) o) (meets-stop (w .1 .even) (w .1 .within) 19) })
@@ -192,11 +191,11 @@ abbrev list-then : ℕ → Opening → Tree → List Symbol → Res Tree
 list-then d o e t = byGiven (give-to o e) (λ x. need 41 t λ u. tell (openDrafts o) (give x u)) (λ q. need 44 t (reads (list q) d))
 
 module _ {ks us : List ℕ} {d i p : ℕ} {l u : List ℕ} where
-  list-stopped : {c j : ℕ} {r : Part} {l₁ u₁ : List ℕ} → r ≡ Stopped c j → Parses ks us expr d i p l u r l₁ u₁
+  list-stopped : {r : Part} {l₁ u₁ : List ℕ} → (r .code ≡ 0 → ⊥) → Parses ks us expr d i p l u r l₁ u₁
       → (o : Opening) → Parses ks us (list o) d i p l u r l₁ u₁
   list-stopped e h o = record { meets = meets-by (reads (list o) d) (reads-list d (drop i (heldRow ks us)) o) (stops (list-then d o) e h) }
 
-  module _ {j q : ℕ} {r : Part} {l₁ u₁ : List ℕ} (w : Ready ks us i p l u) (e : r ≡ Passed j q) (h : Parses ks us expr d i p l u r l₁ u₁) where
+  module _ {j q : ℕ} {r : Part} {l₁ u₁ : List ℕ} (w : Ready ks us i p l u) (e : r ≡ passed j q) (h : Parses ks us expr d i p l u r l₁ u₁) where
     list-passed : {r : Part} {l₂ u₂ : List ℕ} (o : Opening) → ((x : Tree) → Meets ks us (list-then d o x) j q l₁ u₁ r l₂ u₂)
         → Parses ks us (list o) d i p l u r l₂ u₂
     list-passed o g = record { meets = meets-by (reads (list o) d) (reads-list d (drop i (heldRow ks us)) o) (goes-on (list-then d o) w e h g) }
@@ -217,7 +216,7 @@ module _ {ks us : List ℕ} {d i p : ℕ} {l u : List ℕ} where
     -- behind an expression of n that are wanted stands the kind k, and m should
     module _ (n : ℕ) {k m : ℕ} (ek : k ≡ getD ks j 0) (em : m ≡ closerOf n) where
       -- another mark stands behind it
-      list-shut : (k ≡ m → ⊥) → (o : Opening) → wantOf o ≡ n → Parses ks us (list o) d i p l u (Stopped 18 j) l₁ u₁
+      list-shut : (k ≡ m → ⊥) → (o : Opening) → wantOf o ≡ n → Parses ks us (list o) d i p l u (stopped 18 j) l₁ u₁
       list-shut z o ew =
           let a = after w e h in
           by-given o
@@ -264,14 +263,14 @@ module _ {ks us : List ℕ} {d i p : ℕ} {l u : List ℕ} where
             by-given o (λ x v. meets-need 41 (w .even) (omega arith) (sym ek ∙ z ∙ em ∙ rw (le-leb n 1 le)) (g x)) λ b v s f. absurd (omega arith)
 
         list-bare : {c : ℕ} → n ≤ 1 → c ≡ 0 → (o : Opening) → wantOf o ≡ n → kindOpening o ≡ c
-            → Parses ks us (list o) d i p l u (Passed (j + 1) q) l₁ u₁
+            → Parses ks us (list o) d i p l u (passed (j + 1) q) l₁ u₁
         list-bare le v o ew ec =
             let b = closer-inside in
             closed le o ew λ x. meets-by (λ u. tell (openDrafts o) (give x u))
             (ap (λ is. tell is (give x (drop (j + 1) (heldRow ks us)))) (no-draft o (ec ∙ v))) (meets-give (w .even) (omega arith) x)
 
         list-last : {c : ℕ} {l₂ u₂ : List ℕ} → n ≤ 1 → (c ≡ 0 → ⊥) → l₂ ≡ set l₁ q c → u₂ ≡ set u₁ q 0
-            → (o : Opening) → wantOf o ≡ n → kindOpening o ≡ c → Parses ks us (list o) d i p l u (Passed (j + 1) (q + 1)) l₂ u₂
+            → (o : Opening) → wantOf o ≡ n → kindOpening o ≡ c → Parses ks us (list o) d i p l u (passed (j + 1) (q + 1)) l₂ u₂
         list-last {c} le v f g o ew ec =
             let b = closer-inside in
             let s : openDrafts o ≡ draft c 0 ∷ [] = one-draft o (λ y. v (sym ec ∙ y)) ∙ rw ec in
@@ -300,14 +299,14 @@ module _ {ks us : List ℕ} {d i p : ℕ} {l u : List ℕ} {n c j m q : ℕ} {l�
   item-enter h = let a = z .on in (omega arith, z .ready)
 
   -- if it stops, the list does
-  pub item-stopped : {b g : ℕ} {r : Part} {l₂ u₂ : List ℕ} → r ≡ Stopped b g → Parses ks us expr d j q l₁ u₁ r l₂ u₂
+  pub item-stopped : {r : Part} {l₂ u₂ : List ℕ} → (r .code ≡ 0 → ⊥) → Parses ks us expr d j q l₁ u₁ r l₂ u₂
       → (o : Opening) → wantOf o ≡ n → kindOpening o ≡ c → Parses ks us (list o) d i p l u r l₂ u₂
   item-stopped e h = z .all λ b _ _. list-stopped e h b
 
   -- the kind k stands behind it, and s should
-  module _ {j₁ q₁ : ℕ} {r : Part} {l₂ u₂ : List ℕ} (e : r ≡ Passed j₁ q₁) (h : Parses ks us expr d j q l₁ u₁ r l₂ u₂) {k s : ℕ}
+  module _ {j₁ q₁ : ℕ} {r : Part} {l₂ u₂ : List ℕ} (e : r ≡ passed j₁ q₁) (h : Parses ks us expr d j q l₁ u₁ r l₂ u₂) {k s : ℕ}
       (ek : k ≡ getD ks j₁ 0) (es : s ≡ closerOf m) where
-    pub item-shut : (k ≡ s → ⊥) → (o : Opening) → wantOf o ≡ n → kindOpening o ≡ c → Parses ks us (list o) d i p l u (Stopped 18 j₁) l₂ u₂
+    pub item-shut : (k ≡ s → ⊥) → (o : Opening) → wantOf o ≡ n → kindOpening o ≡ c → Parses ks us (list o) d i p l u (stopped 18 j₁) l₂ u₂
     item-shut y = z .all λ b v _. list-shut (z .ready) e h m ek es y b v
 
     module _ (y : k ≡ s) where
@@ -337,9 +336,9 @@ module _ {ks us : List ℕ} {d i p : ℕ} {l u : List ℕ} {n c j m q : ℕ} {l�
           }
 
       -- the closing parenthesis
-      pub item-bare : m ≤ 1 → c ≡ 0 → (o : Opening) → wantOf o ≡ n → kindOpening o ≡ c → Parses ks us (list o) d i p l u (Passed (j₁ + 1) q₁) l₂ u₂
+      pub item-bare : m ≤ 1 → c ≡ 0 → (o : Opening) → wantOf o ≡ n → kindOpening o ≡ c → Parses ks us (list o) d i p l u (passed (j₁ + 1) q₁) l₂ u₂
       item-bare le v = z .all (list-bare (z .ready) e h m ek es y le v)
 
       pub item-last : {l₃ u₃ : List ℕ} → m ≤ 1 → (c ≡ 0 → ⊥) → l₃ ≡ set l₂ q₁ c → u₃ ≡ set u₂ q₁ 0
-          → (o : Opening) → wantOf o ≡ n → kindOpening o ≡ c → Parses ks us (list o) d i p l u (Passed (j₁ + 1) (q₁ + 1)) l₃ u₃
+          → (o : Opening) → wantOf o ≡ n → kindOpening o ≡ c → Parses ks us (list o) d i p l u (passed (j₁ + 1) (q₁ + 1)) l₃ u₃
       item-last le v f g = z .all (list-last (z .ready) e h m ek es y le v f g)

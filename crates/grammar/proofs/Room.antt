@@ -1,4 +1,5 @@
--- What is written has at most one draft for each token that is read, at a fault too; so a buffer with a place for each token has room.
+-- What is written has at most one draft for each token that is read, at a fault too; so a buffer with a place for each token has room. A
+-- fault's code is 18 or 19.
 use Prim.Native.Nat.{ℕ, zero, suc, _+_, _*_, _≤_}
 use mathlib.Core.Path.{_≡_, refl, ap, _∙_}
 use mathlib.Core.Bool.{Bool, true, false}
@@ -21,10 +22,11 @@ use Rattle.grammar.specs.Parser.{assigned, rated, started, integrated, e
 use Rattle.grammar.proofs.Outcome.{here-mark, is-mark}
 use Rattle.grammar.proofs.Looks.{add-here, mul-here, leaf-here, call-here, Bare, bare-value, bare-name, bare-time, as-shaped, start-cases}
 
--- a front w of s is read, and n drafts are written: with b more there are at most a more than tokens; at a fault none are due any more
+-- a front w of s is read, and n drafts are written: with b more there are at most a more than tokens; at a fault none are due any more, and
+-- its code is 18 or 19
 abbrev pub FitsEnd : {A : Type 0} → List Symbol → ℕ → ℕ → ℕ → End A → Type 0
 FitsEnd s b a n (got e t) = (w : List Symbol) × (s ≡ w ++ t) × (n + b ≤ length w + a)
-FitsEnd s b a n (bad c t) = (w : List Symbol) × (s ≡ w ++ t) × (n ≤ length w + a)
+FitsEnd s b a n (bad c t) = (w : List Symbol) × (s ≡ w ++ t) × (n ≤ length w + a) × (18 ≤ c) × (c ≤ 19)
 
 -- the reading x of s fits
 pub record Fits {A : Type 0} (s : List Symbol) (b a : ℕ) (x : Res A) : Type 0 where
@@ -37,14 +39,17 @@ module _ {A : Type 0} where
     where
       go : (t : End A) → FitsEnd s b a (length (x .out)) t → FitsEnd s b′ a′ (length (x .out)) t
       go (got e t) r = (r .0, r .1, omega arith)
-      go (bad c t) r = (r .0, r .1, omega arith)
+      go (bad c t) r = (r .0, r .1, omega arith, r .3, r .4)
 
   -- nothing is read and nothing written
   pub fits-give : (s : List Symbol) (e : A) → Fits s 0 0 (give e s)
   fits-give s e = record { ends = ([], refl, omega arith) }
 
-  pub fits-stop : (s : List Symbol) (b a c : ℕ) → Fits {A = A} s b a (stop c s)
-  fits-stop s b a c = record { ends = ([], refl, omega arith) }
+  pub fits-stop : (s : List Symbol) (b a : ℕ) → Fits {A = A} s b a (stop 18 s)
+  fits-stop s b a = record { ends = ([], refl, omega arith, omega arith, omega arith) }
+
+  pub fits-deep : (s : List Symbol) (b a : ℕ) → Fits {A = A} s b a (stop 19 s)
+  fits-deep s b a = record { ends = ([], refl, omega arith, omega arith, omega arith) }
 
   -- behind drafts
   pub fits-tell : (is : List Draft) (s : List Symbol) (b a : ℕ) (x : Res A) → Fits s b a x → Fits s b (length is + a) (tell is x)
@@ -52,7 +57,7 @@ module _ {A : Type 0} where
     where
       go : (t : End A) → FitsEnd s b a (length (x .out)) t → FitsEnd s b (length is + a) (length (is ++ x .out)) t
       go (got e t) r = (r .0, r .1, let l = length-append is (x .out) in omega arith)
-      go (bad c t) r = (r .0, r .1, let l = length-append is (x .out) in omega arith)
+      go (bad c t) r = (r .0, r .1, let l = length-append is (x .out) in omega arith, r .3, r .4)
 
   -- behind a token, which pays for a draft
   pub fits-rest : {t : Symbol} (s : List Symbol) (b a : ℕ) (x : Res A) → s ≡ t ∷ rest s → Fits (rest s) b (suc a) x → Fits s b a x
@@ -60,7 +65,7 @@ module _ {A : Type 0} where
     where
       go : (u : End A) → FitsEnd (rest s) b (suc a) (length (x .out)) u → FitsEnd s b a (length (x .out)) u
       go (got e u) r = (t ∷ r .0, q ∙ ap (λ (z : List Symbol). t ∷ z) (r .1), omega arith)
-      go (bad c u) r = (t ∷ r .0, q ∙ ap (λ (z : List Symbol). t ∷ z) (r .1), omega arith)
+      go (bad c u) r = (t ∷ r .0, q ∙ ap (λ (z : List Symbol). t ∷ z) (r .1), omega arith, r .3, r .4)
 
   -- at a mark, or else
   pub fits-mark : (m : ℕ) {s : List Symbol} {b a : ℕ} (x y : Unit {0} → Res A) → (next s ≡ mark (suc m) → Fits s b a (x tt)) → Fits s b a (y tt)
@@ -73,7 +78,7 @@ module _ {A : Type 0} where
 
   -- behind a mark that must stand next
   pub fits-need : (m : ℕ) (s : List Symbol) (b a : ℕ) (k : List Symbol → Res A) → Fits (rest s) b (suc a) (k (rest s)) → Fits s b a (need (suc m) s k)
-  fits-need m s b a k h = fits-mark m _ _ (λ q. fits-rest s b a (k (rest s)) (here-mark s m q) h) (fits-stop s b a 18)
+  fits-need m s b a k h = fits-mark m _ _ (λ q. fits-rest s b a (k (rest s)) (here-mark s m q) h) (fits-stop s b a)
 
 -- one after the other
 pub fits-bind : {A B : Type 0} (s : List Symbol) (b c a : ℕ) (x : Res A) (k : A → List Symbol → Res B) → Fits s b a x
@@ -86,7 +91,7 @@ fits-bind {A} {B} s b c a x k h g = record { ends = go (x .out) (x .end) (h .end
     then w t o e q p (got z u) r =
         (w ++ r .0, q ∙ rw (append-assoc, r .1), let l = length-append w (r .0) in let m = length-append o (k e t .out) in omega arith)
     then w t o e q p (bad d u) r =
-        (w ++ r .0, q ∙ rw (append-assoc, r .1), let l = length-append w (r .0) in let m = length-append o (k e t .out) in omega arith)
+        (w ++ r .0, q ∙ rw (append-assoc, r .1), let l = length-append w (r .0) in let m = length-append o (k e t .out) in omega arith, r .3, r .4)
 
     go : (o : List Draft) (t : End A) → FitsEnd s b a (length o) t → FitsEnd s c a (length (onward o t k .out)) (onward o t k .end)
     go o (got e t) r = then (r .0) t o e (r .1) (r .2) (k e t .end) (g e t .ends)
@@ -153,8 +158,8 @@ module _ (f d : ℕ) (ih : (m : Mode) (d : ℕ) (s : List Symbol) → Fits s 0 0
   factor-fits s Paren h = ih (opened group) d s
   factor-fits s (Call p) h =
       fits-rest s 0 0 _ (call-here s p h)
-      (fits-mark 39 _ _ (λ q. fits-mono 0 1 (ih (opened p) d (rest s)) (omega arith) (omega arith)) (fits-stop (rest s) 0 1 18))
-  factor-fits s NoFactor h = fits-stop s 0 0 18
+      (fits-mark 39 _ _ (λ q. fits-mono 0 1 (ih (opened p) d (rest s)) (omega arith) (omega arith)) (fits-stop (rest s) 0 1))
+  factor-fits s NoFactor h = fits-stop s 0 0
 
   -- behind an expression of an opening: the closing mark pays for the opening's draft
   given-fits : (p : Opening) (t : List Symbol) (g : Given)
@@ -174,13 +179,13 @@ rest-fits (t ∷ s) x h = fits-rest (t ∷ s) 0 0 x refl (fits-mono 0 1 h (omega
 -- in each mode, whatever the count of calls
 pub parse-fits : (f : ℕ) (m : Mode) (d : ℕ) (s : List Symbol) → Fits s 0 0 (parse f m d s)
 unfolding parse
-parse-fits zero m d s = fits-stop s 0 0 18
+parse-fits zero m d s = fits-stop s 0 0
 parse-fits (suc f) expr d s = expr-fits f d (parse-fits f) s (addOp (next s)) refl
 parse-fits (suc f) term d s = fits-bind s 0 0 0 (parse f factor d s) _ (parse-fits f factor d s) λ e t. parse-fits f (factors e) d t
 parse-fits (suc f) factor d s = factor-fits f d (parse-fits f) s (shapeOf (next s)) refl
 parse-fits (suc f) (terms l) d s = terms-fits f d (parse-fits f) l s (addOp (next s)) refl
 parse-fits (suc f) (factors l) d s = factors-fits f d (parse-fits f) l s (mulOp (next s)) refl
-parse-fits (suc f) (opened p) zero s = fits-stop s 0 0 19
+parse-fits (suc f) (opened p) zero s = fits-deep s 0 0
 parse-fits (suc f) (opened p) (suc d) s = rest-fits s _ (parse-fits f (list p) d (rest s))
 parse-fits (suc f) (list p) d s =
     fits-bind s 0 0 0 (parse f expr d s) _ (parse-fits f expr d s) λ e t. given-fits f d (parse-fits f) p t (give-to p e)
@@ -202,7 +207,7 @@ module _ {A : Type 0} where
 -- a number behind its sign
 number-fits : (o : Op) (s : List Symbol) → Fits s 0 0 (aNumber o s)
 number-fits o s =
-    let no : Fits {A = Float} s 0 0 (stop 18 s) = fits-stop s 0 0 18 in
+    let no : Fits {A = Float} s 0 0 (stop 18 s) = fits-stop s 0 0 in
     start-cases s (λ p. Fits s 0 0 (byNumber p (λ x. give (signedValue o x) (rest s)) (λ _. stop 18 s))) (λ _ _. no) (λ _. no) (λ _ _. no)
     (λ x q. fits-rest s 0 0 _ q (fits-mono 0 1 (fits-give (rest s) _) (omega arith) (omega arith))) no
 
@@ -225,13 +230,13 @@ more-fits go c ih t =
 
 many-fits : (f : ℕ) (s : List Symbol) → Fits s 0 0 (many f s)
 unfolding many
-many-fits zero s = fits-stop s 0 0 18
+many-fits zero s = fits-stop s 0 0
 many-fits (suc f) s =
     name-fits s 0 0 _ _
     (λ k. fits-need 60 (rest s) 0 1 (valued (many f) k)
     (fits-bind (rest (rest s)) 2 0 2 (signedNumber (rest (rest s))) _ (fits-mono 2 2 (signed-fits (rest (rest s))) (omega arith) (omega arith))
     λ x t. fits-tell (constantDrafts (constantOf k x)) t 0 0 _ (more-fits (many f) (constantOf k x) (many-fits f) t)))
-    (fits-stop s 0 0 18)
+    (fits-stop s 0 0)
 
 -- an initial
 pub initially-fits : (s : List Symbol) → Fits s 0 0 (initially s)
@@ -269,7 +274,7 @@ module _ (f d k : ℕ) where
 pub statement-fits : (f d : ℕ) (s : List Symbol) → Fits s 0 0 (statement f d s)
 unfolding statement
 statement-fits f d s =
-    let no : Fits {A = Says} s 0 0 (stop 18 s) = fits-stop s 0 0 18 in
+    let no : Fits {A = Says} s 0 0 (stop 18 s) = fits-stop s 0 0 in
     start-cases s
     (λ p. Fits s 0 0
     (byStart p (λ _. bind (many f (rest s)) λ cs t. give (constants cs) t) (λ _. stop 18 s) (λ k. need 61 (rest s) (equated f d k)) (λ _. stop 18 s)
@@ -288,7 +293,7 @@ entire-fits f d s = fits-bind s 0 0 0 (statement f d s) ended (statement-fits f 
   where
     end : (x : Says) (t : List Symbol) → Fits t 0 0 (ended x t)
     end x [] = fits-give [] x
-    end x (t ∷ s) = fits-stop (t ∷ s) 0 0 18
+    end x (t ∷ s) = fits-stop (t ∷ s) 0 0
 
 -- what fits has no more drafts than there are tokens
 pub fits-few : {A : Type 0} (s : List Symbol) (x : Res A) → Fits s 0 0 x → length (x .out) ≤ length s

@@ -11,7 +11,6 @@ use Rattle.tokens.specs.Symbol.{Symbol}
 use Rattle.tokens.specs.Held.{heldRow}
 use Rattle.tokens.proofs.Holding.{held-length}
 use Rattle.grammar.specs.declared.Part.{Part}
-use Rattle.grammar.specs.declared.Part.the-variants.{Passed, Stopped}
 use Rattle.grammar.specs.declared.Value.the-variants.{Found, Missing}
 use Rattle.grammar.specs.Tree.{Tree, Constant, constantOf, Initial, Says, constants, assignment, state}
 use Rattle.grammar.specs.Drafts.{draft, constantDrafts, initialDraft}
@@ -19,7 +18,7 @@ use Rattle.grammar.specs.Look.{rest}
 use Rattle.grammar.specs.Grammar.{expr}
 use Rattle.grammar.specs.Parser.{Res, give, tell, bind, need, parse, reads}
 use Rattle.grammar.specs.Parser.{signedNumber, onMore, valued, many, initially, assigned, rated, started, integrated, equated, statement, calls}
-use Rattle.grammar.specs.Contract.{Ready, Within, Meets, Parses, Lists, numberAt, initialAt}
+use Rattle.grammar.specs.Contract.{Ready, Within, passed, stopped, Meets, Parses, Lists, numberAt, initialAt}
 use Rattle.grammar.proofs.Clauses.{to-reads}
 use Rattle.grammar.proofs.Seen.{token-at, stands, is-name, no-name, is-integral, no-integral, start-name, start-words, start-none}
 use Rattle.grammar.proofs.Meets.{meets-by, meets-rest, meets-give, meets-stop, meets-tell, meets-map, meets-mark, meets-else, meets-need, meets-shut}
@@ -69,11 +68,11 @@ comma-inside ks j {c} e z = stands ks j λ y. let v : c ≡ 0 = e ∙ y in omega
 
 module _ {ks us : List ℕ} {i p m : ℕ} {l u : List ℕ} (w : Ready ks us i p l u) (em : m ≡ getD ks i 0) where
   -- no name
-  pub const-none : (m ≡ 2 → ⊥) → Lists ks us i p l u (Stopped 18 i) l u
+  pub const-none : (m ≡ 2 → ⊥) → Lists ks us i p l u (stopped 18 i) l u
   unfolding many
   const-none n =
       record {
-        meets = for-suc (λ f. Meets ks us (many f) i p l u (Stopped 18 i) l u) (length ks - i) λ f le.
+        meets = for-suc (λ f. Meets ks us (many f) i p l u (stopped 18 i) l u) (length ks - i) λ f le.
             meets-by (many (suc f))
             (rw (token-at ks us i (w .even)) (no-name (getD ks i 0) (getD us i 0) _ _ λ z. n (em ∙ z))) (meets-stop (w .even) (w .within) 18);
       }
@@ -96,7 +95,7 @@ module _ {ks us : List ℕ} {i p m : ℕ} {l u : List ℕ} (w : Ready ks us i p 
 
     module _ {e : ℕ} (ee : e ≡ getD ks (i + 1) 0) where
       -- no =
-      pub const-shut : (e ≡ 61 → ⊥) → Lists ks us i p l u (Stopped 18 (i + 1)) l u
+      pub const-shut : (e ≡ 61 → ⊥) → Lists ks us i p l u (stopped 18 (i + 1)) l u
       const-shut n =
           let a = name-inside in
           const-named λ f le. meets-shut (valued (many f) (getD us i 0)) 61 (w .even) (omega arith) (omega arith) λ z. n (ee ∙ z)
@@ -116,7 +115,7 @@ module _ {ks us : List ℕ} {i p m : ℕ} {l u : List ℕ} (w : Ready ks us i p 
             const-named λ f le. meets-need 61 (w .even) (omega arith) (sym ee ∙ equals) (rw n at (g f le))
 
         -- no number
-        pub const-missing : {j : ℕ} → Missing j ≡ numberAt ks us (i + 2) → Lists ks us i p l u (Stopped 18 j) l u
+        pub const-missing : {j : ℕ} → Missing j ≡ numberAt ks us (i + 2) → Lists ks us i p l u (stopped 18 j) l u
         const-missing h = const-equals λ f le. number-stops const-within _ h
 
         module _ {k a j : ℕ} (h : Found k a j ≡ numberAt ks us (i + 2)) where
@@ -141,7 +140,7 @@ module _ {ks us : List ℕ} {i p m : ℕ} {l u : List ℕ} (w : Ready ks us i p 
                 (two-drafts 1 n 0 (toBits binary64 (v .what)) x y (rw (← (v .kind)) x′) (rw (← (v .arg)) y′) (g f (constantOf n (v .what)) le))
 
             -- the last
-            pub const-last : (c ≡ 44 → ⊥) → Lists ks us i p l u (Passed j (p + 2)) l₂ u₂
+            pub const-last : (c ≡ 44 → ⊥) → Lists ks us i p l u (passed j (p + 2)) l₂ u₂
             const-last n =
                 const-valued λ f z le. meets-else (λ s. bind (many f (rest s)) λ cs t. give (z ∷ cs) t) 44 (w .even) (omega arith) (λ q. n (ec ∙ q))
                 (meets-give (w .even) (value .inside) (z ∷ []))
@@ -186,10 +185,10 @@ module _ {ks us : List ℕ} {i p : ℕ} {l u : List ℕ} {r : Part} {l₁ u₁ :
   unfolding assigned
   assign-by g = meets-by (assigned (calls (heldRow ks us)) levels key) (rw (expr-at ks us i levels (w .even))) g
 
-  pub assign-stopped : {c j : ℕ} → r ≡ Stopped c j → Meets ks us (assigned (calls (heldRow ks us)) levels key) i p l u r l₁ u₁
+  pub assign-stopped : (r .code ≡ 0 → ⊥) → Meets ks us (assigned (calls (heldRow ks us)) levels key) i p l u r l₁ u₁
   assign-stopped e = assign-by (stops (store-then key) e h)
 
-  module _ {j q : ℕ} (e : r ≡ Passed j q) where
+  module _ {j q : ℕ} (e : r ≡ passed j q) where
     pub assign-room : (q < length l₁) × (q < length u₁)
     assign-room =
         let a = after assign-ready e h in
@@ -200,7 +199,7 @@ module _ {ks us : List ℕ} {i p : ℕ} {l u : List ℕ} {r : Part} {l₁ u₁ :
     assign-under = let a = after assign-ready e h in let b = assign-room in omega arith
 
     pub assign-passed : {l₂ u₂ : List ℕ} → l₂ ≡ set l₁ q 13 → u₂ ≡ set u₁ q key
-        → Meets ks us (assigned (calls (heldRow ks us)) levels key) i p l u (Passed j (q + 1)) l₂ u₂
+        → Meets ks us (assigned (calls (heldRow ks us)) levels key) i p l u (passed j (q + 1)) l₂ u₂
     assign-passed x y =
         let a = after assign-ready e h in
         assign-by (goes-on (store-then key) assign-ready e h λ z. meets-tell 13 key x y (meets-give (w .even) (a .inside) (assignment key z)))
@@ -217,11 +216,11 @@ module _ {ks us : List ℕ} {i p : ℕ} {l u : List ℕ} {r : Part} {l₁ u₁ :
       → Meets ks us (rated (calls (heldRow ks us)) levels key n) i p l u r l₂ u₂
   rate-by n g = meets-by (rated (calls (heldRow ks us)) levels key n) (rw (expr-at ks us i levels (w .even))) g
 
-  pub rate-stopped : {c j : ℕ} → r ≡ Stopped c j → (n : Initial) → Meets ks us (rated (calls (heldRow ks us)) levels key n) i p l u r l₁ u₁
+  pub rate-stopped : (r .code ≡ 0 → ⊥) → (n : Initial) → Meets ks us (rated (calls (heldRow ks us)) levels key n) i p l u r l₁ u₁
   rate-stopped e n = rate-by n (stops (rate-then key n) e h)
 
-  module _ {j q k : ℕ} (e : r ≡ Passed j q) (ek : k ≡ getD ks j 0) where
-    pub rate-shut : (k ≡ 41 → ⊥) → (n : Initial) → Meets ks us (rated (calls (heldRow ks us)) levels key n) i p l u (Stopped 18 j) l₁ u₁
+  module _ {j q k : ℕ} (e : r ≡ passed j q) (ek : k ≡ getD ks j 0) where
+    pub rate-shut : (k ≡ 41 → ⊥) → (n : Initial) → Meets ks us (rated (calls (heldRow ks us)) levels key n) i p l u (stopped 18 j) l₁ u₁
     rate-shut z n =
         let a = after w e h in
         rate-by n (goes-on (rate-then key n) w e h λ x.
@@ -238,7 +237,7 @@ module _ {ks us : List ℕ} {i p : ℕ} {l u : List ℕ} {r : Part} {l₁ u₁ :
       rate-under = let a = after w e h in let b = rate-room in omega arith
 
       pub rate-passed : {l₂ u₂ : List ℕ} → l₂ ≡ set l₁ q 14 → u₂ ≡ set u₁ q key
-          → (n : Initial) → Meets ks us (rated (calls (heldRow ks us)) levels key n) i p l u (Passed (j + 1) (q + 1)) l₂ u₂
+          → (n : Initial) → Meets ks us (rated (calls (heldRow ks us)) levels key n) i p l u (passed (j + 1) (q + 1)) l₂ u₂
       rate-passed x y n =
           let b = rate-inside in
           rate-by n (goes-on (rate-then key n) w e h λ v.
@@ -246,7 +245,7 @@ module _ {ks us : List ℕ} {i p : ℕ} {l u : List ℕ} {r : Part} {l₁ u₁ :
 
 module _ {ks us : List ℕ} {i p m : ℕ} {l u : List ℕ} (key : ℕ) (w : Ready ks us i p l u) (em : m ≡ getD ks i 0) where
   -- no opening parenthesis
-  pub state-shut : (m ≡ 40 → ⊥) → Meets ks us (integrated (calls (heldRow ks us)) levels key) i p l u (Stopped 18 i) l u
+  pub state-shut : (m ≡ 40 → ⊥) → Meets ks us (integrated (calls (heldRow ks us)) levels key) i p l u (stopped 18 i) l u
   unfolding integrated
   state-shut n = meets-shut (started (calls (heldRow ks us)) levels key) 40 (w .even) (w .within) (omega arith) λ z. n (em ∙ z)
 
@@ -263,7 +262,7 @@ module _ {ks us : List ℕ} {i p m : ℕ} {l u : List ℕ} (key : ℕ) (w : Read
     state-open g = meets-need 40 (w .even) (omega arith) (sym em ∙ there) g
 
     -- no initial
-    pub state-missing : {j : ℕ} → Missing j ≡ initialAt ks us (i + 1) → Meets ks us (integrated (calls (heldRow ks us)) levels key) i p l u (Stopped 18 j) l u
+    pub state-missing : {j : ℕ} → Missing j ≡ initialAt ks us (i + 1) → Meets ks us (integrated (calls (heldRow ks us)) levels key) i p l u (stopped 18 j) l u
     state-missing h = state-open (initial-stops state-within _ h)
 
     module _ {k a j : ℕ} (h : Found k a j ≡ initialAt ks us (i + 1)) where
@@ -290,7 +289,7 @@ module _ {ks us : List ℕ} {i p m : ℕ} {l u : List ℕ} (key : ℕ) (w : Read
             (two-drafts 2 key (d .kind) (d .arg) x y (rw (← (v .kind)) x′) (rw (← (v .arg)) y′) (g (v .what))))
 
         -- no comma
-        pub state-alone : (c ≡ 44 → ⊥) → Meets ks us (integrated (calls (heldRow ks us)) levels key) i p l u (Stopped 18 j) l₂ u₂
+        pub state-alone : (c ≡ 44 → ⊥) → Meets ks us (integrated (calls (heldRow ks us)) levels key) i p l u (stopped 18 j) l₂ u₂
         state-alone n =
             state-started λ v. meets-shut (rated (calls (heldRow ks us)) levels key v) 44 (w .even) (start .inside) (omega arith) λ z. n (ec ∙ z)
 
@@ -307,7 +306,7 @@ module _ {ks us : List ℕ} {i p m : ℕ} {l u : List ℕ} (key : ℕ) (w : Read
 
 module _ {ks us : List ℕ} {p k : ℕ} {l u : List ℕ} (w : Ready ks us 0 p l u) (ek : k ≡ getD ks 0 0) where
   -- neither a name nor a word before constants
-  pub begins-none : (k ≡ 2 → ⊥) → (3 ≤ k → k ≤ 5 → ⊥) → Meets ks us (statement (calls (heldRow ks us)) levels) 0 p l u (Stopped 18 0) l u
+  pub begins-none : (k ≡ 2 → ⊥) → (3 ≤ k → k ≤ 5 → ⊥) → Meets ks us (statement (calls (heldRow ks us)) levels) 0 p l u (stopped 18 0) l u
   unfolding statement
   begins-none n m =
       meets-by (statement (calls (heldRow ks us)) levels)
@@ -343,7 +342,7 @@ module _ {ks us : List ℕ} {p k : ℕ} {l u : List ℕ} (w : Ready ks us 0 p l 
 
     module _ {e : ℕ} (ee : e ≡ getD ks 1 0) where
       -- no =
-      pub begins-shut : (e ≡ 61 → ⊥) → Meets ks us (statement (calls (heldRow ks us)) levels) 0 p l u (Stopped 18 1) l u
+      pub begins-shut : (e ≡ 61 → ⊥) → Meets ks us (statement (calls (heldRow ks us)) levels) 0 p l u (stopped 18 1) l u
       begins-shut n =
           let a = first-inside in
           begins-name (meets-shut (equated (calls (heldRow ks us)) levels (getD us 0 0)) 61 (w .even) (omega arith) (omega arith) λ z. n (ee ∙ z))

@@ -13,7 +13,6 @@ use Rattle.tokens.specs.Symbol.{Symbol, mark}
 use Rattle.tokens.specs.Held.{heldRow}
 use Rattle.tokens.proofs.Holding.{held-length}
 use Rattle.grammar.specs.declared.Part.{Part}
-use Rattle.grammar.specs.declared.Part.the-variants.{Stopped}
 use Rattle.grammar.specs.declared.Value.{Value}
 use Rattle.grammar.specs.declared.Value.the-variants.{Found, Missing}
 use Rattle.grammar.specs.Tree.{plus, Initial, plain, from}
@@ -23,7 +22,7 @@ use Rattle.grammar.specs.Grammar.{Signed, unsigned-number, signed-number
 use Rattle.grammar.specs.Parser.{End, got, bad, Res, give, stop, bind, onward, byName, byNumber, behindSign}
 use Rattle.grammar.specs.Parser.{signedValue, aNumber, signedNumber, initially}
 use Rattle.grammar.specs.Codes.{skipOf}
-use Rattle.grammar.specs.Contract.{Within, outcome, wrote, partWrote, Meets, valueOf, numberAt, initialAt}
+use Rattle.grammar.specs.Contract.{Within, outcome, wrote, stopped, partWrote, Meets, valueOf, numberAt, initialAt}
 use Rattle.grammar.proofs.Outcome.{clash, Asked, Before, Out, OutEnd}
 use Rattle.grammar.proofs.Whole.{signed-out, initially-out}
 use Rattle.grammar.proofs.Clauses.{rest-at, left-at}
@@ -205,13 +204,13 @@ module _ {A : Type 0} (f : A → Draft) (x : List Symbol → Res A) {L : Asked A
 
   -- missing: both stop
   missing-at : {B : Type 0} {j p : ℕ} {l u : List ℕ} (k : A → List Symbol → Res B) → Missing j ≡ valueOf f (length ks) (x (drop i (heldRow ks us)) .end)
-      → Meets ks us (λ s. bind (x s) k) i p l u (Stopped 18 j) l u
+      → Meets ks us (λ s. bind (x s) k) i p l u (stopped 18 j) l u
   unfolding bind wrote
   missing-at {j = j} {p = p} {l = l} {u = u} k h =
       record { same = go (x (drop i (heldRow ks us)) .out) (x (drop i (heldRow ks us)) .end) (quiet .silent) (quiet .faults) h }
     where
       go : (o : List Draft) (t : End A) → o ≡ [] → Grammar t → Missing j ≡ valueOf f (length ks) t
-          → outcome (Stopped 18 j) l u ≡ partWrote (length ks) (onward o t k) p l u
+          → outcome (stopped 18 j) l u ≡ partWrote (length ks) (onward o t k) p l u
       go o (got e t) s g h = clash (cc)
       go o (bad c t) s g h = let m : j ≡ length ks - length t = cc in rw (s, g, m)
 
@@ -227,13 +226,13 @@ module _ {ks us : List ℕ} {i : ℕ} (w : Within ks us i) where
       valued-at initialDraft initially (λ o v x r. initially-size (r .0)) w (initially-out 0 s) (quiet-initially s) h
 
   pub number-stops : {B : Type 0} {j p : ℕ} {l u : List ℕ} (k : Float → List Symbol → Res B) → Missing j ≡ numberAt ks us i
-      → Meets ks us (λ s. bind (signedNumber s) k) i p l u (Stopped 18 j) l u
+      → Meets ks us (λ s. bind (signedNumber s) k) i p l u (stopped 18 j) l u
   number-stops k h =
       let s = drop i (heldRow ks us) in
       missing-at (λ x. draft 0 (toBits binary64 x)) signedNumber (λ o v x r. signed-size (r .0)) w (signed-out 0 s) (quiet-signed s) k h
 
   pub initial-stops : {B : Type 0} {j p : ℕ} {l u : List ℕ} (k : Initial → List Symbol → Res B) → Missing j ≡ initialAt ks us i
-      → Meets ks us (λ s. bind (initially s) k) i p l u (Stopped 18 j) l u
+      → Meets ks us (λ s. bind (initially s) k) i p l u (stopped 18 j) l u
   initial-stops k h =
       let s = drop i (heldRow ks us) in
       missing-at initialDraft initially (λ o v x r. initially-size (r .0)) w (initially-out 0 s) (quiet-initially s) k h

@@ -14,14 +14,13 @@ use Rattle.tokens.specs.Symbol.{Symbol, mark}
 use Rattle.tokens.specs.Held.{symbolOf, heldRow}
 use Rattle.tokens.proofs.Holding.{held-length}
 use Rattle.grammar.specs.declared.Part.{Part}
-use Rattle.grammar.specs.declared.Part.the-variants.{Passed, Stopped}
 use Rattle.grammar.specs.Tree.{Two, plus, minus, times, over, compar, Tree, time, two}
 use Rattle.grammar.specs.Drafts.{Draft, draft, kindTwo}
 use Rattle.grammar.specs.Look.{next, rest, byteOf, Op, none, op, addOp, mulOp, isMinus, signed}
 use Rattle.grammar.specs.Grammar.{Mode, expr, term, factor, terms, factors}
 use Rattle.grammar.specs.Parser.{Res, give, tell, bind, byOp, behindSign, signDrafts, reads}
 use Rattle.grammar.specs.Codes.{kindOp, skipOf}
-use Rattle.grammar.specs.Contract.{opDrafts, PutsOp, Ready, Meets, Parses}
+use Rattle.grammar.specs.Contract.{opDrafts, PutsOp, Ready, passed, Meets, Parses}
 use Rattle.grammar.proofs.Outcome.{clash}
 use Rattle.grammar.proofs.Clauses.{rest-at, reads-expr, reads-terms, reads-term, reads-factors}
 use Rattle.grammar.proofs.Room.{reads-fits}
@@ -39,7 +38,7 @@ pub record After (n i p : ℕ) (l u : List ℕ) (j q : ℕ) (l₁ u₁ : List �
   pub long-args : length u₁ ≡ length u
 
 module _ {ks us : List ℕ} {m : Mode} {d i p j q : ℕ} {l u : List ℕ} {r : Part} {l₁ u₁ : List ℕ} where
-  pub after : Ready ks us i p l u → r ≡ Passed j q → Parses ks us m d i p l u r l₁ u₁ → After (length ks) i p l u j q l₁ u₁
+  pub after : Ready ks us i p l u → r ≡ passed j q → Parses ks us m d i p l u r l₁ u₁ → After (length ks) i p l u j q l₁ u₁
   after w e h =
       let row = heldRow ks us in
       let n = held-length ks us (w .even) in
@@ -55,19 +54,19 @@ module _ {ks us : List ℕ} {m : Mode} {d i p j q : ℕ} {l u : List ℕ} {r : P
       }
 
   -- what follows it can be called
-  pub ready-on : Ready ks us i p l u → r ≡ Passed j q → Parses ks us m d i p l u r l₁ u₁ → Ready ks us j q l₁ u₁
+  pub ready-on : Ready ks us i p l u → r ≡ passed j q → Parses ks us m d i p l u r l₁ u₁ → Ready ks us j q l₁ u₁
   ready-on w e h =
       let z = after w e h in
       record { even = w .even; within = z .inside; room-kinds = omega (arith, w .room-kinds); room-args = omega (arith, w .room-args) }
 
 module _ {B : Type 0} {ks us : List ℕ} {m : Mode} {d i p : ℕ} {l u : List ℕ} (k : Tree → List Symbol → Res B) where
   -- a part that stops stops the whole
-  pub stops : {c j : ℕ} {r : Part} {l₁ u₁ : List ℕ} → r ≡ Stopped c j → Parses ks us m d i p l u r l₁ u₁
+  pub stops : {r : Part} {l₁ u₁ : List ℕ} → (r .code ≡ 0 → ⊥) → Parses ks us m d i p l u r l₁ u₁
       → Meets ks us (λ s. bind (reads m d s) k) i p l u r l₁ u₁
   stops e h = meets-bad k e (h .meets)
 
   -- what follows a part goes on from where it ends
-  pub goes-on : {j q : ℕ} {r r₁ : Part} {l₁ u₁ l₂ u₂ : List ℕ} → Ready ks us i p l u → r₁ ≡ Passed j q → Parses ks us m d i p l u r₁ l₁ u₁
+  pub goes-on : {j q : ℕ} {r r₁ : Part} {l₁ u₁ l₂ u₂ : List ℕ} → Ready ks us i p l u → r₁ ≡ passed j q → Parses ks us m d i p l u r₁ l₁ u₁
       → ((e : Tree) → Meets ks us (k e) j q l₁ u₁ r l₂ u₂) → Meets ks us (λ s. bind (reads m d s) k) i p l u r l₂ u₂
   goes-on w e h g = meets-bind k (reads-fits m d (drop i (heldRow ks us))) (w .even) (w .within) e (h .meets) λ x _. g x
 
@@ -165,7 +164,7 @@ module _ {look : Symbol → Op} {part : Mode} {chain : Tree → Mode} (c : Chain
   look-at = ap look (token-at ks us i (w .even)) ∙ c .seen (getD ks i 0) (getD us i 0) ∙ ap (λ (x : ℕ). look (mark x)) (sym ek)
 
   -- no operator: it ends
-  chain-end : {d : ℕ} → o ≡ 0 → (x : Tree) → Parses ks us (chain x) d i p l u (Passed i p) l u
+  chain-end : {d : ℕ} → o ≡ 0 → (x : Tree) → Parses ks us (chain x) d i p l u (passed i p) l u
   chain-end {d} z x =
       let row = heldRow ks us in
       let n = look-at ∙ no-op (look (mark k)) (sym eo ∙ z) in
@@ -258,10 +257,10 @@ module _ {ks us : List ℕ} {m part : Mode} {chain : Tree → Mode} {d i p : ℕ
   part-enter g h = let a = z .on in (omega arith, part-ready)
 
   -- a part that stops stops the whole
-  pub part-stopped : {c b : ℕ} {r : Part} {l₂ u₂ : List ℕ} → r ≡ Stopped c b → Parses ks us part d j q l₁ u₁ r l₂ u₂ → Parses ks us m d i p l u r l₂ u₂
+  pub part-stopped : {r : Part} {l₂ u₂ : List ℕ} → (r .code ≡ 0 → ⊥) → Parses ks us part d j q l₁ u₁ r l₂ u₂ → Parses ks us m d i p l u r l₂ u₂
   part-stopped e h = z .whole λ x. stops (chain-then d chain (opDrafts o) (z .joins x)) e h
 
-  module _ {j₁ q₁ : ℕ} {r : Part} {l₂ u₂ : List ℕ} (e : r ≡ Passed j₁ q₁) (h : Parses ks us part d j q l₁ u₁ r l₂ u₂) where
+  module _ {j₁ q₁ : ℕ} {r : Part} {l₂ u₂ : List ℕ} (e : r ≡ passed j₁ q₁) (h : Parses ks us part d j q l₁ u₁ r l₂ u₂) where
     -- there is room for the operator's draft
     pub op-room : (q₁ + length (opDrafts o) ≤ length l₂) × (q₁ + length (opDrafts o) ≤ length u₂)
     op-room =
@@ -297,7 +296,7 @@ module _ {ks us : List ℕ} {m part : Mode} {chain : Tree → Mode} {d i p : ℕ
 
       module _ {look : Symbol → Op} (c : Chain look part chain) {k o₁ : ℕ} (ek : k ≡ getD ks j₁ 0) (eo : o₁ ≡ kindOp (look (mark k))) where
         -- no operator: the whole ends
-        pub part-last : o₁ ≡ 0 → Parses ks us m d i p l u (Passed j₁ q₂) l₃ u₃
+        pub part-last : o₁ ≡ 0 → Parses ks us m d i p l u (passed j₁ q₂) l₃ u₃
         part-last n = op-whole λ x. chain-end c op-ready ek eo n x
 
         module _ (n : o₁ ≡ 0 → ⊥) where

@@ -11,7 +11,6 @@ use Rattle.limits.specs.Limits.{levels}
 use Rattle.tokens.specs.Symbol.{Symbol}
 use Rattle.tokens.specs.Held.{heldRow}
 use Rattle.grammar.specs.declared.Part.{Part}
-use Rattle.grammar.specs.declared.Part.the-variants.{Passed, Stopped}
 use Rattle.grammar.specs.declared.Value.{Value}
 use Rattle.grammar.specs.declared.Value.the-variants.{Found, Missing}
 use Rattle.grammar.specs.declared.Parsed.{Parsed}
@@ -81,10 +80,17 @@ pub record Within (ks us : List ℕ) (i : ℕ) : Type 0 where
   pub even : length us ≡ length ks
   pub within : i ≤ length ks
 
+-- a part that has passed, with the places of the next token and of the next draft; and one that stops with the code c at the token's place i
+abbrev pub passed : ℕ → ℕ → Part
+passed i q = record { code = 0; next = i; place = q }
+
+abbrev pub stopped : ℕ → ℕ → Part
+stopped c i = record { code = c; next = i; place = 0 }
+
 -- how reading ends, by places among n tokens, with the place q of the next draft
 abbrev pub partOf : {A : Type 0} → ℕ → ℕ → End A → Part
-partOf n q (got e t) = Passed (n - length t) q
-partOf n q (bad c t) = Stopped c (n - length t)
+partOf n q (got e t) = passed (n - length t) q
+partOf n q (bad c t) = stopped c (n - length t)
 
 abbrev pub partWrote : {A : Type 0} → ℕ → Res A → ℕ → List ℕ → List ℕ → Outcome Part
 partWrote n x p l u = wrote (partOf n (p + length (x .out)) (x .end)) (x .out) p l u

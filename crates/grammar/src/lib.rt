@@ -20,10 +20,12 @@ pub enum Parsed {
     NoRoom,
 }
 
-// How reading a part ends: with the places of the next token and of the next draft, or with a fault.
-pub enum Part {
-    Passed { next: usize, place: usize },
-    Stopped { code: u8, at: usize },
+// How reading a part ends: code 0 and the places of the next token and of the next draft; or a fault's code, its token's place, and 0.
+// The fields are of one width, so that no bytes lie between them.
+pub struct Part {
+    pub code: usize,
+    pub next: usize,
+    pub place: usize,
 }
 
 // What a token begins as a factor: one draft; parentheses; a function of so many expressions with its draft behind them; nothing.
@@ -162,13 +164,19 @@ fn expression(
     let mut w = place;
     loop {
         let r = term(kinds, args, i, allowed, &mut *drafts, &mut *values, w);
-        let Part::Passed { next, place: p } = r else {
+        if r.code != 0 {
             return r;
-        };
+        }
+        let next = r.next;
+        let p = r.place;
         w = put_op(&mut *drafts, &mut *values, p, op);
         op = add_op(peek(kinds, next));
         if op == 0 {
-            return Part::Passed { next, place: w };
+            return Part {
+                code: 0,
+                next,
+                place: w,
+            };
         }
         i = next + 1;
     }
@@ -193,13 +201,19 @@ fn term(
     let mut w = place;
     loop {
         let r = factor(kinds, args, i, allowed, &mut *drafts, &mut *values, w);
-        let Part::Passed { next, place: p } = r else {
+        if r.code != 0 {
             return r;
-        };
+        }
+        let next = r.next;
+        let p = r.place;
         w = put_op(&mut *drafts, &mut *values, p, op);
         op = mul_op(peek(kinds, next));
         if op == 0 {
-            return Part::Passed { next, place: w };
+            return Part {
+                code: 0,
+                next,
+                place: w,
+            };
         }
         i = next + 1;
     }
@@ -223,7 +237,8 @@ fn factor(
     match face {
         Face::One { kind } => {
             emit(drafts, values, place, kind, leaf_arg(kind, args[at]));
-            Part::Passed {
+            Part {
+                code: 0,
                 next: at + 1,
                 place: place + 1,
             }
@@ -243,13 +258,18 @@ fn factor(
                     place,
                 )
             } else {
-                Part::Stopped {
+                Part {
                     code: 18,
-                    at: at + 1,
+                    next: at + 1,
+                    place: 0,
                 }
             }
         }
-        Face::Nothing => Part::Stopped { code: 18, at },
+        Face::Nothing => Part {
+            code: 18,
+            next: at,
+            place: 0,
+        },
     }
 }
 
@@ -270,7 +290,11 @@ fn opened(
         (now (drafts .entry)) (now (values .entry)) r (now (drafts .exit)) (now (values .exit))) ⌝ }
 {
     if allowed == 0 {
-        return Part::Stopped { code: 19, at };
+        return Part {
+            code: 19,
+            next: at,
+            place: 0,
+        };
     }
     items(
         kinds,
@@ -306,21 +330,29 @@ fn items(
     let mut w = place;
     loop {
         let r = expression(kinds, args, i, allowed, &mut *drafts, &mut *values, w);
-        let Part::Passed { next, place: p } = r else {
+        if r.code != 0 {
             return r;
-        };
+        }
+        let next = r.next;
+        let p = r.place;
         if peek(kinds, next) != closer_of(left) {
-            return Part::Stopped { code: 18, at: next };
+            return Part {
+                code: 18,
+                next,
+                place: 0,
+            };
         }
         if left <= 1 {
             if kind == 0 {
-                return Part::Passed {
+                return Part {
+                    code: 0,
                     next: next + 1,
                     place: p,
                 };
             }
             emit(drafts, values, p, kind, 0);
-            return Part::Passed {
+            return Part {
+                code: 0,
                 next: next + 1,
                 place: p + 1,
             };
@@ -385,22 +417,32 @@ fn constants(
         (now (drafts .entry)) (now (values .entry)) r (now (drafts .exit)) (now (values .exit)) ⌝ }
 {
     if peek(kinds, at) != 2 {
-        return Part::Stopped { code: 18, at };
+        return Part {
+            code: 18,
+            next: at,
+            place: 0,
+        };
     }
     if peek(kinds, at + 1) != b'=' {
-        return Part::Stopped {
+        return Part {
             code: 18,
-            at: at + 1,
+            next: at + 1,
+            place: 0,
         };
     }
     let value = signed_number(kinds, args, at + 2);
     match value {
-        Value::Missing { at: m } => Part::Stopped { code: 18, at: m },
+        Value::Missing { at: m } => Part {
+            code: 18,
+            next: m,
+            place: 0,
+        },
         Value::Found { kind, arg, next } => {
             emit(drafts, values, place, 1, args[at]);
             emit(drafts, values, place + 1, kind, arg);
             if peek(kinds, next) != b',' {
-                return Part::Passed {
+                return Part {
+                    code: 0,
                     next,
                     place: place + 2,
                 };
@@ -426,11 +468,17 @@ fn assignment(
         (now (drafts .entry)) (now (values .entry)) r (now (drafts .exit)) (now (values .exit)) ⌝ }
 {
     let r = expression(kinds, args, at, limits::LEVELS, drafts, values, place);
-    let Part::Passed { next, place: p } = r else {
+    if r.code != 0 {
         return r;
-    };
+    }
+    let next = r.next;
+    let p = r.place;
     emit(drafts, values, p, 13, key);
-    Part::Passed { next, place: p + 1 }
+    Part {
+        code: 0,
+        next,
+        place: p + 1,
+    }
 }
 
 // Behind the initial of a state: the expression of its rate, a closing parenthesis, and the draft that sets it.
@@ -449,14 +497,21 @@ fn rate(
         (now (drafts .entry)) (now (values .entry)) r (now (drafts .exit)) (now (values .exit))) ⌝ }
 {
     let e = expression(kinds, args, at, limits::LEVELS, drafts, values, place);
-    let Part::Passed { next, place: p } = e else {
+    if e.code != 0 {
         return e;
-    };
+    }
+    let next = e.next;
+    let p = e.place;
     if peek(kinds, next) != b')' {
-        return Part::Stopped { code: 18, at: next };
+        return Part {
+            code: 18,
+            next,
+            place: 0,
+        };
     }
     emit(drafts, values, p, 14, key);
-    Part::Passed {
+    Part {
+        code: 0,
         next: next + 1,
         place: p + 1,
     }
@@ -478,16 +533,28 @@ fn state(
         (now (drafts .entry)) (now (values .entry)) r (now (drafts .exit)) (now (values .exit)) ⌝ }
 {
     if peek(kinds, at) != b'(' {
-        return Part::Stopped { code: 18, at };
+        return Part {
+            code: 18,
+            next: at,
+            place: 0,
+        };
     }
     let value = initial(kinds, args, at + 1);
     match value {
-        Value::Missing { at: m } => Part::Stopped { code: 18, at: m },
+        Value::Missing { at: m } => Part {
+            code: 18,
+            next: m,
+            place: 0,
+        },
         Value::Found { kind, arg, next } => {
             emit(drafts, values, place, 2, key);
             emit(drafts, values, place + 1, kind, arg);
             if peek(kinds, next) != b',' {
-                return Part::Stopped { code: 18, at: next };
+                return Part {
+                    code: 18,
+                    next,
+                    place: 0,
+                };
             }
             rate(kinds, args, next + 1, key, drafts, values, place + 2)
         }
@@ -510,7 +577,11 @@ fn any_statement(
     let k = peek(kinds, 0);
     if k == 2 {
         if peek(kinds, 1) != b'=' {
-            return Part::Stopped { code: 18, at: 1 };
+            return Part {
+                code: 18,
+                next: 1,
+                place: 0,
+            };
         }
         if peek(kinds, 2) == 6 {
             return state(kinds, args, 3, args[0], drafts, values, place);
@@ -518,10 +589,18 @@ fn any_statement(
         return assignment(kinds, args, 2, args[0], drafts, values, place);
     }
     if k < 3 {
-        return Part::Stopped { code: 18, at: 0 };
+        return Part {
+            code: 18,
+            next: 0,
+            place: 0,
+        };
     }
     if 5 < k {
-        return Part::Stopped { code: 18, at: 0 };
+        return Part {
+            code: 18,
+            next: 0,
+            place: 0,
+        };
     }
     constants(kinds, args, 1, drafts, values, place)
 }
@@ -558,13 +637,17 @@ pub fn parse_row(
         return Parsed::NoRoom;
     }
     let r = any_statement(kinds, args, out_kinds, out_args, place);
-    match r {
-        Part::Stopped { code, at } => Parsed::Fault { code, at },
-        Part::Passed { next, place: p } => {
-            if next == n {
-                return Parsed::Done { next: p };
-            }
-            Parsed::Fault { code: 18, at: next }
-        }
+    if r.code != 0 {
+        return Parsed::Fault {
+            code: r.code as u8,
+            at: r.next,
+        };
+    }
+    if r.next == n {
+        return Parsed::Done { next: r.place };
+    }
+    Parsed::Fault {
+        code: 18,
+        at: r.next,
     }
 }

@@ -6,6 +6,7 @@ use borrow.Author.Needs.{needs}
 use borrow.Fn.Kinds.{In, Out}
 use borrow.Fn.PlainCycle.{Measures, is, falls, and}
 use lib.ListN.{length}
+use Rattle.grammar.proofs.Meets.{is-passed}
 use Rattle.grammar.proofs.Ways.{terms-chain, factors-chain, GoingTerms, GoingFactors, term-first, expr-first, sign-within}
 use Rattle.grammar.proofs.Ways.{part-enter, part-stopped, op-room, part-last, part-inside, part-less, part-again}
 use Rattle.grammar.proofs.Openings.{one-inside, one-room, factor-one, group-enter, factor-group}
@@ -131,37 +132,37 @@ expression-returns : In-expression expression-lts.Need-returns
 expression-returns t c =
     let at-term = c .before .before .before .before .before .before in
     let at-loop = at-term .before .before .before in
-    part-stopped (at-loop .loop .inv) (c .enum-told .given .1) (at-term .term .ensures)
+    part-stopped (at-loop .loop .inv) (c .if1 .taken) (at-term .term .ensures)
 
 expression-put-op-requires : In-expression expression-lts.Need-put-op-requires
 expression-put-op-requires t c κs =
-    let at-r = c .before .before .before in
-    let at-term = at-r .before .before .before .before .before .before in
+    let at-if1 = c .before .before in
+    let at-term = at-if1 .before .before .before .before .before .before in
     let at-loop = at-term .before .before .before in
-    op-room (at-loop .loop .inv) (at-r .r .given .1) (at-term .term .ensures)
+    op-room (at-loop .loop .inv) (is-passed (at-if1 .if1 .left)) (at-term .term .ensures)
 
 expression-returns-2 : In-expression expression-lts.Need-returns-2
 expression-returns-2 t c =
     let at-op = c .before in
     let at-peek = at-op .before in
     let at-put-op = at-peek .before .before .before .before .before in
-    let at-r = at-put-op .before .before .before .before in
-    let at-term = at-r .before .before .before .before .before .before in
+    let at-if1 = at-put-op .before .before .before in
+    let at-term = at-if1 .before .before .before .before .before .before in
     let at-loop = at-term .before .before .before in
-    part-last (at-loop .loop .inv) (at-r .r .given .1) (at-term .term .ensures) (at-put-op .put-op .ensures) terms-chain (at-peek .peek2 .ensures)
-    (at-op .add-op .ensures) (c .if1 .taken)
+    part-last (at-loop .loop .inv) (is-passed (at-if1 .if1 .left)) (at-term .term .ensures) (at-put-op .put-op .ensures) terms-chain
+    (at-peek .peek2 .ensures) (at-op .add-op .ensures) (c .if2 .taken)
 
 expression-add-i-2 : In-expression expression-lts.Need-add-i-2
 expression-add-i-2 t c =
     let at-op = c .before in
     let at-peek = at-op .before in
     let at-put-op = at-peek .before .before .before .before .before in
-    let at-r = at-put-op .before .before .before .before in
-    let at-term = at-r .before .before .before .before .before .before in
+    let at-if1 = at-put-op .before .before .before in
+    let at-term = at-if1 .before .before .before .before .before .before in
     let at-loop = at-term .before .before .before in
     let start = at-loop .before .before .before .before .before .before .before .before in
-    let h = part-inside (at-loop .loop .inv) (at-r .r .given .1) (at-term .term .ensures) (at-put-op .put-op .ensures) terms-chain (at-peek .peek2 .ensures)
-    (at-op .add-op .ensures) (c .if1 .left) in
+    let h = part-inside (at-loop .loop .inv) (is-passed (at-if1 .if1 .left)) (at-term .term .ensures) (at-put-op .put-op .ensures) terms-chain
+    (at-peek .peek2 .ensures) (at-op .add-op .ensures) (c .if2 .left) in
     omega (arith, start .good)
 
 expression-loop-less : In-expression expression-lts.Need-loop-less
@@ -169,22 +170,22 @@ expression-loop-less t c =
     let at-op = c .before in
     let at-peek = at-op .before in
     let at-put-op = at-peek .before .before .before .before .before in
-    let at-r = at-put-op .before .before .before .before in
-    let at-term = at-r .before .before .before .before .before .before in
+    let at-if1 = at-put-op .before .before .before in
+    let at-term = at-if1 .before .before .before .before .before .before in
     let at-loop = at-term .before .before .before in
-    part-less (at-loop .loop .inv) (at-r .r .given .1) (at-term .term .ensures) (at-put-op .put-op .ensures) terms-chain (at-peek .peek2 .ensures)
-    (at-op .add-op .ensures) (c .if1 .left)
+    part-less (at-loop .loop .inv) (is-passed (at-if1 .if1 .left)) (at-term .term .ensures) (at-put-op .put-op .ensures) terms-chain
+    (at-peek .peek2 .ensures) (at-op .add-op .ensures) (c .if2 .left)
 
 expression-loop-again : In-expression expression-lts.Need-loop-again
 expression-loop-again t c =
     let at-op = c .before in
     let at-peek = at-op .before in
     let at-put-op = at-peek .before .before .before .before .before in
-    let at-r = at-put-op .before .before .before .before in
-    let at-term = at-r .before .before .before .before .before .before in
+    let at-if1 = at-put-op .before .before .before in
+    let at-term = at-if1 .before .before .before .before .before .before in
     let at-loop = at-term .before .before .before in
-    part-again (at-loop .loop .inv) (at-r .r .given .1) (at-term .term .ensures) (at-put-op .put-op .ensures) terms-chain (at-peek .peek2 .ensures)
-    (at-op .add-op .ensures) (c .if1 .left)
+    part-again (at-loop .loop .inv) (is-passed (at-if1 .if1 .left)) (at-term .term .ensures) (at-put-op .put-op .ensures) terms-chain
+    (at-peek .peek2 .ensures) (at-op .add-op .ensures) (c .if2 .left)
 
 -- ---- factor
 
@@ -391,127 +392,127 @@ items-returns : In-items items-lts.Need-returns
 items-returns t c =
     let at-expression = c .before .before .before .before .before .before in
     let at-loop = at-expression .before .before .before in
-    item-stopped (at-loop .loop .inv) (c .enum-told .given .1) (at-expression .expression .ensures)
+    item-stopped (at-loop .loop .inv) (c .if1 .taken) (at-expression .expression .ensures)
 
 items-returns-2 : In-items items-lts.Need-returns-2
 items-returns-2 t c =
     let at-closer-of = c .before in
     let at-peek = at-closer-of .before in
-    let at-r = at-peek .before .before in
-    let at-expression = at-r .before .before .before .before .before .before in
+    let at-if1 = at-peek .before in
+    let at-expression = at-if1 .before .before .before .before .before .before in
     let at-loop = at-expression .before .before .before in
-    item-shut (at-loop .loop .inv) (at-r .r .given .1) (at-expression .expression .ensures) (at-peek .peek .ensures)
-    (at-closer-of .closer-of .ensures) (c .if1 .taken)
+    item-shut (at-loop .loop .inv) (is-passed (at-if1 .if1 .left)) (at-expression .expression .ensures) (at-peek .peek .ensures)
+    (at-closer-of .closer-of .ensures) (c .if2 .taken)
 
 items-add-t24 : In-items items-lts.Need-add-t24
 items-add-t24 t c =
-    let at-if1 = c .before .before in
-    let at-closer-of = at-if1 .before in
+    let at-if2 = c .before .before in
+    let at-closer-of = at-if2 .before in
     let at-peek = at-closer-of .before in
-    let at-r = at-peek .before .before in
-    let at-expression = at-r .before .before .before .before .before .before in
+    let at-if1 = at-peek .before in
+    let at-expression = at-if1 .before .before .before .before .before .before in
     let at-loop = at-expression .before .before .before in
     let start = at-loop .before .before .before .before .before in
-    let h = item-inside (at-loop .loop .inv) (at-r .r .given .1) (at-expression .expression .ensures) (at-peek .peek .ensures)
-    (at-closer-of .closer-of .ensures) (at-if1 .if1 .left) in
+    let h = item-inside (at-loop .loop .inv) (is-passed (at-if1 .if1 .left)) (at-expression .expression .ensures) (at-peek .peek .ensures)
+    (at-closer-of .closer-of .ensures) (at-if2 .if2 .left) in
     omega (arith, start .good)
 
 items-returns-3 : In-items items-lts.Need-returns-3
 items-returns-3 t c =
-    let at-if1 = c .before .before in
-    let at-closer-of = at-if1 .before in
+    let at-if2 = c .before .before in
+    let at-closer-of = at-if2 .before in
     let at-peek = at-closer-of .before in
-    let at-r = at-peek .before .before in
-    let at-expression = at-r .before .before .before .before .before .before in
+    let at-if1 = at-peek .before in
+    let at-expression = at-if1 .before .before .before .before .before .before in
     let at-loop = at-expression .before .before .before in
-    item-bare (at-loop .loop .inv) (at-r .r .given .1) (at-expression .expression .ensures) (at-peek .peek .ensures)
-    (at-closer-of .closer-of .ensures) (at-if1 .if1 .left) (c .before .if2 .taken) (c .if3 .taken)
+    item-bare (at-loop .loop .inv) (is-passed (at-if1 .if1 .left)) (at-expression .expression .ensures) (at-peek .peek .ensures)
+    (at-closer-of .closer-of .ensures) (at-if2 .if2 .left) (c .before .if3 .taken) (c .if4 .taken)
 
 items-emit-requires : In-items items-lts.Need-emit-requires
 items-emit-requires t c κs =
-    let at-if1 = c .before .before .before .before in
-    let at-closer-of = at-if1 .before in
+    let at-if2 = c .before .before .before .before in
+    let at-closer-of = at-if2 .before in
     let at-peek = at-closer-of .before in
-    let at-r = at-peek .before .before in
-    let at-expression = at-r .before .before .before .before .before .before in
+    let at-if1 = at-peek .before in
+    let at-expression = at-if1 .before .before .before .before .before .before in
     let at-loop = at-expression .before .before .before in
-    item-room (at-loop .loop .inv) (at-r .r .given .1) (at-expression .expression .ensures) (at-peek .peek .ensures)
-    (at-closer-of .closer-of .ensures) (at-if1 .if1 .left)
+    item-room (at-loop .loop .inv) (is-passed (at-if1 .if1 .left)) (at-expression .expression .ensures) (at-peek .peek .ensures)
+    (at-closer-of .closer-of .ensures) (at-if2 .if2 .left)
 
 items-add-t30 : In-items items-lts.Need-add-t30
 items-add-t30 t c =
-    let at-if1 = c .before .before .before .before .before .before .before .before .before in
-    let at-closer-of = at-if1 .before in
+    let at-if2 = c .before .before .before .before .before .before .before .before .before in
+    let at-closer-of = at-if2 .before in
     let at-peek = at-closer-of .before in
-    let at-r = at-peek .before .before in
-    let at-expression = at-r .before .before .before .before .before .before in
+    let at-if1 = at-peek .before in
+    let at-expression = at-if1 .before .before .before .before .before .before in
     let at-loop = at-expression .before .before .before in
     let start = at-loop .before .before .before .before .before in
-    let h = item-inside (at-loop .loop .inv) (at-r .r .given .1) (at-expression .expression .ensures) (at-peek .peek .ensures)
-    (at-closer-of .closer-of .ensures) (at-if1 .if1 .left) in
+    let h = item-inside (at-loop .loop .inv) (is-passed (at-if1 .if1 .left)) (at-expression .expression .ensures) (at-peek .peek .ensures)
+    (at-closer-of .closer-of .ensures) (at-if2 .if2 .left) in
     omega (arith, start .good)
 
 items-add-t31 : In-items items-lts.Need-add-t31
 items-add-t31 t c =
-    let at-if1 = c .before .before .before .before .before .before .before .before .before in
-    let at-closer-of = at-if1 .before in
+    let at-if2 = c .before .before .before .before .before .before .before .before .before in
+    let at-closer-of = at-if2 .before in
     let at-peek = at-closer-of .before in
-    let at-r = at-peek .before .before in
-    let at-expression = at-r .before .before .before .before .before .before in
+    let at-if1 = at-peek .before in
+    let at-expression = at-if1 .before .before .before .before .before .before in
     let at-loop = at-expression .before .before .before in
     let start = at-loop .before .before .before .before .before in
-    let h = item-under (at-loop .loop .inv) (at-r .r .given .1) (at-expression .expression .ensures) (at-peek .peek .ensures)
-    (at-closer-of .closer-of .ensures) (at-if1 .if1 .left) in
+    let h = item-under (at-loop .loop .inv) (is-passed (at-if1 .if1 .left)) (at-expression .expression .ensures) (at-peek .peek .ensures)
+    (at-closer-of .closer-of .ensures) (at-if2 .if2 .left) in
     omega (arith, start .good)
 
 items-returns-4 : In-items items-lts.Need-returns-4
 items-returns-4 t c =
     let at-emit = c .before .before .before .before in
-    let at-if3 = at-emit .before .before .before in
+    let at-if4 = at-emit .before .before .before in
+    let at-if3 = at-if4 .before in
     let at-if2 = at-if3 .before in
-    let at-if1 = at-if2 .before in
-    let at-closer-of = at-if1 .before in
+    let at-closer-of = at-if2 .before in
     let at-peek = at-closer-of .before in
-    let at-r = at-peek .before .before in
-    let at-expression = at-r .before .before .before .before .before .before in
+    let at-if1 = at-peek .before in
+    let at-expression = at-if1 .before .before .before .before .before .before in
     let at-loop = at-expression .before .before .before in
-    item-last (at-loop .loop .inv) (at-r .r .given .1) (at-expression .expression .ensures) (at-peek .peek .ensures)
-    (at-closer-of .closer-of .ensures) (at-if1 .if1 .left) (at-if2 .if2 .taken) (at-if3 .if3 .left) (at-emit .emit .ensures .0) (at-emit .emit .ensures .1)
+    item-last (at-loop .loop .inv) (is-passed (at-if1 .if1 .left)) (at-expression .expression .ensures) (at-peek .peek .ensures)
+    (at-closer-of .closer-of .ensures) (at-if2 .if2 .left) (at-if3 .if3 .taken) (at-if4 .if4 .left) (at-emit .emit .ensures .0) (at-emit .emit .ensures .1)
 
 items-add-i : In-items items-lts.Need-add-i
 items-add-i t c =
-    let at-if1 = c .before in
-    let at-closer-of = at-if1 .before in
+    let at-if2 = c .before in
+    let at-closer-of = at-if2 .before in
     let at-peek = at-closer-of .before in
-    let at-r = at-peek .before .before in
-    let at-expression = at-r .before .before .before .before .before .before in
+    let at-if1 = at-peek .before in
+    let at-expression = at-if1 .before .before .before .before .before .before in
     let at-loop = at-expression .before .before .before in
     let start = at-loop .before .before .before .before .before in
-    let h = item-inside (at-loop .loop .inv) (at-r .r .given .1) (at-expression .expression .ensures) (at-peek .peek .ensures)
-    (at-closer-of .closer-of .ensures) (at-if1 .if1 .left) in
+    let h = item-inside (at-loop .loop .inv) (is-passed (at-if1 .if1 .left)) (at-expression .expression .ensures) (at-peek .peek .ensures)
+    (at-closer-of .closer-of .ensures) (at-if2 .if2 .left) in
     omega (arith, start .good)
 
 items-loop-less : In-items items-lts.Need-loop-less
 items-loop-less t c =
-    let at-if1 = c .before in
-    let at-closer-of = at-if1 .before in
+    let at-if2 = c .before in
+    let at-closer-of = at-if2 .before in
     let at-peek = at-closer-of .before in
-    let at-r = at-peek .before .before in
-    let at-expression = at-r .before .before .before .before .before .before in
+    let at-if1 = at-peek .before in
+    let at-expression = at-if1 .before .before .before .before .before .before in
     let at-loop = at-expression .before .before .before in
-    item-less (at-loop .loop .inv) (at-r .r .given .1) (at-expression .expression .ensures) (at-peek .peek .ensures)
-    (at-closer-of .closer-of .ensures) (at-if1 .if1 .left)
+    item-less (at-loop .loop .inv) (is-passed (at-if1 .if1 .left)) (at-expression .expression .ensures) (at-peek .peek .ensures)
+    (at-closer-of .closer-of .ensures) (at-if2 .if2 .left)
 
 items-loop-again : In-items items-lts.Need-loop-again
 items-loop-again t c =
-    let at-if1 = c .before in
-    let at-closer-of = at-if1 .before in
+    let at-if2 = c .before in
+    let at-closer-of = at-if2 .before in
     let at-peek = at-closer-of .before in
-    let at-r = at-peek .before .before in
-    let at-expression = at-r .before .before .before .before .before .before in
+    let at-if1 = at-peek .before in
+    let at-expression = at-if1 .before .before .before .before .before .before in
     let at-loop = at-expression .before .before .before in
-    item-again (at-loop .loop .inv) (at-r .r .given .1) (at-expression .expression .ensures) (at-peek .peek .ensures)
-    (at-closer-of .closer-of .ensures) (at-if1 .if1 .left) (c .if2 .left)
+    item-again (at-loop .loop .inv) (is-passed (at-if1 .if1 .left)) (at-expression .expression .ensures) (at-peek .peek .ensures)
+    (at-closer-of .closer-of .ensures) (at-if2 .if2 .left) (c .if3 .left)
 
 -- ---- opened
 
@@ -590,37 +591,37 @@ term-returns : In-term term-lts.Need-returns
 term-returns t c =
     let at-factor = c .before .before .before .before .before .before in
     let at-loop = at-factor .before .before .before in
-    part-stopped (at-loop .loop .inv) (c .enum-told .given .1) (at-factor .factor .ensures)
+    part-stopped (at-loop .loop .inv) (c .if1 .taken) (at-factor .factor .ensures)
 
 term-put-op-requires : In-term term-lts.Need-put-op-requires
 term-put-op-requires t c κs =
-    let at-r = c .before .before .before in
-    let at-factor = at-r .before .before .before .before .before .before in
+    let at-if1 = c .before .before in
+    let at-factor = at-if1 .before .before .before .before .before .before in
     let at-loop = at-factor .before .before .before in
-    op-room (at-loop .loop .inv) (at-r .r .given .1) (at-factor .factor .ensures)
+    op-room (at-loop .loop .inv) (is-passed (at-if1 .if1 .left)) (at-factor .factor .ensures)
 
 term-returns-2 : In-term term-lts.Need-returns-2
 term-returns-2 t c =
     let at-op = c .before in
     let at-peek = at-op .before in
     let at-put-op = at-peek .before .before .before .before .before in
-    let at-r = at-put-op .before .before .before .before in
-    let at-factor = at-r .before .before .before .before .before .before in
+    let at-if1 = at-put-op .before .before .before in
+    let at-factor = at-if1 .before .before .before .before .before .before in
     let at-loop = at-factor .before .before .before in
-    part-last (at-loop .loop .inv) (at-r .r .given .1) (at-factor .factor .ensures) (at-put-op .put-op .ensures) factors-chain (at-peek .peek .ensures)
-    (at-op .mul-op .ensures) (c .if1 .taken)
+    part-last (at-loop .loop .inv) (is-passed (at-if1 .if1 .left)) (at-factor .factor .ensures) (at-put-op .put-op .ensures) factors-chain
+    (at-peek .peek .ensures) (at-op .mul-op .ensures) (c .if2 .taken)
 
 term-add-i : In-term term-lts.Need-add-i
 term-add-i t c =
     let at-op = c .before in
     let at-peek = at-op .before in
     let at-put-op = at-peek .before .before .before .before .before in
-    let at-r = at-put-op .before .before .before .before in
-    let at-factor = at-r .before .before .before .before .before .before in
+    let at-if1 = at-put-op .before .before .before in
+    let at-factor = at-if1 .before .before .before .before .before .before in
     let at-loop = at-factor .before .before .before in
     let start = at-loop .before .before .before .before .before in
-    let h = part-inside (at-loop .loop .inv) (at-r .r .given .1) (at-factor .factor .ensures) (at-put-op .put-op .ensures) factors-chain
-    (at-peek .peek .ensures) (at-op .mul-op .ensures) (c .if1 .left) in
+    let h = part-inside (at-loop .loop .inv) (is-passed (at-if1 .if1 .left)) (at-factor .factor .ensures) (at-put-op .put-op .ensures) factors-chain
+    (at-peek .peek .ensures) (at-op .mul-op .ensures) (c .if2 .left) in
     omega (arith, start .good)
 
 term-loop-less : In-term term-lts.Need-loop-less
@@ -628,29 +629,28 @@ term-loop-less t c =
     let at-op = c .before in
     let at-peek = at-op .before in
     let at-put-op = at-peek .before .before .before .before .before in
-    let at-r = at-put-op .before .before .before .before in
-    let at-factor = at-r .before .before .before .before .before .before in
+    let at-if1 = at-put-op .before .before .before in
+    let at-factor = at-if1 .before .before .before .before .before .before in
     let at-loop = at-factor .before .before .before in
-    part-less (at-loop .loop .inv) (at-r .r .given .1) (at-factor .factor .ensures) (at-put-op .put-op .ensures) factors-chain
-    (at-peek .peek .ensures) (at-op .mul-op .ensures) (c .if1 .left)
+    part-less (at-loop .loop .inv) (is-passed (at-if1 .if1 .left)) (at-factor .factor .ensures) (at-put-op .put-op .ensures) factors-chain
+    (at-peek .peek .ensures) (at-op .mul-op .ensures) (c .if2 .left)
 
 term-loop-again : In-term term-lts.Need-loop-again
 term-loop-again t c =
     let at-op = c .before in
     let at-peek = at-op .before in
     let at-put-op = at-peek .before .before .before .before .before in
-    let at-r = at-put-op .before .before .before .before in
-    let at-factor = at-r .before .before .before .before .before .before in
+    let at-if1 = at-put-op .before .before .before in
+    let at-factor = at-if1 .before .before .before .before .before .before in
     let at-loop = at-factor .before .before .before in
-    part-again (at-loop .loop .inv) (at-r .r .given .1) (at-factor .factor .ensures) (at-put-op .put-op .ensures) factors-chain
-    (at-peek .peek .ensures) (at-op .mul-op .ensures) (c .if1 .left)
+    part-again (at-loop .loop .inv) (is-passed (at-if1 .if1 .left)) (at-factor .factor .ensures) (at-put-op .put-op .ensures) factors-chain
+    (at-peek .peek .ensures) (at-op .mul-op .ensures) (c .if2 .left)
 
 pub +expression+factor+items+opened+term-spec : {M : Type 1} → statement M
 +expression+factor+items+opened+term-spec =
     close μ-expression μ-factor μ-items μ-opened μ-term
     (λ t. expression-lts.spec (expression-calls t) (expression-at t) expression.Post expression-Inv-loop expression-μ-loop (λ c κs. search needs)
     (λ c κs. search needs) (λ c κs. search needs) (expression-add-i t) (expression-loop-holds t) (expression-term-requires t) (λ c. search needs)
-    (λ c. search needs) (λ c. search needs)
     (λ c. search needs) (expression-returns t) (expression-put-op-requires t) (λ c κs. search needs) (λ c κs. search needs) (λ c. search needs)
     (λ c. search needs) (expression-returns-2 t) (expression-add-i-2 t) (expression-loop-less t) (expression-loop-again t))
     (λ t. factor-lts.spec (factor-calls t) (factor-at t) factor.Post (λ c κs. search needs) (λ c κs. search needs) (λ c. search needs)
@@ -659,12 +659,12 @@ pub +expression+factor+items+opened+term-spec : {M : Type 1} → statement M
     (factor-opened-requires-2 t) (factor-add-t37 t) (λ c. search needs) (λ c. search needs) (λ c. search needs) (factor-returns t) (λ c. search needs)
     (λ c. search needs) (factor-returns-2 t) (λ c. search needs) (λ c. search needs) (factor-returns-3 t) (factor-returns-4 t) (factor-returns-5 t))
     (λ t. items-lts.spec (items-calls t) (items-at t) items.Post items-Inv-loop items-μ-loop (items-loop-holds t) (items-expression-requires t)
-    (λ c. search needs) (λ c. search needs) (λ c. search needs) (λ c. search needs) (items-returns t) (λ c κs. search needs) (λ c κs. search needs)
-    (λ c. search needs) (λ c. search needs) (items-returns-2 t) (items-add-t24 t) (λ c. search needs) (λ c. search needs) (items-returns-3 t)
+    (λ c. search needs) (λ c. search needs) (items-returns t) (λ c κs. search needs) (λ c κs. search needs) (λ c. search needs)
+    (λ c. search needs) (items-returns-2 t) (items-add-t24 t) (λ c. search needs) (λ c. search needs) (items-returns-3 t)
     (items-emit-requires t) (items-add-t30 t) (items-add-t31 t) (λ c. search needs) (λ c. search needs) (items-returns-4 t) (items-add-i t)
     (λ c. search needs) (items-loop-less t) (items-loop-again t))
     (λ t. opened-lts.spec (opened-calls t) (opened-at t) opened.Post (opened-returns t) (opened-add-items t) (λ c. search needs) (opened-items-requires t)
     (λ c. search needs) (λ c. search needs) (opened-returns-2 t))
     (λ t. term-lts.spec (term-calls t) (term-at t) term.Post term-Inv-loop term-μ-loop (term-loop-holds t) (term-factor-requires t) (λ c. search needs)
-    (λ c. search needs) (λ c. search needs) (λ c. search needs) (term-returns t) (term-put-op-requires t) (λ c κs. search needs) (λ c κs. search needs)
-    (λ c. search needs) (λ c. search needs) (term-returns-2 t) (term-add-i t) (term-loop-less t) (term-loop-again t))
+    (λ c. search needs) (term-returns t) (term-put-op-requires t) (λ c κs. search needs) (λ c κs. search needs) (λ c. search needs)
+    (λ c. search needs) (term-returns-2 t) (term-add-i t) (term-loop-less t) (term-loop-again t))
