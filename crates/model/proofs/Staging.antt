@@ -25,7 +25,7 @@ use Rattle.order.specs.declared.Sorted.the-variants.{Placed, Unfit}
 use Rattle.order.proofs.Tables.{fits-iff}
 use Rattle.model.specs.Places.{begins, ends, anyOf, keysIn, placesIn, doubles, resolvedAt, resolved, undefinedAt, unfitAt, namesAt, nameless}
 use Rattle.model.specs.Places.{isEquation, equationRows, assignedSlots, usedIn, startsFrom, loops}
-use Rattle.model.specs.Plan.{Lent, lent, withPlaces, Outcome, outcome, refused, faulted, some, falls, inTurn, roomy, fit}
+use Rattle.model.specs.Plan.{Shaped, Lent, lent, withPlaces, Outcome, outcome, refused, faulted, some, falls, inTurn, roomy, fit}
 use Rattle.model.specs.Plan.{closed, weighed, ordered, named, distinct, sheeted, planned}
 use Rattle.model.specs.Working.{Put, Reported, Collected, Keyed, flawedAt, Resolved, Sound, Holds, Wide, Rises, Slotted, Tabled, repeated}
 use Rattle.model.specs.declared.answer.Plan.{Plan}
@@ -401,11 +401,11 @@ module _ {kinds args keys places places′ : List ℕ} {n : ℕ} (v : Collected 
         (e ∙ ap (distinct lines bounds kinds args used faults) (arrays rows order))
 
 -- ---- the arrays fit, or they do not
-pub fit-sound : (lines bounds kinds used rows order : List ℕ) (args faults places : ℕ)
+pub fit-sound : (lines bounds kinds used rows order : List ℕ) (args faults places : ℕ) → Shaped bounds kinds (length lines)
     → fit lines bounds kinds args (length used) faults places (length rows) (length order) ≡ true
     → Sound lines bounds kinds used × (length kinds ≤ args) × (mostStatements ≤ places) × Wide rows order
 unfolding fit roomy inTurn
-fit-sound lines bounds kinds used rows order args faults places e =
+fit-sound lines bounds kinds used rows order args faults places shaped e =
     let a = and-true (leb (length lines) mostStatements) _ e in
     let b = and-true (eqb (length bounds) (length lines + 1)) _ (a .1) in
     let c = and-true (leb (length kinds) textBytes) _ (b .1) in
@@ -423,7 +423,9 @@ fit-sound lines bounds kinds used rows order args faults places e =
         small = leb-true _ _ (c .0);
         room = leb-true _ _ (f .0);
         rises = record { rise = λ k h. ltb-false (ends bounds k) (begins bounds k) (none k (omega arith) (omega arith)) };
+        first = eqb-true _ _ (i .0);
         whole = eqb-true _ _ (j .0);
+        shaped = shaped;
       },
       leb-true _ _ (d .0),
       leb-true _ _ (p .0),

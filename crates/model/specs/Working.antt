@@ -13,6 +13,7 @@ use Rattle.laws.specs.Counts.{has}
 use Rattle.sheet.specs.Sheet.{Fault, faultList}
 use Rattle.model.specs.Definitions.{placeIn}
 use Rattle.model.specs.Faults.{again, faultIf}
+use Rattle.model.specs.Plan.{Shaped}
 use Rattle.model.specs.Places.{defines, asks, begins, ends, keysIn, placesIn, resolved, homeOf, assignedSlots, usedIn, startsFrom}
 
 -- ---- rows that are written
@@ -33,13 +34,15 @@ pub record Reported (fs : List Fault) (c r : ℕ) (list list′ : List ℕ) : Ty
 pub record Rises (bounds : List ℕ) (n : ℕ) : Type 0 where
   pub rise : (j : ℕ) → j < n → begins bounds j ≤ ends bounds j
 
--- the statements follow each other up to the last draft, and there is room for all that they use
+-- the statements follow each other from draft 0 to the last, there is room for all that they use, and they have the form of statements
 pub record Sound (lines bounds kinds used : List ℕ) : Type 0 where
   pub few : length lines ≤ mostStatements
   pub small : length kinds ≤ textBytes
   pub room : length kinds ≤ length used
   pub rises : Rises bounds (length lines)
+  pub first : begins bounds 0 ≡ 0
   pub whole : begins bounds (length lines) ≡ length kinds
+  pub shaped : Shaped bounds kinds (length lines)
 
 -- an array holds a row of n numbers at its front
 pub record Holds (array : List ℕ) (n : ℕ) (row : List ℕ) : Type 0 where
