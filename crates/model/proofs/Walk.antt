@@ -1,11 +1,12 @@
 -- A sheet that is laid out, walked statement by statement.
-use Prim.Native.Nat.{ℕ, zero, suc, _+_, _-_}
-use mathlib.Core.Path.{_≡_, refl, sym, ap, _∙_}
+use Prim.Native.Nat.{ℕ, zero, suc, _+_, _-_, _<_}
+use mathlib.Core.Path.{_≡_, refl, sym, ap, subst, _∙_}
 use mathlib.Core.Bool.{Bool}
 use mathlib.Core.List.{List, [], _∷_, _++_, map, append-assoc}
+use native.Mathlib.Nat.{add-zero}
 use native.Mathlib.Omega.{arith}
 use lib.ListN.{length, getD, drop, length-append, length-map, List·getD-map}
-use lib.Seq.{getD-at}
+use lib.Seq.{getD-at, getD-append-add}
 use Rattle.laws.specs.Lists.{concat-map}
 use Rattle.laws.specs.Places.{gather, onlyIf}
 use Rattle.laws.proofs.Lists.{concat-append}
@@ -83,6 +84,29 @@ unfolding boundsFrom startsAt
 bounds-starts o [] = refl
 bounds-starts o (s ∷ ss) = ap (_∷_ o) (bounds-starts (o + length (draftsBy s)) ss)
 
+-- ---- a list split at one of its places
+record Parts {A : Type 0} (l : List A) (j : ℕ) : Type 0 where
+  before : List A
+  own : A
+  behind : List A
+  split : l ≡ before ++ own ∷ behind
+  many : length before ≡ j
+
+parts : {A : Type 0} (l : List A) (j : ℕ) → j < length l → Parts l j
+parts [] j h = absurd (omega arith)
+parts (a ∷ l) zero h = record { before = []; own = a; behind = l; split = refl; many = refl }
+parts (a ∷ l) (suc j) h =
+    let r = parts l j (omega arith) in
+    record { before = a ∷ r .before; own = r .own; behind = r .behind; split = ap (_∷_ a) (r .split); many = ap suc (r .many) }
+
+-- what holds of each statement, with a before it and b behind, holds by number
+pub at-each : (ss : List Numbered) (P : ℕ → Type 0) → ((a : List Numbered) (s : Numbered) (b : List Numbered) → ss ≡ a ++ s ∷ b → P (length a))
+    → (j : ℕ) → j < length (sheetLines ss) → P j
+at-each ss P f j h =
+    let k : length (sheetLines ss) ≡ length ss = length-map ss (λ (s : Numbered). s .line) in
+    let c = parts ss j (rw k at h) in
+    subst P (c .many) (f (c .before) (c .own) (c .behind) (c .split))
+
 -- ---- statement s of the sheet, with a before it and b behind
 module _ (ss a : List Numbered) (s : Numbered) (b : List Numbered) (p : ss ≡ a ++ s ∷ b) where
   -- its drafts begin behind all before it
@@ -104,8 +128,14 @@ module _ (ss a : List Numbered) (s : Numbered) (b : List Numbered) (p : ss ≡ a
   unfolding concat-map
   drafts-split = rw p (concat-append draftsBy a (s ∷ b))
 
+  -- the kind of its first draft
+  pub first-kind : getD (sheetKinds ss) (begins (sheetBounds ss) (length a)) 0 ≡ getD (draftsBy s ++ draftsIn b) 0 noDraft .kind
+  first-kind =
+      rw (kind-at (draftsIn ss) (begins (sheetBounds ss) (length a)), begins-at, drafts-split)
+      (ap (λ (d : Draft). d .kind) (rw (add-zero (length (draftsIn a))) at (getD-append-add (draftsIn a) (draftsBy s ++ draftsIn b) 0 noDraft)))
+
   -- so many are its own
-  span : ends (sheetBounds ss) (length a) - begins (sheetBounds ss) (length a) ≡ length (draftsBy s)
+  pub span : ends (sheetBounds ss) (length a) - begins (sheetBounds ss) (length a) ≡ length (draftsBy s)
   span = omega (arith, begins-at, ends-at)
 
   -- THE WALK: gathering over the places of the statement is gathering over its drafts

@@ -1,5 +1,5 @@
 -- The settings of constants and states: their records as they are written.
-use Prim.Native.Nat.{ℕ, zero, suc, _+_, _<_}
+use Prim.Native.Nat.{ℕ, suc, _+_}
 use mathlib.Core.Path.{_≡_, refl, sym, ap, ap₂, _∙_}
 use mathlib.Core.Bool.{true, false, cond}
 use mathlib.Core.Logic.{⊎-elim}
@@ -9,7 +9,7 @@ use native.Mathlib.Omega.{arith}
 use borrow.Author.Tests.{eq-eqb, ne-eqb}
 use lib.Dec.{eqb}
 use lib.ListN.{length, getD, drop, length-map}
-use lib.Seq.{getD-drop, getD-append-add}
+use lib.Seq.{getD-drop}
 use lib.Ieee.{Float, binary64, toBits}
 use Rattle.laws.specs.Lists.{concat-map}
 use Rattle.laws.specs.Counts.{count, _∈_}
@@ -29,7 +29,7 @@ use Rattle.model.specs.Faults.{constantKeys, nameFaults}
 use Rattle.model.specs.Places.{homeOf, begins}
 use Rattle.model.proofs.Drafts.{noDraft, Plain, along-expression, Home, homeOfWhat}
 use Rattle.model.proofs.Walk.{sheetKinds, sheetLines, sheetBounds, sheetKeys, sheetSlots, sheetPlaces, slotOf, kind-at, slot-at, draftsBy, line-at}
-use Rattle.model.proofs.Walk.{along-statement, begins-at, drafts-split}
+use Rattle.model.proofs.Walk.{at-each, along-statement, first-kind}
 use Rattle.model.proofs.Slots.{Once, isConstant, definitionOf, definition-first, definition-later, constant-at}
 use Rattle.model.proofs.Doubled.{definedIn, homeAt}
 use Rattle.model.proofs.Asked.{home-of}
@@ -54,21 +54,6 @@ value-of (d ∷ ds) k x h e =
     later q (constant y) = rw (ne-eqb k (d .key) q)
     later q (assigned t) = refl
     later q (integral i t) = refl
-
--- a list split at one of its places
-record Parts {A : Type 0} (l : List A) (j : ℕ) : Type 0 where
-  before : List A
-  own : A
-  behind : List A
-  split : l ≡ before ++ own ∷ behind
-  many : length before ≡ j
-
-parts : {A : Type 0} (l : List A) (j : ℕ) → j < length l → Parts l j
-parts [] j h = absurd (omega arith)
-parts (a ∷ l) zero h = record { before = []; own = a; behind = l; split = refl; many = refl }
-parts (a ∷ l) (suc j) h =
-    let r = parts l j (omega arith) in
-    record { before = a ∷ r .before; own = r .own; behind = r .behind; split = ap (_∷_ a) (r .split); many = ap suc (r .many) }
 
 -- what is a constant has a value
 constant-what : (w : What) → isConstant w ≡ true → (x : Float) × (w ≡ constant x)
@@ -165,16 +150,7 @@ module _ (ss : List Numbered) where
   initial-settings l (state k (from c) t) v q =
       ap₂ (λ n r. fieldBytes 2 (slotIn ds k) l n ++ r) v (along-expression (settingOf 2 l) (initial-none l) t (draft 14 k) q)
 
-  -- ---- a statement that has a setting begins with one
-
-  -- the kind of its first draft
-  first-kind : (a : List Numbered) (s : Numbered) (b : List Numbered) → ss ≡ a ++ s ∷ b
-      → getD (sheetKinds ss) (begins (sheetBounds ss) (length a)) 0 ≡ getD (draftsBy s ++ draftsIn b) 0 noDraft .kind
-  first-kind a s b p =
-      rw (kind-at (draftsIn ss) (begins (sheetBounds ss) (length a)), begins-at ss a s b p, drafts-split ss a s b p)
-      (ap (λ (d : Draft). d .kind) (rw (add-zero (length (draftsIn a))) at (getD-append-add (draftsIn a) (draftsBy s ++ draftsIn b) 0 noDraft)))
-
-  -- constants
+  -- ---- a statement that has a setting begins with one: constants
   constants-first : (l : ℕ) (x : Says) (q : List Draft) → eqb (getD (draftsOf x ++ q) 0 noDraft .kind) 1 ≡ false → along (settingOf 1 l) (draftsOf x) q ≡ []
   unfolding along concat-map
   constants-first l (constants []) q e = refl
@@ -199,15 +175,9 @@ module _ (ss : List Numbered) where
   led-by : (phase : ℕ) → ((l : ℕ) (x : Says) (q : List Draft) → eqb (getD (draftsOf x ++ q) 0 noDraft .kind) phase ≡ false
       → along (settingOf phase l) (draftsOf x) q ≡ [])
       → Led phase (sheetPlaces ss) (sheetLines ss) (sheetBounds ss) (sheetKinds ss) (sheetSlots ss)
-  led-by phase f j h e =
-      let k : length (sheetLines ss) ≡ length ss = length-map ss (λ (s : Numbered). s .line) in
-      let c = parts ss j (rw k at h) in
-      let a = c .before in
-      let s = c .own in
-      let b = c .behind in
-      let n : length a ≡ j = c .many in
-      let z : eqb (getD (draftsBy s ++ draftsIn b) 0 noDraft .kind) phase ≡ false = rw (← (first-kind a s b (c .split)), n) e in
-      rw (← n) (settings-at phase a s b (c .split) ∙ f (s .line) (s .says) (draftsIn b) z)
+  led-by phase f =
+      at-each ss (λ j. eqb (getD (sheetKinds ss) (begins (sheetBounds ss) j) 0) phase ≡ false → settingsIn phase j ≡ [])
+      (λ a s b p e. settings-at phase a s b p ∙ f (s .line) (s .says) (draftsIn b) (rw (first-kind ss a s b p) at e))
 
   pub led-constants : Led 1 (sheetPlaces ss) (sheetLines ss) (sheetBounds ss) (sheetKinds ss) (sheetSlots ss)
   led-constants = led-by 1 constants-first
