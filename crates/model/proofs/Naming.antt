@@ -1,8 +1,8 @@
 -- Names resolved, and the faults 22 and 23.
-use Prim.Native.Nat.{ℕ, suc, _+_, _-_, _≤_, _<_}
+use Prim.Native.Nat.{ℕ, zero, suc, _+_, _-_, _≤_, _<_}
 use mathlib.Core.Path.{_≡_, refl, sym, ap, ap₂, _∙_}
 use mathlib.Core.Bool.{Bool, true, false, not, _&&_, _||_}
-use mathlib.Core.List.{List, _∷_, _++_, append-assoc}
+use mathlib.Core.List.{List, [], _∷_, _++_, append-assoc}
 use native.Mathlib.Nat.{sub-zero}
 use native.Mathlib.Numerals.{add-one}
 use native.Mathlib.Omega.{arith}
@@ -12,11 +12,12 @@ use lib.Seq.{drop-cons, set-getD, take-suc-set, drop-set-lt, getD-at, length-tak
 use Rattle.laws.specs.Places.{anyIn}
 use Rattle.laws.proofs.Tests.{not-both, cond-ind, or-right}
 use Rattle.laws.proofs.Bools.{or-false}
+use Rattle.laws.proofs.Runs.{held as stands}
 use Rattle.laws.proofs.Gathers.{any-step, any-stop, any-pass, any-done}
 use Rattle.model.specs.Definitions.{placeIn}
 use Rattle.model.specs.Faults.{faultIf, nameFault}
 use Rattle.model.specs.Places.{defines, isNamed, asks, resolvedAt, resolved, homeOf, begins, ends, anyOf, undefinedAt, unfitAt, namesAt}
-use Rattle.model.specs.Working.{flawedBy, flawedAt, Resolved, flawOf}
+use Rattle.model.specs.Working.{flawedBy, flawedAt, Resolved, Resolving, flawOf}
 use Rattle.model.proofs.Reporting.{if-length}
 
 -- ---- tests one after the other
@@ -51,6 +52,25 @@ pub slot-other : (keys : List ℕ) (kind arg : ℕ) → isNamed kind ≡ false �
 slot-other keys kind arg f =
     cond-ind (λ (x : ℕ). arg ≡ x) (isNamed kind) (suc (placeIn arg keys)) arg (λ t. absurd (not-both t f)) (λ _. refl)
 
+-- the resolved argument of a draft
+pub resolved-at : (keys kinds args : List ℕ) (i : ℕ) → i < length kinds → length kinds ≤ length args
+    → getD (resolved keys kinds args) i 0 ≡ resolvedAt keys (getD kinds i 0) (getD args i 0)
+unfolding resolved
+resolved-at keys [] args i h l = absurd (omega arith)
+resolved-at keys (k ∷ kinds) [] i h l = absurd (omega arith)
+resolved-at keys (k ∷ kinds) (a ∷ args) zero h l = refl
+resolved-at keys (k ∷ kinds) (a ∷ args) (suc i) h l = resolved-at keys kinds args i (omega arith) (omega arith)
+
+-- the slot of a store, found before its name is resolved
+pub slot-stored : (keys kinds args : List ℕ) (i : ℕ) {kind r a : ℕ} → length kinds ≤ length args → kind ≡ getD kinds i 0 → kind ≡ 13
+    → a ≡ getD args i 0 → r ≡ placeIn a keys → r + 1 ≡ getD (resolved keys kinds args) i 0
+slot-stored keys kinds args i {kind} {r} {a} l k e p q =
+    let stored : getD kinds i 0 ≡ 13 = sym k ∙ e in
+    let value : getD (resolved keys kinds args) i 0 ≡ suc (placeIn (getD args i 0) keys) =
+    resolved-at keys kinds args i (stands 13 kinds i refl stored) l ∙ ap (λ (j : ℕ). resolvedAt keys j (getD args i 0)) stored in
+    let same : r ≡ placeIn (getD args i 0) keys = q ∙ ap (λ (x : ℕ). placeIn x keys) p in
+    omega (arith, value, same)
+
 -- what is no name is not flawed
 other-clear : (places kinds : List ℕ) (kind slot : ℕ) → isNamed kind ≡ false → flawedBy places kinds kind slot ≡ false
 other-clear places kinds kind slot n =
@@ -60,13 +80,6 @@ other-clear places kinds kind slot n =
     rw (b .0, d .1)
 
 -- ---- the drafts before place i are resolved, and those that are flawed are noted
-pub record Resolving (keys kinds places args₀ : List ℕ) (flawed : Bool) (i : ℕ) (args : List ℕ) : Type 0 where
-  pub within : i ≤ length kinds
-  pub long : length args ≡ length args₀
-  pub same : take i args ++ resolved keys (drop i kinds) (drop i args) ≡ resolved keys kinds args₀
-  pub left : (flawed || anyIn (flawedAt places kinds (resolved keys kinds args₀)) (length kinds - i) i)
-      ≡ anyIn (flawedAt places kinds (resolved keys kinds args₀)) (length kinds) 0
-
 pub resolving-first : (keys kinds places args : List ℕ) → Resolving keys kinds places args false 0 args
 resolving-first keys kinds places args = record { within = omega arith; long = refl; same = refl; left = rw sub-zero refl }
 
@@ -80,7 +93,7 @@ module _ {keys kinds places args₀ args : List ℕ} {flawed : Bool} {i : ℕ} (
     step = rw (drop-cons kinds i 0 h, drop-cons args i 0 here, e)
 
     -- what is stored is the resolved argument
-    slot-here : getD (resolved keys kinds args₀) i 0 ≡ slot
+    pub slot-here : getD (resolved keys kinds args₀) i 0 ≡ slot
     slot-here =
         rw (← (v .same), step)
         (getD-at (take i args) slot (resolved keys (drop (suc i) kinds) (drop (suc i) args)) 0 i (length-take-le i args (omega (arith, here))))

@@ -13,8 +13,8 @@ use Rattle.limits.specs.Limits.{mostStatements}
 use Rattle.laws.specs.Places.{onlyIf}
 use Rattle.laws.proofs.Tests.{eq-or-ne}
 use Rattle.model.specs.Definitions.{placeIn}
-use Rattle.model.specs.Places.{assignedSlot, assignedSlots, usedBy, usedAt, usedIn}
-use Rattle.model.specs.Working.{ownerIn, Owned, usedOwner, usedFrom, Slotted, Usable}
+use Rattle.model.specs.Places.{assignedSlot, assignedSlots, usedBy, usedAt}
+use Rattle.model.specs.Working.{ownerIn, Owned, usedOwner, usedFrom, Slotted}
 
 map-at : (f : ℕ → ℕ) (l : List ℕ) (i : ℕ) → i < length l → getD (map f l) i 0 ≡ f (getD l i 0)
 map-at f [] i h = absurd (omega arith)
@@ -118,17 +118,13 @@ owner-used assigned owners s e = rw e (go (ltb (placeIn s assigned) (length assi
         rw (lt-ltb 0 (placeIn s assigned + 1) (omega arith), p)
     go false = refl
 
--- the owners that are noted serve
-pub usable : {rows bounds kinds slots owners : List ℕ} → Owned (assignedSlots rows bounds kinds slots) owners → Slotted kinds slots
-    → length (usedIn (assignedSlots rows bounds kinds slots) bounds kinds slots rows) < 65536 → Usable rows bounds kinds slots owners
-usable o s f = record { owned = o; small = λ i e. omega (arith, o .long, s .slot i e); few = f }
-
-pub used-same : {rows bounds kinds slots owners : List ℕ} → Usable rows bounds kinds slots owners → (i : ℕ)
-    → usedFrom owners kinds slots i ≡ usedAt (assignedSlots rows bounds kinds slots) kinds slots i
-used-same {rows} {bounds} {kinds} {slots} {owners} u i =
+-- what a draft uses, by the owners that are noted
+pub used-same : {assigned owners kinds slots : List ℕ} → Owned assigned owners → Slotted kinds slots → (i : ℕ)
+    → usedFrom owners kinds slots i ≡ usedAt assigned kinds slots i
+used-same {assigned} {owners} {kinds} {slots} o s i =
     ⊎-elim (λ (e : getD kinds i 0 ≡ 4). named e) (λ (n : getD kinds i 0 ≡ 4 → ⊥). rw (ne-eqb (getD kinds i 0) 4 n)) (eq-or-ne (getD kinds i 0) 4)
   where
-    named : getD kinds i 0 ≡ 4 → usedFrom owners kinds slots i ≡ usedAt (assignedSlots rows bounds kinds slots) kinds slots i
+    named : getD kinds i 0 ≡ 4 → usedFrom owners kinds slots i ≡ usedAt assigned kinds slots i
     named e =
         rw (eq-eqb (getD kinds i 0) 4 e)
-        (owner-used (assignedSlots rows bounds kinds slots) owners (getD slots i 0) (u .owned .owner (getD slots i 0) (u .small i e)))
+        (owner-used assigned owners (getD slots i 0) (o .owner (getD slots i 0) (omega (arith, o .long, s .slot i e))))

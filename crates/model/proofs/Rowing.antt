@@ -10,10 +10,10 @@ use lib.Dec.{eqb, ltb}
 use lib.ListN.{length, getD, set}
 use lib.Seq.{sets}
 use Rattle.laws.specs.Places.{gather, onlyIf}
-use Rattle.laws.proofs.Tests.{lt-or-ge, cond-ind}
-use Rattle.laws.proofs.Gathers.{gather-short, Writes, writes-first, writes-next, writes-count, writes-all, whole-count, whole-all}
+use Rattle.laws.proofs.Tests.{lt-or-ge}
+use Rattle.laws.proofs.Gathers.{Writes, writes-first, writes-next, whole-count, whole-all}
 use Rattle.model.specs.Places.{begins, ends, lastKind, isEquation, assignedSlot}
-use Rattle.model.specs.Working.{Put, usedOwner, usedHere, usedFrom}
+use Rattle.model.specs.Working.{Put, usedHere}
 use Rattle.model.proofs.Collecting.{only-length, put-one, put-none}
 
 module _ (bounds kinds : List ℕ) (j : ℕ) where
@@ -83,30 +83,3 @@ module _ {f : ℕ → Bool} {n j c : ℕ} {rows₀ rows : List ℕ} (v : Listing
 
   pub listing-last : n ≤ j → Put (gather (λ i. onlyIf (f i) i) n 0) 0 c rows₀ rows
   listing-last h = record { behind = omega (arith, whole-count (v .written) h); content = whole-all (v .written) h }
-
--- ---- what the drafts use, written: the loop stands at draft i, with the numbers before place w written
-pub record Using (owners kinds slots : List ℕ) (end from i at w : ℕ) (used₀ used : List ℕ) : Type 0 where
-  pub written : Writes (usedFrom owners kinds slots) end from i at w used₀ used
-
-pub using-first : (owners kinds slots : List ℕ) (end from at : ℕ) (used : List ℕ) → Using owners kinds slots end from from at at used used
-using-first owners kinds slots end from at used = record { written = writes-first (usedFrom owners kinds slots) end from at used }
-
-module _ {owners kinds slots : List ℕ} {end from i at w : ℕ} {used₀ used : List ℕ} (v : Using owners kinds slots end from i at w used₀ used) where
-  -- at most one for each draft
-  pub using-room : w ≤ at + (end - from)
-  using-room = omega (arith, v .written .left, gather-short (usedFrom owners kinds slots) single (end - from) from)
-    where
-      single : (d : ℕ) → length (usedFrom owners kinds slots d) ≤ 1
-      single d =
-          let o = getD owners (getD slots d 0) 0 in
-          cond-ind (λ (l : List ℕ). length l ≤ 1) (eqb (getD kinds d 0) 4) (usedOwner owners (getD slots d 0)) []
-          (λ _. only-length (ltb 0 o) (o - 1)) (λ _. omega arith)
-
-  pub using-next : {kind slot r : ℕ} {used′ : List ℕ} → i < end → kind ≡ getD kinds i 0 → slot ≡ getD slots i 0
-      → Put (usedHere owners kind slot) w r used used′ → Using owners kinds slots end from (i + 1) at r used₀ used′
-  using-next {kind} {slot} {r} {used′} h p q put =
-      let e : usedHere owners kind slot ≡ usedFrom owners kinds slots i = ap₂ (usedHere owners) p q in
-      record { written = writes-next (v .written) h r used′ (put .behind ∙ ap (λ (l : List ℕ). w + length l) e) (put .content ∙ ap (sets used w) e) }
-
-  pub using-last : end ≤ i → Put (gather (usedFrom owners kinds slots) (end - from) from) at w used₀ used
-  using-last h = record { behind = writes-count (v .written) h; content = writes-all (v .written) h }

@@ -26,14 +26,16 @@ use Rattle.order.proofs.Tables.{fits-iff}
 use Rattle.model.specs.Places.{begins, ends, anyOf, keysIn, placesIn, doubles, resolvedAt, resolved, undefinedAt, unfitAt, namesAt, nameless}
 use Rattle.model.specs.Places.{isEquation, equationRows, assignedSlots, usedIn, startsFrom, loops}
 use Rattle.model.specs.Plan.{Shaped, Lent, lent, withPlaces, Outcome, outcome, refused, faulted, some, falls, inTurn, roomy, fit}
-use Rattle.model.specs.Plan.{closed, weighed, ordered, named, distinct, sheeted, planned}
-use Rattle.model.specs.Working.{Put, Reported, Collected, Keyed, flawedAt, Resolved, Sound, Holds, Wide, Rises, Slotted, Tabled, repeated}
+use Rattle.model.specs.Plan.{closed, weighed, tested, ownSlots, ownUses, tabled, named, distinct, sheeted, planned}
+use Rattle.model.specs.Working.{Put, Reported, Collected, Keyed, flawedAt, Sound, Holds, Wide, Slotted, Owned, Linkable, Linked, Weighs, repeated}
+use Rattle.model.specs.declared.names.Walk.{Walk}
 use Rattle.model.specs.declared.answer.Plan.{Plan}
 use Rattle.model.specs.Definitions.{placeIn}
 use Rattle.model.proofs.Collecting.{only-length}
 use Rattle.model.proofs.Finding.{place-le}
 use Rattle.model.proofs.Doubling.{as-many, repeated-doubles}
-use Rattle.model.proofs.Tabling.{used-few, table-fit, starts-length}
+use Rattle.model.proofs.Naming.{resolved-at}
+use Rattle.model.proofs.Tabling.{used-few, table-fit, starts-length, ends-within}
 
 -- ---- a row at the front of an array
 front-length : (n : ℕ) (l : List ℕ) → length (sets (replicate n 0) 0 l) ≡ n
@@ -141,9 +143,10 @@ module _ {m : ℕ} {starts used array out : List ℕ} {r : Sorted} (v : Sorts m 
       (outcome-same slots filled (ap (λ (b : ℕ). record { number = 0; count = 0; definitions = n; equations = b }) (q .long)) refl
       (ap (lent places rows) sorts-content))
 
--- ---- the table of uses
-module _ {lines bounds kinds used rows : List ℕ} {m : ℕ} (slots : List ℕ) (s : Sound lines bounds kinds used)
-    (h : Holds rows m (equationRows (length lines) bounds kinds)) where
+-- ---- the table of uses is written
+module _ {lines bounds kinds keys places args slots used used′ starts rows : List ℕ} {m : ℕ} {n : Walk} (s : Sound lines bounds kinds used)
+    (h : Holds rows m (equationRows (length lines) bounds kinds))
+    (k : Linked lines bounds kinds keys places n args slots (replicate (mostStatements + 1) 0) starts used used′) where
   abbrev listed : List ℕ
   listed = equationRows (length lines) bounds kinds
 
@@ -154,71 +157,61 @@ module _ {lines bounds kinds used rows : List ℕ} {m : ℕ} (slots : List ℕ) 
   few : length (usedIn own bounds kinds slots listed) ≤ length kinds
   few = omega (arith, used-few own bounds kinds slots (length lines) (s .rises), s .whole)
 
-  pub few-used : length (usedIn (assignedSlots (take m rows) bounds kinds slots) bounds kinds slots (take m rows)) < 65536
-  few-used = rw (h .front) (omega (arith, few, s .small))
+  starts-long : m + 1 ≡ length (startsFrom 0 own bounds kinds slots listed)
+  starts-long = omega (arith, starts-length own bounds kinds slots 0 listed, h .long)
 
-  module _ {starts used′ : List ℕ} {w : ℕ} (t : Tabled (take m rows) bounds kinds slots w (replicate (mostStatements + 1) 0) starts used used′) where
-    tabled : Tabled listed bounds kinds slots w (replicate (mostStatements + 1) 0) starts used used′
-    tabled = rw (h .front) at t
+  used-long : n .count ≡ length (usedIn own bounds kinds slots listed)
+  used-long = omega (arith, k .tabled-so .uses .behind)
 
-    starts-long : m + 1 ≡ length (startsFrom 0 own bounds kinds slots listed)
-    starts-long = omega (arith, starts-length own bounds kinds slots 0 listed, h .long)
+  -- what is weighed stands at the front of two arrays
+  pub weighs : Weighs lines bounds kinds slots m (n .count) starts used′ rows
+  weighs =
+      record {
+        few = s .few;
+        rows-held = h;
+        starts-room =
+            omega (arith, h .within, ap length (k .tabled-so .begun), front-length (mostStatements + 1) (startsFrom 0 own bounds kinds slots listed));
+        starts-held = rw (k .tabled-so .begun, starts-long) (front-row (replicate (mostStatements + 1) 0) (startsFrom 0 own bounds kinds slots listed) room);
+        used-room =
+            omega (arith, used-long, few, s .room, ap length (k .tabled-so .uses .content), length-sets used 0 (usedIn own bounds kinds slots listed));
+        used-held = rw (k .tabled-so .uses .content, used-long) (front-row used (usedIn own bounds kinds slots listed) (omega (arith, few, s .room)));
+      }
+    where
+      room : length (startsFrom 0 own bounds kinds slots listed) ≤ length (replicate {A = ℕ} (mostStatements + 1) 0)
+      room = omega (arith, starts-long, h .within, length-replicate {A = ℕ} (mostStatements + 1) 0)
 
-    pub starts-room : m + 1 ≤ length starts
-    starts-room =
-        omega (arith, h .within, ap length (tabled .begun), front-length (mostStatements + 1) (startsFrom 0 own bounds kinds slots listed))
+  -- the table as it is written
+  pub used-written : used′ ≡ sets used 0 (ownUses (length lines) bounds kinds slots)
+  used-written = k .tabled-so .uses .content
 
-    pub starts-front : m + 1 ≡ length (take (m + 1) starts)
-    starts-front = prefix-length (m + 1) starts starts-room
+module _ {lines bounds kinds slots starts used rows : List ℕ} {m w : ℕ} (v : Weighs lines bounds kinds slots m w starts used rows) where
+  pub weighed-fit : Fit m (take (m + 1) starts) (take w used)
+  weighed-fit =
+      let rows = equationRows (length lines) bounds kinds in
+      rw (v .starts-held, v .used-held, v .rows-held .long) (table-fit rows bounds kinds slots (omega (arith, v .rows-held .within, v .rows-held .long)))
 
-    starts-row : take (m + 1) starts ≡ startsFrom 0 own bounds kinds slots listed
-    starts-row =
-        let l = length-replicate {A = ℕ} (mostStatements + 1) 0 in
-        rw (tabled .begun, starts-long)
-        (front-row (replicate (mostStatements + 1) 0) (startsFrom 0 own bounds kinds slots listed) (omega (arith, starts-long, h .within)))
-
-    used-long : w ≡ length (usedIn own bounds kinds slots listed)
-    used-long = omega (arith, tabled .uses .behind)
-
-    pub used-room : w ≤ length used′
-    used-room =
-        omega (arith, used-long, few, s .room, ap length (tabled .uses .content), length-sets used 0 (usedIn own bounds kinds slots listed))
-
-    pub used-front : w ≡ length (take w used′)
-    used-front = prefix-length w used′ used-room
-
-    used-row : take w used′ ≡ usedIn own bounds kinds slots listed
-    used-row = rw (tabled .uses .content, used-long) (front-row used (usedIn own bounds kinds slots listed) (omega (arith, few, s .room)))
-
-    pub weighed-fit : Fit m (take (m + 1) starts) (take w used′)
-    weighed-fit = rw (starts-row, used-row, h .long) (table-fit listed bounds kinds slots (omega (arith, h .within, h .long)))
-
-    pub weighed-by : {p : Plan} {faults′ placed′ : List ℕ} (n : ℕ) (faults placed : List ℕ)
-        → ((slots filled places : List ℕ)
-        → outcome p slots filled faults′ (lent places rows placed′)
-        ≡ closed (order m (usesIn (take (m + 1) starts) (take w used′))) n (take m rows) lines slots filled faults (lent places rows placed))
-        → (places : List ℕ)
-        → outcome p slots used′ faults′ (lent places rows placed′)
-        ≡ weighed listed n lines bounds kinds slots used faults (lent places rows placed)
-    unfolding weighed
-    weighed-by n faults placed e places = e slots used′ places ∙ same
-      where
-        same : closed (order m (usesIn (take (m + 1) starts) (take w used′))) n (take m rows) lines slots used′ faults (lent places rows placed)
-            ≡ weighed listed n lines bounds kinds slots used faults (lent places rows placed)
-        same = rw (starts-row, used-row, h .front, tabled .uses .content, h .long)
+  pub weighed-by : {p : Plan} {faults′ placed′ : List ℕ} (n : ℕ) (faults placed : List ℕ)
+      → ((slots filled places : List ℕ)
+      → outcome p slots filled faults′ (lent places rows placed′)
+      ≡ closed (order m (usesIn (take (m + 1) starts) (take w used))) n (take m rows) lines slots filled faults (lent places rows placed))
+      → (places : List ℕ)
+      → outcome p slots used faults′ (lent places rows placed′)
+      ≡ weighed (equationRows (length lines) bounds kinds) n lines bounds kinds slots used faults (lent places rows placed)
+  unfolding weighed
+  weighed-by n faults placed e places = e slots used places ∙ same
+    where
+      same : closed (order m (usesIn (take (m + 1) starts) (take w used))) n (take m rows) lines slots used faults (lent places rows placed)
+          ≡ weighed (equationRows (length lines) bounds kinds) n lines bounds kinds slots used faults (lent places rows placed)
+      same = rw (v .starts-held, v .used-held, v .rows-held .front, v .rows-held .long)
 
 -- the equations written first
-pub ordered-by : {p : Plan} {slots used′ faults′ rows rows′ placed′ : List ℕ} {m : ℕ} (n : ℕ) (lines bounds kinds used faults placed : List ℕ)
+pub named-by : {p : Plan} {args′ used′ faults′ rows rows′ placed′ : List ℕ} {m : ℕ} (lines bounds kinds slots used faults places placed : List ℕ)
     → Put (equationRows (length lines) bounds kinds) 0 m rows rows′
-    → ((places : List ℕ)
-    → outcome p slots used′ faults′ (lent places rows′ placed′)
-    ≡ weighed (equationRows (length lines) bounds kinds) n lines bounds kinds slots used faults (lent places rows′ placed))
-    → (places : List ℕ)
-    → outcome p slots used′ faults′ (lent places rows′ placed′) ≡ ordered n lines bounds kinds slots used faults (lent places rows placed)
-unfolding ordered
-ordered-by {p} {slots} n lines bounds kinds used faults placed put e places =
-    e places
-    ∙ ap (λ (l : List ℕ). weighed (equationRows (length lines) bounds kinds) n lines bounds kinds slots used faults (lent places l placed)) (put .content)
+    → outcome p args′ used′ faults′ (lent places rows′ placed′) ≡ tabled (placesIn kinds) lines bounds kinds slots used faults (lent places rows′ placed)
+    → outcome p args′ used′ faults′ (lent places rows′ placed′) ≡ named (placesIn kinds) lines bounds kinds slots used faults (lent places rows placed)
+unfolding named
+named-by lines bounds kinds slots used faults places placed put e =
+    e ∙ ap (λ (l : List ℕ). tabled (placesIn kinds) lines bounds kinds slots used faults (lent places l placed)) (put .content)
 
 -- the equations are no more than the statements
 pub rows-few : (n : ℕ) (bounds kinds : List ℕ) → length (equationRows n bounds kinds) ≤ n
@@ -232,28 +225,23 @@ module _ {places faults faults′ : List ℕ} {n c : ℕ} (lines bounds kinds sl
   reported : Reported (nameless (placesIn kinds) lines bounds kinds slots) 0 c faults faults′
   reported = rw (q .front) at v
 
-  pub named-fault : {p : Plan} → 0 < c → p ≡ refused 7 c
-      → outcome p slots used faults′ l ≡ named (placesIn kinds) lines bounds kinds slots used faults l
-  unfolding named
-  named-fault h e = faults-stand reported slots used l (ordered (length (placesIn kinds)) lines bounds kinds slots used faults l) h e
+  pub tested-fault : {p : Plan} → 0 < c → p ≡ refused 7 c
+      → outcome p slots used faults′ l ≡ tested (placesIn kinds) lines bounds kinds slots used faults l
+  unfolding tested
+  tested-fault h e =
+      let rest = weighed (equationRows (length lines) bounds kinds) (length (placesIn kinds)) lines bounds kinds slots used faults l in
+      faults-stand reported slots used l rest h e
 
-  pub named-none : {p : Plan} {used′ faults″ : List ℕ} {l′ : Lent} → c ≤ 0
-      → outcome p slots used′ faults″ l′ ≡ ordered n lines bounds kinds slots used faults′ l
-      → outcome p slots used′ faults″ l′ ≡ named (placesIn kinds) lines bounds kinds slots used faults l
-  unfolding named
-  named-none h e =
+  pub tested-none : {p : Plan} {used′ faults″ : List ℕ} {l′ : Lent} → c ≤ 0
+      → outcome p slots used′ faults″ l′ ≡ weighed (equationRows (length lines) bounds kinds) n lines bounds kinds slots used faults′ l
+      → outcome p slots used′ faults″ l′ ≡ tested (placesIn kinds) lines bounds kinds slots used faults l
+  unfolding tested
+  tested-none h e =
       let f = faults-none reported h in
-      rw (f .1) (e ∙ ap₂ (λ (k : ℕ) (list : List ℕ). ordered k lines bounds kinds slots used list l) (q .long) (f .0))
+      let rows = equationRows (length lines) bounds kinds in
+      rw (f .1) (e ∙ ap₂ (λ (k : ℕ) (list : List ℕ). weighed rows k lines bounds kinds slots used list l) (q .long) (f .0))
 
 -- ---- a name in an expression has a slot
-resolved-at : (keys kinds args : List ℕ) (i : ℕ) → i < length kinds → length kinds ≤ length args
-    → getD (resolved keys kinds args) i 0 ≡ resolvedAt keys (getD kinds i 0) (getD args i 0)
-unfolding resolved
-resolved-at keys [] args i h l = absurd (omega arith)
-resolved-at keys (k ∷ kinds) [] i h l = absurd (omega arith)
-resolved-at keys (k ∷ kinds) (a ∷ args) zero h l = refl
-resolved-at keys (k ∷ kinds) (a ∷ args) (suc i) h l = resolved-at keys kinds args i (omega arith) (omega arith)
-
 pub slotted : (keys kinds args : List ℕ) {slots : List ℕ} → length keys ≤ mostDefinitions → length kinds ≤ length args
     → slots ≡ resolved keys kinds args → Slotted kinds slots
 slotted keys kinds args {slots} h l e = rw e (record { slot = λ i k. small i k })
@@ -271,22 +259,6 @@ unfolding keysIn placesIn
 as-many-keys kinds args = sym (as-many kinds args (length kinds) 0)
 
 -- ---- 21
--- a statement ends within the drafts
-rises-to : (bounds : List ℕ) (n : ℕ) → Rises bounds n → (j : ℕ) → j ≤ n → begins bounds j ≤ begins bounds n
-rises-to bounds zero r j h = let e : j ≡ 0 = omega arith in rw e (omega arith)
-rises-to bounds (suc n) r j h =
-    ⊎-elim (λ (e : j ≡ suc n). rw e (omega arith))
-    (λ (d : j ≡ suc n → ⊥).
-    omega (
-      arith,
-      rises-to bounds n (record { rise = λ i l. r .rise i (omega arith) }) j (omega (arith, lt-of-le-of-ne h d)),
-      r .rise n (omega arith),
-      ap (begins bounds) (add-one n),
-    )) (eq-or-ne j (suc n))
-
-pub ends-within : {lines bounds kinds used : List ℕ} → Sound lines bounds kinds used → (j : ℕ) → j < length lines → ends bounds j ≤ length kinds
-ends-within {lines} {bounds} s j h = omega (arith, rises-to bounds (length lines) (s .rises) (j + 1) (omega arith), s .whole)
-
 -- where no draft is flawed, no statement is
 module _ {lines bounds kinds used : List ℕ} (s : Sound lines bounds kinds used) (places slots : List ℕ)
     (clear : anyIn (flawedAt places kinds slots) (length kinds) 0 ≡ false) where
@@ -307,36 +279,53 @@ module _ {lines bounds kinds used : List ℕ} (s : Sound lines bounds kinds used
       none-any (unfitAt places kinds slots) _ (begins bounds j) (λ i a l. none-at i (omega arith) .1) in
       rw (undefined, unfit))
 
-  pub named-clear : (faults : List ℕ) (l : Lent)
-      → ordered (length places) lines bounds kinds slots used faults l ≡ named places lines bounds kinds slots used faults l
-  unfolding named
-  named-clear faults l = rw nameless-none
+  pub tested-clear : (filled faults : List ℕ) (l : Lent)
+      → weighed (equationRows (length lines) bounds kinds) (length places) lines bounds kinds slots filled faults l
+      ≡ tested places lines bounds kinds slots filled faults l
+  unfolding tested
+  tested-clear filled faults l = rw nameless-none
 
 module _ {lines bounds kinds args used keys places : List ℕ} {n : ℕ} (k : Keyed lines bounds kinds args used keys places n) where
   -- fewer keys than 256, as many as places
   pub keyed-count : length keys ≡ n
   keyed-count = ap length (k .named) ∙ as-many-keys kinds args ∙ sym (k .placed .long)
 
-  -- with the names resolved
-  module _ {slots : List ℕ} {flawed : Bool} (r : Resolved keys kinds (take n places) args slots flawed) where
-    pub keyed-slotted : Slotted kinds slots
-    keyed-slotted = slotted keys kinds args (omega (arith, keyed-count, k .few)) (k .wide) (r .same)
+  -- the owners of the slots at hand, the names can be resolved
+  pub linkable : {owners : List ℕ} → Owned (ownSlots (length lines) bounds kinds (resolved keys kinds args)) owners
+      → Linkable lines bounds kinds keys owners args used
+  linkable o =
+      let count : length keys < 256 = omega (arith, keyed-count, k .few) in
+      record {
+        sound = k .sound;
+        few = count;
+        wide = k .wide;
+        owned = o;
+        slotted = slotted keys kinds args (omega (arith, keyed-count, k .few)) (k .wide) refl;
+      }
 
-    pub settled : {p : Plan} {used′ faults′ : List ℕ} {l′ : Lent} (faults : List ℕ) (l : Lent)
-        → outcome p slots used′ faults′ l′ ≡ named (placesIn kinds) lines bounds kinds slots used faults l
-        → outcome p slots used′ faults′ l′ ≡ named (placesIn kinds) lines bounds kinds (resolved (keysIn kinds args) kinds args) used faults l
+  -- with the names resolved, and what is used tabled
+  module _ {slots starts used′ rows : List ℕ} {m : ℕ} {w : Walk} (h : Holds rows m (equationRows (length lines) bounds kinds))
+      (r : Linked lines bounds kinds keys (take n places) w args slots (replicate (mostStatements + 1) 0) starts used used′) where
+    same-slots : slots ≡ resolved (keysIn kinds args) kinds args
+    same-slots = r .resolved-so .same ∙ ap (λ (a : List ℕ). resolved a kinds args) (k .named)
+
+    pub settled : {p : Plan} {faults′ : List ℕ} {l′ : Lent} (faults : List ℕ) (l : Lent)
+        → outcome p slots used′ faults′ l′ ≡ tested (placesIn kinds) lines bounds kinds slots used′ faults l
+        → outcome p slots used′ faults′ l′ ≡ tabled (placesIn kinds) lines bounds kinds (resolved (keysIn kinds args) kinds args) used faults l
+    unfolding tabled
     settled faults l e =
-        let same : slots ≡ resolved (keysIn kinds args) kinds args = r .same ∙ ap (λ (a : List ℕ). resolved a kinds args) (k .named) in
-        e ∙ ap (λ (a : List ℕ). named (placesIn kinds) lines bounds kinds a used faults l) same
+        e ∙ ap (λ (a : List ℕ). tested (placesIn kinds) lines bounds kinds slots a faults l) (used-written (k .sound) h r)
+        ∙ ap (λ (a : List ℕ). tested (placesIn kinds) lines bounds kinds a (sets used 0 (ownUses (length lines) bounds kinds a)) faults l) same-slots
 
-    pub settled-clear : {p : Plan} {used′ faults′ : List ℕ} {l′ : Lent} (faults : List ℕ) (l : Lent) → flawed ≡ false
-        → outcome p slots used′ faults′ l′ ≡ ordered n lines bounds kinds slots used faults l
-        → outcome p slots used′ faults′ l′ ≡ named (placesIn kinds) lines bounds kinds (resolved (keysIn kinds args) kinds args) used faults l
+    pub settled-clear : {p : Plan} {faults′ : List ℕ} {l′ : Lent} (faults : List ℕ) (l : Lent) → w .flawed ≡ false
+        → outcome p slots used′ faults′ l′ ≡ weighed (equationRows (length lines) bounds kinds) n lines bounds kinds slots used′ faults l
+        → outcome p slots used′ faults′ l′ ≡ tabled (placesIn kinds) lines bounds kinds (resolved (keysIn kinds args) kinds args) used faults l
     settled-clear faults l z e =
         let clear : anyIn (flawedAt (placesIn kinds) kinds slots) (length kinds) 0 ≡ false =
-        ap (λ (a : List ℕ). anyIn (flawedAt a kinds slots) (length kinds) 0) (sym (k .placed .front)) ∙ sym (r .found) ∙ z in
-        let count = ap (λ (b : ℕ). ordered b lines bounds kinds slots used faults l) (k .placed .long) in
-        settled faults l (e ∙ count ∙ named-clear (k .sound) (placesIn kinds) slots clear faults l)
+        ap (λ (a : List ℕ). anyIn (flawedAt a kinds slots) (length kinds) 0) (sym (k .placed .front)) ∙ sym (r .resolved-so .found) ∙ z in
+        let rows = equationRows (length lines) bounds kinds in
+        let count = ap (λ (b : ℕ). weighed rows b lines bounds kinds slots used′ faults l) (k .placed .long) in
+        settled faults l (e ∙ count ∙ tested-clear (k .sound) (placesIn kinds) slots clear used′ faults l)
 
   module _ {faults faults′ : List ℕ} {c : ℕ} (v : Reported (repeated lines bounds keys (take n places)) 0 c faults faults′) where
     doubled : Reported (doubles lines bounds kinds args) 0 c faults faults′

@@ -1,25 +1,24 @@
--- The table of uses: a turn of the loop that writes it, how long it is, and that it fits the order.
+-- The table of uses: how long it is, that it fits the order, and that it is what all drafts use, one after the other.
 use Prim.Native.Nat.{ℕ, zero, suc, _+_, _-_, _≤_, _<_}
 use mathlib.Core.Path.{_≡_, refl, sym, ap, ap₂, _∙_}
 use mathlib.Core.Bool.{Bool, true, false}
-use mathlib.Core.List.{List, [], _∷_, _++_}
-use native.Mathlib.Numerals.{add-one}
+use mathlib.Core.Logic.{⊎-elim}
+use mathlib.Core.List.{List, [], _∷_, _++_, append-assoc, append-nil}
+use native.Mathlib.Numerals.{add-one, lt-of-le-of-ne}
 use native.Mathlib.Omega.{arith}
 use borrow.Author.Tests.{ltb-true}
 use lib.Dec.{eqb, ltb}
-use lib.ListN.{length, getD, set, drop, length-set, length-map, length-append, drop-of-length-le}
-use lib.Seq.{sets, drop-cons, length-sets}
+use lib.ListN.{length, getD, length-map, length-append}
 use Rattle.limits.specs.Limits.{mostStatements}
 use Rattle.laws.specs.Places.{gather, onlyIf}
-use Rattle.laws.proofs.Tests.{cond-ind}
-use Rattle.laws.proofs.Sets.{sets-append}
-use Rattle.laws.proofs.Gathers.{gather-short, gather-same}
+use Rattle.laws.proofs.Tests.{cond-ind, eq-or-ne}
+use Rattle.laws.proofs.Gathers.{any-none, gather-add, gather-none, gather-short}
 use Rattle.order.specs.Table.{Fit}
 use Rattle.model.specs.Definitions.{placeIn}
-use Rattle.model.specs.Places.{begins, ends, isEquation, equationRows, assignedSlot, assignedSlots, usedBy, usedAt, usedOfRow, usedIn, startsFrom}
-use Rattle.model.specs.Working.{Put, usedFrom, Usable, Tabled, Rises}
+use Rattle.model.specs.Places.{begins, ends, anyOf, isEquation, equationRows, assignedSlot, assignedSlots, usedBy, usedAt, usedOfRow, usedIn, startsFrom}
+use Rattle.model.specs.Plan.{isUse}
+use Rattle.model.specs.Working.{Rises, Sound}
 use Rattle.model.proofs.Collecting.{only-length}
-use Rattle.model.proofs.Owning.{used-same}
 
 -- ---- each number of a list is below n
 abbrev Below : ℕ → List ℕ → Type 0
@@ -34,6 +33,22 @@ below-gather : (n : ℕ) (f : ℕ → List ℕ) → ((i : ℕ) → Below n (f i)
 unfolding gather
 below-gather n f p zero i = λ j h. absurd (omega arith)
 below-gather n f p (suc k) i = below-append n (f i) (gather f k (suc i)) (p i) (below-gather n f p k (suc i))
+
+-- a statement ends within the drafts
+pub rises-to : (bounds : List ℕ) (n : ℕ) → Rises bounds n → (j : ℕ) → j ≤ n → begins bounds j ≤ begins bounds n
+rises-to bounds zero r j h = let e : j ≡ 0 = omega arith in rw e (omega arith)
+rises-to bounds (suc n) r j h =
+    ⊎-elim (λ (e : j ≡ suc n). rw e (omega arith))
+    (λ (d : j ≡ suc n → ⊥).
+    omega (
+      arith,
+      rises-to bounds n (record { rise = λ i l. r .rise i (omega arith) }) j (omega (arith, lt-of-le-of-ne h d)),
+      r .rise n (omega arith),
+      ap (begins bounds) (add-one n),
+    )) (eq-or-ne j (suc n))
+
+pub ends-within : {lines bounds kinds used : List ℕ} → Sound lines bounds kinds used → (j : ℕ) → j < length lines → ends bounds j ≤ length kinds
+ends-within {lines} {bounds} s j h = omega (arith, rises-to bounds (length lines) (s .rises) (j + 1) (omega arith), s .whole)
 
 module _ (assigned bounds kinds slots : List ℕ) where
   -- a draft uses at most one equation, and one of those that there are
@@ -111,6 +126,133 @@ module _ (assigned bounds kinds slots : List ℕ) where
       let e : begins bounds (0 + n) ≡ begins bounds n = let z : 0 + n ≡ n = omega arith in ap (begins bounds) z in
       omega (arith, e, few-from n 0 (λ j _ h. r .rise j (omega arith)))
 
+  -- what the drafts before statement j use
+  abbrev usesTo : ℕ → List ℕ
+  usesTo j = gather (usedAt assigned kinds slots) (begins bounds j) 0
+
+  -- and with statement j
+  uses-step : (j : ℕ) → begins bounds j ≤ ends bounds j → usesTo (suc j) ≡ usesTo j ++ usedOfRow assigned bounds kinds slots j
+  uses-step j h =
+      let u = usedAt assigned kinds slots in
+      let k = ends bounds j - begins bounds j in
+      let e : begins bounds (suc j) ≡ begins bounds j + k = omega (arith, ap (begins bounds) (add-one j)) in
+      let z : 0 + begins bounds j ≡ begins bounds j = omega arith in
+      ap (λ (n : ℕ). gather u n 0) e ∙ gather-add u (begins bounds j) k 0 ∙ ap (λ (i : ℕ). usesTo j ++ gather u k i) z
+
+  -- a statement without a name in an expression uses nothing
+  quiet : (j : ℕ) → anyOf bounds (isUse kinds) j ≡ false → usedOfRow assigned bounds kinds slots j ≡ []
+  quiet j e =
+      let k = ends bounds j - begins bounds j in
+      gather-none (usedAt assigned kinds slots) k (begins bounds j)
+      (λ i a b. let z = any-none (isUse kinds) k (begins bounds j) e i a b in rw z)
+
+  -- k statements from j on do not fall, and those of them that are no equations use nothing
+  abbrev Lawful : ℕ → ℕ → Type 0
+  Lawful k j =
+      (i : ℕ) → j ≤ i → i < j + k → (begins bounds i ≤ ends bounds i) × (isEquation bounds kinds i ≡ false → anyOf bounds (isUse kinds) i ≡ false)
+
+  rowsFrom : ℕ → ℕ → List ℕ
+  rowsFrom k j = gather (λ i. onlyIf (isEquation bounds kinds i) i) k j
+
+  -- where the uses of statement j begin, if it is an equation
+  abbrev pub beginAt : ℕ → List ℕ
+  beginAt j = onlyIf (isEquation bounds kinds j) (length (usesTo j))
+
+  lawful-next : (k j : ℕ) → Lawful (suc k) j → Lawful k (suc j)
+  lawful-next k j h i a b = h i (omega arith) (omega arith)
+
+  -- what these statements use is what the equations among them use
+  rows-uses : (k j : ℕ) → Lawful k j → usesTo (j + k) ≡ usesTo j ++ usedIn assigned bounds kinds slots (rowsFrom k j)
+  unfolding rowsFrom gather usedIn
+  rows-uses zero j h = let e : j + 0 ≡ j = omega arith in ap usesTo e ∙ sym (append-nil (usesTo j))
+  rows-uses (suc k) j h = go (isEquation bounds kinds j) refl (rows-uses k (suc j) (lawful-next k j h))
+    where
+      here : (begins bounds j ≤ ends bounds j) × (isEquation bounds kinds j ≡ false → anyOf bounds (isUse kinds) j ≡ false)
+      here = h j (omega arith) (omega arith)
+
+      row : List ℕ
+      row = usedOfRow assigned bounds kinds slots j
+
+      rest : List ℕ
+      rest = usedIn assigned bounds kinds slots (rowsFrom k (suc j))
+
+      split : usesTo (suc j + k) ≡ usesTo (suc j) ++ rest → usesTo (j + suc k) ≡ (usesTo j ++ row) ++ rest
+      split r =
+          let e : j + suc k ≡ suc j + k = omega arith in
+          ap usesTo e ∙ r ∙ ap (λ (x : List ℕ). x ++ rest) (uses-step j (here .0))
+
+      go : (b : Bool) → isEquation bounds kinds j ≡ b → usesTo (suc j + k) ≡ usesTo (suc j) ++ rest
+          → usesTo (j + suc k) ≡ usesTo j ++ usedIn assigned bounds kinds slots (onlyIf b j ++ rowsFrom k (suc j))
+      go true e r = split r ∙ append-assoc (usesTo j) row rest
+      go false e r =
+          split r ∙ ap (λ (x : List ℕ). (usesTo j ++ x) ++ rest) (quiet j (here .1 e)) ∙ ap (λ (x : List ℕ). x ++ rest) (append-nil (usesTo j))
+
+  -- and where each of these begins
+  rows-begin : (k j : ℕ) → Lawful k j
+      → gather beginAt k j ++ (length (usesTo (j + k)) ∷ []) ≡ startsFrom (length (usesTo j)) assigned bounds kinds slots (rowsFrom k j)
+  unfolding rowsFrom gather startsFrom
+  rows-begin zero j h = let e : j + 0 ≡ j = omega arith in ap (λ (i : ℕ). length (usesTo i) ∷ []) e
+  rows-begin (suc k) j h = go (isEquation bounds kinds j) refl (rows-begin k (suc j) (lawful-next k j h))
+    where
+      here : (begins bounds j ≤ ends bounds j) × (isEquation bounds kinds j ≡ false → anyOf bounds (isUse kinds) j ≡ false)
+      here = h j (omega arith) (omega arith)
+
+      row : List ℕ
+      row = usedOfRow assigned bounds kinds slots j
+
+      last : List ℕ
+      last = length (usesTo (j + suc k)) ∷ []
+
+      count : length (usesTo (suc j)) ≡ length (usesTo j) + length row
+      count = ap length (uses-step j (here .0)) ∙ length-append (usesTo j) row
+
+      rest : gather beginAt k (suc j) ++ (length (usesTo (suc j + k)) ∷ [])
+          ≡ startsFrom (length (usesTo (suc j))) assigned bounds kinds slots (rowsFrom k (suc j))
+          → gather beginAt k (suc j) ++ last ≡ startsFrom (length (usesTo (suc j))) assigned bounds kinds slots (rowsFrom k (suc j))
+      rest r =
+          let e : j + suc k ≡ suc j + k = omega arith in
+          ap (λ (i : ℕ). gather beginAt k (suc j) ++ (length (usesTo i) ∷ [])) e ∙ r
+
+      go : (b : Bool) → isEquation bounds kinds j ≡ b
+          → gather beginAt k (suc j) ++ (length (usesTo (suc j + k)) ∷ [])
+          ≡ startsFrom (length (usesTo (suc j))) assigned bounds kinds slots (rowsFrom k (suc j))
+          → (onlyIf b (length (usesTo j)) ++ gather beginAt k (suc j)) ++ last
+          ≡ startsFrom (length (usesTo j)) assigned bounds kinds slots (onlyIf b j ++ rowsFrom k (suc j))
+      go true e r =
+          ap (λ (x : List ℕ). length (usesTo j) ∷ x)
+          (rest r ∙ ap (λ (n : ℕ). startsFrom n assigned bounds kinds slots (rowsFrom k (suc j))) count)
+      go false e r =
+          let same : length (usesTo (suc j)) ≡ length (usesTo j) = omega (arith, count, ap length (quiet j (here .1 e))) in
+          rest r ∙ ap (λ (n : ℕ). startsFrom n assigned bounds kinds slots (rowsFrom k (suc j))) same
+
+  -- of a whole sheet
+  module _ {lines used : List ℕ} (s : Sound lines bounds kinds used) where
+    lawful : Lawful (length lines) 0
+    lawful i a b = (s .rises .rise i (omega arith), s .shaped .still i (omega arith))
+
+    none : usesTo 0 ≡ []
+    unfolding gather
+    none = rw (s .first)
+
+    all : usesTo (0 + length lines) ≡ gather (usedAt assigned kinds slots) (length kinds) 0
+    all =
+        let e : 0 + length lines ≡ length lines = omega arith in
+        ap usesTo e ∙ ap (λ (n : ℕ). gather (usedAt assigned kinds slots) n 0) (s .whole)
+
+    pub whole-uses : gather (usedAt assigned kinds slots) (length kinds) 0
+        ≡ usedIn assigned bounds kinds slots (equationRows (length lines) bounds kinds)
+    unfolding rowsFrom equationRows
+    whole-uses =
+        sym all ∙ rows-uses (length lines) 0 lawful
+        ∙ ap (λ (x : List ℕ). x ++ usedIn assigned bounds kinds slots (equationRows (length lines) bounds kinds)) none
+
+    pub whole-begin : gather beginAt (length lines) 0 ++ (length (gather (usedAt assigned kinds slots) (length kinds) 0) ∷ [])
+        ≡ startsFrom 0 assigned bounds kinds slots (equationRows (length lines) bounds kinds)
+    unfolding rowsFrom equationRows
+    whole-begin =
+        ap (λ (x : List ℕ). gather beginAt (length lines) 0 ++ (length x ∷ [])) (sym all) ∙ rows-begin (length lines) 0 lawful
+        ∙ ap (λ (x : List ℕ). startsFrom (length x) assigned bounds kinds slots (equationRows (length lines) bounds kinds)) none
+
 -- the table fits
 pub table-fit : (rows bounds kinds slots : List ℕ) → length rows ≤ mostStatements
     → Fit (length rows) (startsFrom 0 (assignedSlots rows bounds kinds slots) bounds kinds slots rows)
@@ -123,73 +265,3 @@ table-fit rows bounds kinds slots h =
       ends = λ i _. omega (arith, starts-within assigned bounds kinds slots 0 rows (i + 1));
       below = λ k l. omega (arith, used-below assigned bounds kinds slots rows k l, length-map rows (assignedSlot bounds kinds slots));
     }
-
--- ---- the table written: the loop stands at row r, with w numbers written
-pub record Tabling (rows bounds kinds slots starts₀ used₀ : List ℕ) (w r : ℕ) (starts used : List ℕ) : Type 0 where
-  pub within : r ≤ length rows
-  pub long-starts : length starts ≡ length starts₀
-  pub long-used : length used ≡ length used₀
-  pub left : w + length (usedIn (assignedSlots rows bounds kinds slots) bounds kinds slots (drop r rows))
-      ≡ length (usedIn (assignedSlots rows bounds kinds slots) bounds kinds slots rows)
-  pub same : sets used w (usedIn (assignedSlots rows bounds kinds slots) bounds kinds slots (drop r rows))
-      ≡ sets used₀ 0 (usedIn (assignedSlots rows bounds kinds slots) bounds kinds slots rows)
-  pub begun : sets starts r (startsFrom w (assignedSlots rows bounds kinds slots) bounds kinds slots (drop r rows))
-      ≡ sets starts₀ 0 (startsFrom 0 (assignedSlots rows bounds kinds slots) bounds kinds slots rows)
-
-pub tabling-first : (rows bounds kinds slots starts used : List ℕ) → Tabling rows bounds kinds slots starts used 0 0 starts used
-tabling-first rows bounds kinds slots starts used =
-    record { within = omega arith; long-starts = refl; long-used = refl; left = omega arith; same = refl; begun = refl }
-
-module _ {rows bounds kinds slots starts₀ used₀ starts used : List ℕ} {w r : ℕ} (v : Tabling rows bounds kinds slots starts₀ used₀ w r starts used) where
-  abbrev own : List ℕ
-  own = assignedSlots rows bounds kinds slots
-
-  pub tabling-next : {owners starts′ used′ : List ℕ} {j a b w′ : ℕ} → Usable rows bounds kinds slots owners → r < length rows
-      → starts′ ≡ set starts r w → j ≡ getD rows r 0 → a ≡ begins bounds j → b ≡ ends bounds j
-      → Put (gather (usedFrom owners kinds slots) (b - a) a) w w′ used used′
-      → Tabling rows bounds kinds slots starts₀ used₀ w′ (r + 1) starts′ used′
-  unfolding usedIn startsFrom
-  tabling-next {owners} {starts′} {used′} {j} {a} {b} {w′} u h s e p q put =
-      record {
-        within = omega arith;
-        long-starts = ap length s ∙ length-set starts r w ∙ v .long-starts;
-        long-used = ap length (put .content) ∙ length-sets used w (gather (usedFrom owners kinds slots) (b - a) a) ∙ v .long-used;
-        left = omega (arith, v .left, behind, ap (λ (l : List ℕ). length (usedIn own bounds kinds slots l)) front, length-append row rest);
-        same = rw (content, behind, ← (sets-append used w row rest)) (ap (λ (l : List ℕ). sets used w (usedIn own bounds kinds slots l)) (sym front) ∙ v .same);
-        begun =
-            rw (s, behind, add-one r)
-            (ap (λ (l : List ℕ). sets starts r (startsFrom w own bounds kinds slots l)) (sym (rw (add-one r) at front)) ∙ v .begun);
-      }
-    where
-      row : List ℕ
-      row = usedOfRow own bounds kinds slots (getD rows r 0)
-
-      rest : List ℕ
-      rest = usedIn own bounds kinds slots (drop (r + 1) rows)
-
-      front : drop r rows ≡ getD rows r 0 ∷ drop (r + 1) rows
-      front = rw (add-one r) (drop-cons rows r 0 h)
-
-      uses : gather (usedFrom owners kinds slots) (b - a) a ≡ row
-      uses =
-          gather-same _ _ (b - a) a (λ i _ _. used-same u i)
-          ∙ ap₂ (λ (x y : ℕ). gather (usedAt own kinds slots) (y - x) x) (p ∙ ap (begins bounds) e) (q ∙ ap (ends bounds) e)
-
-      behind : w′ ≡ w + length row
-      behind = put .behind ∙ ap (λ (l : List ℕ). w + length l) uses
-
-      content : used′ ≡ sets used w row
-      content = put .content ∙ ap (sets used w) uses
-
-  pub tabling-last : {starts′ : List ℕ} → length rows ≤ r → starts′ ≡ set starts r w → Tabled rows bounds kinds slots w starts₀ starts′ used₀ used
-  unfolding usedIn startsFrom
-  tabling-last {starts′} h s =
-      let none : drop r rows ≡ [] = drop-of-length-le rows h in
-      record {
-        uses =
-            record {
-              behind = omega (arith, v .left, ap (λ (l : List ℕ). length (usedIn own bounds kinds slots l)) none);
-              content = rw none at (v .same);
-            };
-        begun = s ∙ (rw none at (v .begun));
-      }

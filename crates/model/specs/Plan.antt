@@ -117,19 +117,31 @@ weighed rows n lines bounds kinds slots used faults l =
     let assigned = assignedSlots rows bounds kinds slots in
     let table = usedIn assigned bounds kinds slots rows in
     let starts = startsFrom 0 assigned bounds kinds slots rows in
-    closed (order (length rows) (usesIn starts table)) n rows lines slots (sets used 0 table) faults l
-
--- all equations, placed by what they use
-unfoldable pub ordered : ℕ → List ℕ → List ℕ → List ℕ → List ℕ → List ℕ → List ℕ → Lent → Outcome
-ordered n lines bounds kinds slots used faults l =
-    let rows = equationRows (length lines) bounds kinds in
-    weighed rows n lines bounds kinds slots used faults (withRows rows l)
+    closed (order (length rows) (usesIn starts table)) n rows lines slots used faults l
 
 -- 22 and 23
+unfoldable pub tested : List ℕ → List ℕ → List ℕ → List ℕ → List ℕ → List ℕ → List ℕ → Lent → Outcome
+tested places lines bounds kinds slots used faults l =
+    let fs = nameless places lines bounds kinds slots in
+    cond (some fs) (faulted fs slots used faults l)
+    (weighed (equationRows (length lines) bounds kinds) (length places) lines bounds kinds slots used faults l)
+
+-- the slots that the equations among n statements assign, and what these use
+abbrev pub ownSlots : ℕ → List ℕ → List ℕ → List ℕ → List ℕ
+ownSlots n bounds kinds slots = assignedSlots (equationRows n bounds kinds) bounds kinds slots
+
+abbrev pub ownUses : ℕ → List ℕ → List ℕ → List ℕ → List ℕ
+ownUses n bounds kinds slots = usedIn (ownSlots n bounds kinds slots) bounds kinds slots (equationRows n bounds kinds)
+
+-- the table of uses is written
+unfoldable pub tabled : List ℕ → List ℕ → List ℕ → List ℕ → List ℕ → List ℕ → List ℕ → Lent → Outcome
+tabled places lines bounds kinds slots used faults l =
+    tested places lines bounds kinds slots (sets used 0 (ownUses (length lines) bounds kinds slots)) faults l
+
+-- the equations are written
 unfoldable pub named : List ℕ → List ℕ → List ℕ → List ℕ → List ℕ → List ℕ → List ℕ → Lent → Outcome
 named places lines bounds kinds slots used faults l =
-    let fs = nameless places lines bounds kinds slots in
-    cond (some fs) (faulted fs slots used faults l) (ordered (length places) lines bounds kinds slots used faults l)
+    tabled places lines bounds kinds slots used faults (withRows (equationRows (length lines) bounds kinds) l)
 
 -- 21
 unfoldable pub distinct : List ℕ → List ℕ → List ℕ → List ℕ → List ℕ → List ℕ → Lent → Outcome

@@ -3,9 +3,9 @@
 use Prim.Native.Nat.{ℕ, zero, suc, _+_, _-_, _*_, _%_, _≤_, _<_}
 use mathlib.Core.Path.{_≡_}
 use mathlib.Core.Bool.{Bool, not, cond, _&&_, _||_}
-use mathlib.Core.List.{List, [], _∷_}
+use mathlib.Core.List.{List, [], _∷_, _++_}
 use lib.Dec.{eqb, ltb}
-use lib.ListN.{length, getD, take}
+use lib.ListN.{length, getD, take, drop}
 use lib.Seq.{sets, slice}
 use Rattle.limits.specs.Limits.{mostStatements, mostDefinitions, textBytes, faultBytes}
 use Rattle.laws.specs.Places.{gather, anyIn, onlyIf}
@@ -13,8 +13,9 @@ use Rattle.laws.specs.Counts.{has}
 use Rattle.sheet.specs.Sheet.{Fault, faultList}
 use Rattle.model.specs.Definitions.{placeIn}
 use Rattle.model.specs.Faults.{again, faultIf}
-use Rattle.model.specs.Plan.{Shaped}
-use Rattle.model.specs.Places.{defines, asks, begins, ends, keysIn, placesIn, resolved, homeOf, assignedSlots, usedIn, startsFrom}
+use Rattle.model.specs.Plan.{Shaped, ownSlots, ownUses}
+use Rattle.model.specs.declared.names.Walk.{Walk}
+use Rattle.model.specs.Places.{defines, asks, begins, ends, keysIn, placesIn, resolved, homeOf, equationRows, assignedSlots, usedIn, startsFrom}
 
 -- ---- rows that are written
 
@@ -122,10 +123,6 @@ flawedBy places kinds kind slot =
 abbrev pub flawedAt : List ℕ → List ℕ → List ℕ → ℕ → Bool
 flawedAt places kinds slots i = flawedBy places kinds (getD kinds i 0) (getD slots i 0)
 
-pub record Resolved (keys kinds places args args′ : List ℕ) (flawed : Bool) : Type 0 where
-  pub same : args′ ≡ resolved keys kinds args
-  pub found : flawed ≡ anyIn (flawedAt places kinds args′) (length kinds) 0
-
 -- ---- 22 or 23, 0 for neither: by whether a name is undefined and whether an initial is unfit
 abbrev pub flawOf : Bool → Bool → ℕ
 flawOf undefined unfit = cond undefined 22 (cond unfit 23 0)
@@ -152,16 +149,60 @@ usedFrom owners kinds slots i = usedHere owners (getD kinds i 0) (getD slots i 0
 pub record Slotted (kinds slots : List ℕ) : Type 0 where
   pub slot : (i : ℕ) → getD kinds i 0 ≡ 4 → getD slots i 0 < mostStatements + 1
 
--- the owners serve for what these equations use, which are not too many
-pub record Usable (rows bounds kinds slots owners : List ℕ) : Type 0 where
-  pub owned : Owned (assignedSlots rows bounds kinds slots) owners
-  pub small : (i : ℕ) → getD kinds i 0 ≡ 4 → getD slots i 0 < length owners
-  pub few : length (usedIn (assignedSlots rows bounds kinds slots) bounds kinds slots rows) < 65536
+-- ---- names resolved and uses listed, draft by draft
+
+pub record Resolved (keys kinds places args args′ : List ℕ) (flawed : Bool) : Type 0 where
+  pub same : args′ ≡ resolved keys kinds args
+  pub found : flawed ≡ anyIn (flawedAt places kinds args′) (length kinds) 0
+
+-- the drafts before place i are resolved, and flawed tells whether one of them is
+pub record Resolving (keys kinds places args₀ : List ℕ) (flawed : Bool) (i : ℕ) (args : List ℕ) : Type 0 where
+  pub within : i ≤ length kinds
+  pub long : length args ≡ length args₀
+  pub same : take i args ++ resolved keys (drop i kinds) (drop i args) ≡ resolved keys kinds args₀
+  pub left : (flawed || anyIn (flawedAt places kinds (resolved keys kinds args₀)) (length kinds - i) i)
+      ≡ anyIn (flawedAt places kinds (resolved keys kinds args₀)) (length kinds) 0
+
+-- and what they use is listed
+pub record Linking (keys kinds places owners args₀ used₀ : List ℕ) (i : ℕ) (n : Walk) (args used : List ℕ) : Type 0 where
+  pub resolving : Resolving keys kinds places args₀ (n .flawed) i args
+  pub uses : Put (gather (usedFrom owners kinds (resolved keys kinds args₀)) i 0) 0 (n .count) used₀ used
+
+-- what going over the drafts from a place on, before an end, asks; c numbers are listed
+pub record Walked (keys kinds args : List ℕ) (from end c : ℕ) : Type 0 where
+  pub few : length keys < 256
+  pub wide : length kinds ≤ length args
+  pub small : length kinds ≤ textBytes
+  pub upward : from ≤ end
+  pub inside : end ≤ length kinds
+  pub short : c ≤ from
+
+-- what going over all drafts asks
+pub record Linkable (lines bounds kinds keys owners args used : List ℕ) : Type 0 where
+  pub sound : Sound lines bounds kinds used
+  pub few : length keys < 256
+  pub wide : length kinds ≤ length args
+  pub owned : Owned (ownSlots (length lines) bounds kinds (resolved keys kinds args)) owners
+  pub slotted : Slotted kinds (resolved keys kinds args)
 
 -- the table of uses is written; r is how much is used
 pub record Tabled (rows bounds kinds slots : List ℕ) (r : ℕ) (starts starts′ used used′ : List ℕ) : Type 0 where
   pub uses : Put (usedIn (assignedSlots rows bounds kinds slots) bounds kinds slots rows) 0 r used used′
   pub begun : starts′ ≡ sets starts 0 (startsFrom 0 (assignedSlots rows bounds kinds slots) bounds kinds slots rows)
+
+-- what it gives
+pub record Linked (lines bounds kinds keys places : List ℕ) (n : Walk) (args args′ starts starts′ used used′ : List ℕ) : Type 0 where
+  pub resolved-so : Resolved keys kinds places args args′ (n .flawed)
+  pub tabled-so : Tabled (equationRows (length lines) bounds kinds) bounds kinds args′ (n .count) starts starts′ used used′
+
+-- the m equations are held in rows, and what they use at the front of starts and used
+pub record Weighs (lines bounds kinds slots : List ℕ) (m w : ℕ) (starts used rows : List ℕ) : Type 0 where
+  pub few : length lines ≤ mostStatements
+  pub rows-held : Holds rows m (equationRows (length lines) bounds kinds)
+  pub starts-room : m + 1 ≤ length starts
+  pub starts-held : take (m + 1) starts ≡ startsFrom 0 (ownSlots (length lines) bounds kinds slots) bounds kinds slots (equationRows (length lines) bounds kinds)
+  pub used-room : w ≤ length used
+  pub used-held : take w used ≡ ownUses (length lines) bounds kinds slots
 
 -- ---- 24: a mark for each equation that is placed
 pub record Marked (placed marks : List ℕ) : Type 0 where

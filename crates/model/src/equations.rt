@@ -3,14 +3,14 @@ ghost use mathlib.Core.Path.{_≡_};
 ghost use Prim.Native.Nat.{_+_, _-_, _≤_, _<_};
 ghost use lib.ListN.{length, replicate};
 ghost use Rattle.limits.specs.Limits.{mostStatements};
-ghost use Rattle.laws.specs.Places.{gather, onlyIf};
-ghost use Rattle.model.specs.Places.{ends, isEquation, equationRows, assignedSlot, assignedSlots, usedIn};
-ghost use Rattle.model.specs.Working.{Put, Owned, usedHere, usedFrom, Slotted, Usable, Tabled};
+ghost use Rattle.laws.specs.Places.{onlyIf};
+ghost use Rattle.model.specs.Places.{ends, resolved, isEquation, equationRows, assignedSlot, assignedSlots};
+ghost use Rattle.model.specs.Working.{Put, Hinted, Owned, usedHere};
+use super::hints::find;
 use super::lists::byte_at;
 use super::lists::put_short;
 use super::lists::short_at;
 use super::lists::word_at;
-use limits::STATEMENTS;
 
 // The last place of statement j.
 fn last_of(bounds: &[u16], j: usize) -> usize
@@ -25,7 +25,7 @@ fn last_of(bounds: &[u16], j: usize) -> usize
 }
 
 // Whether statement j is an equation.
-fn is_equation(bounds: &[u16], kinds: &[u8], j: usize) -> bool
+pub(crate) fn is_equation(bounds: &[u16], kinds: &[u8], j: usize) -> bool
     requires { ⌜ j < 65536 ⌝ }
     ensures { λ r. ⌜ r ≡ isEquation (now (bounds .entry)) (now (kinds .entry)) j ⌝ }
 {
@@ -40,7 +40,7 @@ fn is_equation(bounds: &[u16], kinds: &[u8], j: usize) -> bool
 }
 
 // Stores a number at place w, if a test holds; the place behind.
-fn put_if(stands: bool, v: usize, buf: &mut [u16], w: usize) -> usize
+pub(crate) fn put_if(stands: bool, v: usize, buf: &mut [u16], w: usize) -> usize
     requires { ⌜ (v < 65536) × (w < 65536) ⌝ }
     ensures { λ r. ⌜ Put (onlyIf stands v) w r (now (buf .entry)) (now (buf .exit)) ⌝ }
 {
@@ -65,14 +65,22 @@ pub(crate) fn collect_rows(n: usize, bounds: &[u16], kinds: &[u8], rows: &mut [u
     count
 }
 
-// The slot that the equation of statement j assigns, 0 of a state's.
-fn assigned_slot(bounds: &[u16], kinds: &[u8], slots: &[u64], j: usize) -> usize
-    requires { ⌜ j < 65536 ⌝ }
-    ensures { λ r. ⌜ r ≡ assignedSlot (now (bounds .entry)) (now (kinds .entry)) (now (slots .entry)) j ⌝ }
+// The slot that the equation of statement j assigns, 0 of a state's. Its name is not resolved yet.
+fn assigned_slot(
+    bounds: &[u16],
+    kinds: &[u8],
+    keys: &[u64],
+    hints: &[u8],
+    links: &[u8],
+    args: &[u64],
+    j: usize,
+) -> usize
+    requires { ⌜ (j < 65536) × Hinted (now keys) (now hints) (now links) × (length (now keys) < 256) × (length (now kinds) ≤ length (now args)) ⌝ }
+    ensures { λ r. ⌜ r ≡ assignedSlot (now (bounds .entry)) (now (kinds .entry)) (resolved (now (keys .entry)) (now (kinds .entry)) (now (args .entry))) j ⌝ }
 {
     let last = last_of(bounds, j);
     if byte_at(kinds, last) == 13 {
-        return word_at(slots, last) as usize;
+        return find(keys, hints, links, word_at(args, last)) + 1;
     }
     0
 }
@@ -82,22 +90,28 @@ pub(crate) fn note_owners(
     rows: &[u16],
     bounds: &[u16],
     kinds: &[u8],
-    slots: &[u64],
+    keys: &[u64],
+    hints: &[u8],
+    links: &[u8],
+    args: &[u64],
     owners: &mut [u16],
 )
-    requires { ⌜ (length (now rows) ≤ mostStatements) × (now owners ≡ replicate (mostStatements + 1) 0) ⌝ }
-    ensures { λ _. ⌜ Owned (assignedSlots (now (rows .entry)) (now (bounds .entry)) (now (kinds .entry)) (now (slots .entry))) (now (owners .exit)) ⌝ }
+    requires { ⌜ (length (now rows) ≤ mostStatements) × (now owners ≡ replicate (mostStatements + 1) 0) × Hinted (now keys) (now hints) (now links) ×
+        (length (now keys) < 256) × (length (now kinds) ≤ length (now args)) ⌝ }
+    ensures { λ _. ⌜ Owned (assignedSlots (now (rows .entry)) (now (bounds .entry)) (now (kinds .entry))
+        (resolved (now (keys .entry)) (now (kinds .entry)) (now (args .entry)))) (now (owners .exit)) ⌝ }
 {
     let mut r = rows.len();
     while 0 < r {
-        let slot = assigned_slot(bounds, kinds, slots, short_at(rows, r - 1));
+        let j = short_at(rows, r - 1);
+        let slot = assigned_slot(bounds, kinds, keys, hints, links, args, j);
         put_short(&mut *owners, slot, r);
         r -= 1;
     }
 }
 
 // Stores the equation that a draft uses, if it uses one; the place behind.
-fn put_use(owners: &[u16], kind: u8, slot: u64, used: &mut [u16], w: usize) -> usize
+pub(crate) fn put_use(owners: &[u16], kind: u8, slot: u64, used: &mut [u16], w: usize) -> usize
     requires { ⌜ w < 4294967296 ⌝ }
     ensures { λ r. ⌜ Put (usedHere (now (owners .entry)) kind slot) w r (now (used .entry)) (now (used .exit)) ⌝ }
 {
@@ -110,80 +124,4 @@ fn put_use(owners: &[u16], kind: u8, slot: u64, used: &mut [u16], w: usize) -> u
     }
     put_short(used, w, owner - 1);
     w + 1
-}
-
-// Stores what the drafts from a place on, before an end, use; the place behind.
-fn put_uses(
-    owners: &[u16],
-    kinds: &[u8],
-    slots: &[u64],
-    from: usize,
-    end: usize,
-    used: &mut [u16],
-    at: usize,
-) -> usize
-    requires { ⌜ (at < 65536) × (end < 65536) ⌝ }
-    ensures { λ r. ⌜ Put (gather (usedFrom (now (owners .entry)) (now (kinds .entry)) (now (slots .entry))) (end - from) from) at r
-        (now (used .entry)) (now (used .exit)) ⌝ }
-{
-    let mut w = at;
-    let mut i = from;
-    while i < end {
-        w = put_use(owners, byte_at(kinds, i), word_at(slots, i), &mut *used, w);
-        i += 1;
-    }
-    w
-}
-
-// Stores what all equations use, one after the other, and where each begins; how much they use together.
-pub(crate) fn tabulate(
-    rows: &[u16],
-    bounds: &[u16],
-    kinds: &[u8],
-    slots: &[u64],
-    owners: &[u16],
-    starts: &mut [u16],
-    used: &mut [u16],
-) -> usize
-    requires { ⌜ Usable (now rows) (now bounds) (now kinds) (now slots) (now owners) ⌝ }
-    ensures { λ r. ⌜ Tabled (now (rows .entry)) (now (bounds .entry)) (now (kinds .entry)) (now (slots .entry)) r (now (starts .entry))
-        (now (starts .exit)) (now (used .entry)) (now (used .exit)) ⌝ }
-{
-    let mut w: usize = 0;
-    let mut r = 0;
-    while r < rows.len() {
-        put_short(&mut *starts, r, w);
-        let j = short_at(rows, r);
-        w = put_uses(
-            owners,
-            kinds,
-            slots,
-            short_at(bounds, j),
-            short_at(bounds, j + 1),
-            &mut *used,
-            w,
-        );
-        r += 1;
-    }
-    put_short(starts, r, w);
-    w
-}
-
-// The same, with the owners noted first.
-pub(crate) fn table(
-    rows: &[u16],
-    bounds: &[u16],
-    kinds: &[u8],
-    slots: &[u64],
-    starts: &mut [u16],
-    used: &mut [u16],
-) -> usize
-    requires { ⌜ (length (now rows) ≤ mostStatements) × Slotted (now kinds) (now slots) ×
-        (length (usedIn (assignedSlots (now rows) (now bounds) (now kinds) (now slots)) (now bounds) (now kinds) (now slots) (now rows)) < 65536) ⌝ }
-    ensures { λ r. ⌜ Tabled (now (rows .entry)) (now (bounds .entry)) (now (kinds .entry)) (now (slots .entry)) r (now (starts .entry))
-        (now (starts .exit)) (now (used .entry)) (now (used .exit)) ⌝ }
-{
-    let mut owners = [0u16; STATEMENTS + 1];
-    note_owners(rows, bounds, kinds, slots, &mut owners);
-    tabulate(rows, bounds, kinds, slots, &owners, starts, used)
 }

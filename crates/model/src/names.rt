@@ -1,16 +1,21 @@
 // Names resolved to slots, and the faults 22 and 23.
 ghost use mathlib.Core.Path.{_≡_};
 ghost use mathlib.Core.Bool.{not, _&&_};
-ghost use Prim.Native.Nat.{_-_, _≤_, _<_};
+ghost use mathlib.Core.List.{List};
+ghost use Prim.Native.Nat.{ℕ, _-_, _≤_};
 ghost use lib.Dec.{eqb, ltb};
 ghost use lib.ListN.{length, getD};
 ghost use Rattle.limits.specs.Limits.{mostStatements};
 ghost use Rattle.laws.specs.Places.{anyIn};
 ghost use Rattle.model.specs.Places.{isNamed, asks, homeOf, undefinedAt, unfitAt, nameless};
-ghost use Rattle.model.specs.Working.{Reported, Hinted, flawedBy, Resolved, flawOf};
+ghost use Rattle.model.specs.Working.{Reported, Hinted, flawedBy, Walked, Linking, Linkable, Linked, flawOf};
 use super::collect::is_defining;
+use super::equations::is_equation;
+use super::equations::put_if;
+use super::equations::put_use;
 use super::hints::find;
 use super::lists::byte_at;
+use super::lists::put_short;
 use super::lists::short_at;
 use super::lists::word_at;
 use super::report::put_fault;
@@ -74,32 +79,98 @@ fn is_flawed(places: &[u16], kinds: &[u8], kind: u8, slot: u64) -> bool
     is_unfit(places, kinds, kind, slot)
 }
 
-// Resolves the names of all drafts; whether one of them is flawed.
-pub(crate) fn resolve(
+// How much is used so far, and whether a name so far is flawed.
+pub(crate) struct Walk {
+    pub count: usize,
+    pub flawed: bool,
+}
+
+// Resolves the names of the drafts from a place on, before an end, and stores what they use.
+fn resolve_in(
     kinds: &[u8],
     keys: &[u64],
     hints: &[u8],
     links: &[u8],
     places: &[u16],
+    owners: &[u16],
+    from: usize,
+    end: usize,
+    walk: Walk,
     args: &mut [u64],
-) -> bool
-    requires { ⌜ Hinted (now keys) (now hints) (now links) × (length (now keys) < 256) × (length (now kinds) ≤ length (now args)) ⌝ }
-    ensures { λ r. ⌜ Resolved (now (keys .entry)) (now (kinds .entry)) (now (places .entry)) (now (args .entry)) (now (args .exit)) r ⌝ }
+    used: &mut [u16],
+) -> Walk
+    requires { ⌜ Hinted (now keys) (now hints) (now links) × Walked (now keys) (now kinds) (now args) from end (walk .count) ⌝ }
+    ensures { λ r. ⌜ (r .count ≤ end) × ((args₀ used₀ : List ℕ)
+        → Linking (now (keys .entry)) (now (kinds .entry)) (now (places .entry)) (now (owners .entry)) args₀ used₀ from walk
+        (now (args .entry)) (now (used .entry))
+        → Linking (now (keys .entry)) (now (kinds .entry)) (now (places .entry)) (now (owners .entry)) args₀ used₀ end r
+        (now (args .exit)) (now (used .exit))) ⌝ }
 {
-    let mut flawed = false;
-    let mut i = 0;
-    while i < kinds.len() {
+    let mut w = walk.count;
+    let mut flawed = walk.flawed;
+    let mut i = from;
+    while i < end {
         let kind = kinds[i];
         if is_named(kind) {
             let slot = find(keys, hints, links, args[i]) as u64 + 1;
             args[i] = slot;
+            w = put_use(owners, kind, slot, &mut *used, w);
             if is_flawed(places, kinds, kind, slot) {
                 flawed = true;
             }
         }
         i += 1;
     }
-    flawed
+    Walk { count: w, flawed }
+}
+
+// Resolves the names of all drafts. What all equations use is stored, one after the other, and where each begins; how much that is, and
+// whether a name is flawed.
+pub(crate) fn resolve(
+    lines: &[u16],
+    bounds: &[u16],
+    kinds: &[u8],
+    keys: &[u64],
+    hints: &[u8],
+    links: &[u8],
+    places: &[u16],
+    owners: &[u16],
+    args: &mut [u64],
+    starts: &mut [u16],
+    used: &mut [u16],
+) -> Walk
+    requires { ⌜ Hinted (now keys) (now hints) (now links) ×
+        Linkable (now lines) (now bounds) (now kinds) (now keys) (now owners) (now args) (now used) ⌝ }
+    ensures { λ r. ⌜ Linked (now (lines .entry)) (now (bounds .entry)) (now (kinds .entry)) (now (keys .entry)) (now (places .entry)) r
+        (now (args .entry)) (now (args .exit)) (now (starts .entry)) (now (starts .exit)) (now (used .entry)) (now (used .exit)) ⌝ }
+{
+    let mut walk = Walk {
+        count: 0,
+        flawed: false,
+    };
+    let mut r: usize = 0;
+    let mut j = 0;
+    while j < lines.len() {
+        let w = walk.count;
+        r = put_if(is_equation(bounds, kinds, j), w, &mut *starts, r);
+        walk = resolve_in(
+            kinds,
+            keys,
+            hints,
+            links,
+            places,
+            owners,
+            short_at(bounds, j),
+            short_at(bounds, j + 1),
+            walk,
+            &mut *args,
+            &mut *used,
+        );
+        j += 1;
+    }
+    let w = walk.count;
+    put_short(starts, r, w);
+    walk
 }
 
 // 22 if a name of the drafts from a place on, before an end, is undefined, else 23 if an initial is unfit, else 0.

@@ -7,13 +7,13 @@ ghost use Rattle.limits.specs.Limits.{mostStatements};
 ghost use Rattle.order.specs.Greedy.{order};
 ghost use Rattle.order.specs.Table.{Fit, usesIn};
 ghost use Rattle.model.specs.Places.{keysIn, placesIn, resolved, equationRows};
-ghost use Rattle.model.specs.Plan.{lent, refused, outcome, closed, weighed, ordered, named, distinct, sheeted};
-ghost use Rattle.model.specs.Working.{Sound, Holds, Wide, Hinted, Keyed, Slotted};
+ghost use Rattle.model.specs.Plan.{lent, refused, outcome, closed, weighed, tested, ownSlots, tabled, named, distinct, sheeted};
+ghost use Rattle.model.specs.Working.{Sound, Holds, Wide, Hinted, Keyed, Owned, Weighs};
 use super::answer::Plan;
 use super::collect::collect;
 use super::doubles::report_doubles;
 use super::equations::collect_rows;
-use super::equations::table;
+use super::equations::note_owners;
 use super::hints::BUCKETS;
 use super::hints::note_hints;
 use super::loops::report_loops;
@@ -67,28 +67,27 @@ fn close(
     }
 }
 
-// The table of what the m equations of rows use.
+// The m equations of rows are ordered by what they use, which is tabled: w numbers, and where those of each begin.
 fn weigh(
     lines: &[u16],
     bounds: &[u16],
     kinds: &[u8],
     slots: &[u64],
-    used: &mut [u16],
+    starts: &[u16],
+    used: &[u16],
+    w: usize,
     faults: &mut [u8],
     n: usize,
     rows: &[u16],
     m: usize,
     placed: &mut [u16],
 ) -> Plan
-    requires { ⌜ Sound (now lines) (now bounds) (now kinds) (now used) × Slotted (now kinds) (now slots) ×
-        Holds (now rows) m (equationRows (length (now lines)) (now bounds) (now kinds)) × (mostStatements ≤ length (now placed)) ⌝ }
-    ensures { λ r. ⌜ ((p : List ℕ) → outcome r (now (slots .entry)) (now (used .exit)) (now (faults .exit))
+    requires { ⌜ Weighs (now lines) (now bounds) (now kinds) (now slots) m w (now starts) (now used) (now rows) × (mostStatements ≤ length (now placed)) ⌝ }
+    ensures { λ r. ⌜ ((p : List ℕ) → outcome r (now (slots .entry)) (now (used .entry)) (now (faults .exit))
         (lent p (now (rows .entry)) (now (placed .exit))) ≡ weighed (equationRows (length (now (lines .entry))) (now (bounds .entry))
         (now (kinds .entry))) n (now (lines .entry)) (now (bounds .entry)) (now (kinds .entry)) (now (slots .entry)) (now (used .entry))
         (now (faults .entry)) (lent p (now (rows .entry)) (now (placed .entry)))) ⌝ }
 {
-    let mut starts = [0u16; STATEMENTS + 1];
-    let w = table(&rows[..m], bounds, kinds, slots, &mut starts, &mut *used);
     close(
         &starts[..m + 1],
         &used[..w],
@@ -101,30 +100,40 @@ fn weigh(
     )
 }
 
-// The equations; there are n definitions.
-fn arrange(
+// 22 and 23.
+fn check_names(
     lines: &[u16],
     bounds: &[u16],
     kinds: &[u8],
     slots: &[u64],
-    used: &mut [u16],
+    starts: &[u16],
+    used: &[u16],
+    w: usize,
     faults: &mut [u8],
+    places: &[u16],
     n: usize,
-    rows: &mut [u16],
+    rows: &[u16],
+    m: usize,
     placed: &mut [u16],
 ) -> Plan
-    requires { ⌜ Sound (now lines) (now bounds) (now kinds) (now used) × Slotted (now kinds) (now slots) × Wide (now rows) (now placed) ⌝ }
-    ensures { λ r. ⌜ ((p : List ℕ) → outcome r (now (slots .entry)) (now (used .exit)) (now (faults .exit))
-        (lent p (now (rows .exit)) (now (placed .exit))) ≡ ordered n (now (lines .entry)) (now (bounds .entry)) (now (kinds .entry))
-        (now (slots .entry)) (now (used .entry)) (now (faults .entry)) (lent p (now (rows .entry)) (now (placed .entry)))) ⌝ }
+    requires { ⌜ Weighs (now lines) (now bounds) (now kinds) (now slots) m w (now starts) (now used) (now rows) × (mostStatements ≤ length (now placed)) ×
+        Holds (now places) n (placesIn (now kinds)) ⌝ }
+    ensures { λ r. ⌜ outcome r (now (slots .entry)) (now (used .entry)) (now (faults .exit)) (lent (now (places .entry)) (now (rows .entry))
+        (now (placed .exit))) ≡ tested (placesIn (now (kinds .entry))) (now (lines .entry)) (now (bounds .entry)) (now (kinds .entry))
+        (now (slots .entry)) (now (used .entry)) (now (faults .entry)) (lent (now (places .entry)) (now (rows .entry)) (now (placed .entry))) ⌝ }
 {
-    let m = collect_rows(lines.len(), bounds, kinds, &mut *rows);
+    let flaws = report_nameless(lines, bounds, &places[..n], kinds, slots, &mut *faults);
+    if 0 < flaws {
+        return refusal(7, flaws);
+    }
     weigh(
         lines,
         bounds,
         kinds,
         slots,
+        starts,
         used,
+        w,
         faults,
         n,
         rows,
@@ -133,33 +142,82 @@ fn arrange(
     )
 }
 
-// 22 and 23.
-fn check_names(
+// The names are resolved, and what the m equations of rows use is tabled. Where no name is flawed, no statement is.
+fn link(
     lines: &[u16],
     bounds: &[u16],
     kinds: &[u8],
-    slots: &[u64],
+    args: &mut [u64],
     used: &mut [u16],
     faults: &mut [u8],
+    keys: &[u64],
+    hints: &[u8],
+    links: &[u8],
+    owners: &[u16],
     places: &[u16],
     n: usize,
-    rows: &mut [u16],
+    rows: &[u16],
+    m: usize,
     placed: &mut [u16],
 ) -> Plan
-    requires { ⌜ Sound (now lines) (now bounds) (now kinds) (now used) × Slotted (now kinds) (now slots) ×
-        Holds (now places) n (placesIn (now kinds)) × Wide (now rows) (now placed) ⌝ }
-    ensures { λ r. ⌜ outcome r (now (slots .entry)) (now (used .exit)) (now (faults .exit)) (lent (now (places .entry)) (now (rows .exit))
-        (now (placed .exit))) ≡ named (placesIn (now (kinds .entry))) (now (lines .entry)) (now (bounds .entry)) (now (kinds .entry))
-        (now (slots .entry)) (now (used .entry)) (now (faults .entry)) (lent (now (places .entry)) (now (rows .entry)) (now (placed .entry))) ⌝ }
+    requires { ⌜ Keyed (now lines) (now bounds) (now kinds) (now args) (now used) (now keys) (now places) n ×
+        Hinted (now keys) (now hints) (now links) × Holds (now rows) m (equationRows (length (now lines)) (now bounds) (now kinds)) ×
+        Owned (ownSlots (length (now lines)) (now bounds) (now kinds) (resolved (now keys) (now kinds) (now args))) (now owners) ×
+        (mostStatements ≤ length (now placed)) ⌝ }
+    ensures { λ r. ⌜ outcome r (now (args .exit)) (now (used .exit)) (now (faults .exit)) (lent (now (places .entry)) (now (rows .entry))
+        (now (placed .exit))) ≡ tabled (placesIn (now (kinds .entry))) (now (lines .entry)) (now (bounds .entry)) (now (kinds .entry))
+        (resolved (keysIn (now (kinds .entry)) (now (args .entry))) (now (kinds .entry)) (now (args .entry))) (now (used .entry))
+        (now (faults .entry)) (lent (now (places .entry)) (now (rows .entry)) (now (placed .entry))) ⌝ }
 {
-    let flaws = report_nameless(lines, bounds, &places[..n], kinds, slots, &mut *faults);
-    if 0 < flaws {
-        return refusal(7, flaws);
+    let mut starts = [0u16; STATEMENTS + 1];
+    let walk = resolve(
+        lines,
+        bounds,
+        kinds,
+        keys,
+        hints,
+        links,
+        &places[..n],
+        owners,
+        &mut *args,
+        &mut starts,
+        &mut *used,
+    );
+    let w = walk.count;
+    if walk.flawed {
+        return check_names(
+            lines,
+            bounds,
+            kinds,
+            args,
+            &starts,
+            used,
+            w,
+            faults,
+            places,
+            n,
+            rows,
+            m,
+            placed,
+        );
     }
-    arrange(lines, bounds, kinds, slots, used, faults, n, rows, placed)
+    weigh(
+        lines,
+        bounds,
+        kinds,
+        args,
+        &starts,
+        used,
+        w,
+        faults,
+        n,
+        rows,
+        m,
+        placed,
+    )
 }
 
-// The names are resolved. Where none is flawed, no statement is.
+// The equations, and for each slot the one that assigns it.
 fn settle(
     lines: &[u16],
     bounds: &[u16],
@@ -182,21 +240,35 @@ fn settle(
         (resolved (keysIn (now (kinds .entry)) (now (args .entry))) (now (kinds .entry)) (now (args .entry))) (now (used .entry))
         (now (faults .entry)) (lent (now (places .entry)) (now (rows .entry)) (now (placed .entry))) ⌝ }
 {
-    if resolve(kinds, keys, hints, links, &places[..n], &mut *args) {
-        return check_names(
-            lines,
-            bounds,
-            kinds,
-            args,
-            used,
-            faults,
-            places,
-            n,
-            rows,
-            placed,
-        );
-    }
-    arrange(lines, bounds, kinds, args, used, faults, n, rows, placed)
+    let m = collect_rows(lines.len(), bounds, kinds, &mut *rows);
+    let mut owners = [0u16; STATEMENTS + 1];
+    note_owners(
+        &rows[..m],
+        bounds,
+        kinds,
+        keys,
+        hints,
+        links,
+        args,
+        &mut owners,
+    );
+    link(
+        lines,
+        bounds,
+        kinds,
+        args,
+        used,
+        faults,
+        keys,
+        hints,
+        links,
+        &owners,
+        places,
+        n,
+        rows,
+        m,
+        placed,
+    )
 }
 
 // 21.

@@ -1,8 +1,16 @@
 -- Only a store assigns a slot.
+use native.Mathlib.Omega.{arith}
 use borrow.Author.Needs.{needs}
+use Rattle.model.specs.Places.{resolved}
+use Rattle.model.proofs.Finding.{place-le}
+use Rattle.model.proofs.Naming.{slot-stored}
 use Rattle.model.proofs.Rowing.{last-kind, assigned-store, assigned-none}
 use Rattle.model.proofs.equations.assigned_slot.Statement.{statement}
 use Rattle.model.proofs.equations.assigned_slot.Tie as tie
+
+-- where the function begins, from where the last kind is read
+abbrev S : tie.After-byte-at → tie.Start
+S k = k .before .before .before .before .before .before .before .before
 
 last-of-requires : tie.Need-last-of-requires
 last-of-requires c κs = search needs
@@ -13,20 +21,43 @@ byte-at-requires c κs = search needs
 word-at-requires : tie.Need-word-at-requires
 word-at-requires c κs = search needs
 
+find-requires : tie.Need-find-requires
+find-requires c κs = search needs
+
+add-result : tie.Need-add-result
+add-result c =
+    let a = S (c .before .before .before) in
+    omega (arith, c .find .ensures, place-le (c .before .word-at .result) (a .args .keys .now), a .pre .2)
+
 returns : tie.Need-returns
 returns c =
-    let kind = c .before .before in
-    let s = kind .before .before .before .before .before .args in
-    let last = last-kind (s .bounds .now) (s .kinds .now) (s .j) (kind .byte-at .ensures) (kind .before .last-of .ensures) in
-    assigned-store (s .bounds .now) (s .kinds .now) (s .j) (s .slots .now) last (c .before .if1 .taken) (c .word-at .ensures) (kind .before .last-of .ensures)
+    let kind = c .before .before .before in
+    let s = S kind in
+    let a = s .args in
+    let slots = resolved (a .keys .now) (a .kinds .now) (a .args .now) in
+    let last = last-kind (a .bounds .now) (a .kinds .now) (a .j) (kind .byte-at .ensures) (kind .before .last-of .ensures) in
+    let store = c .before .before .if1 .taken in
+    let slot =
+    slot-stored (a .keys .now) (a .kinds .now) (a .args .now) (kind .before .last-of .result) (s .pre .3) (kind .byte-at .ensures) store
+    (c .before .word-at .ensures) (c .find .ensures) in
+    assigned-store (a .bounds .now) (a .kinds .now) (a .j) slots last store slot (kind .before .last-of .ensures)
 
 returns-2 : tie.Need-returns-2
 returns-2 c =
     let kind = c .before in
-    let s = kind .before .before .before .before .before .args in
-    let last = last-kind (s .bounds .now) (s .kinds .now) (s .j) (kind .byte-at .ensures) (kind .before .last-of .ensures) in
-    assigned-none (s .bounds .now) (s .kinds .now) (s .j) (s .slots .now) last (c .if1 .left)
+    let a = S kind .args in
+    let slots = resolved (a .keys .now) (a .kinds .now) (a .args .now) in
+    let last = last-kind (a .bounds .now) (a .kinds .now) (a .j) (kind .byte-at .ensures) (kind .before .last-of .ensures) in
+    assigned-none (a .bounds .now) (a .kinds .now) (a .j) slots last (c .if1 .left)
 
 pub assigned-slot-spec : {M : Type 1} → statement M
 assigned-slot-spec =
-    tie.close (tie.spec last-of-requires byte-at-requires word-at-requires returns returns-2)
+    tie.close
+    (tie.spec
+    last-of-requires
+    byte-at-requires
+    word-at-requires
+    find-requires
+    add-result
+    returns
+    returns-2)

@@ -3,21 +3,23 @@ use Prim.Native.Nat.{_-_}
 use native.Mathlib.Omega.{arith}
 use borrow.Author.Needs.{needs}
 use lib.ListN.{length-map}
-use Rattle.model.specs.Places.{assignedSlot, assignedSlots}
+use Rattle.model.specs.Places.{resolved, assignedSlot, assignedSlots}
 use Rattle.model.proofs.Owning.{Owning, owning-start, assigned-at, owning-next, owning-last}
 use Rattle.model.proofs.equations.note_owners.Statement.{statement}
 use Rattle.model.proofs.equations.note_owners.Tie as tie
 
 abbrev Inv-loop : tie.InvT-loop
-Inv-loop rows bounds kinds slots owners₀ r₀ owners r = Owning (assignedSlots rows bounds kinds slots) r owners
+Inv-loop rows bounds kinds keys hints links args owners₀ r₀ owners r =
+    Owning (assignedSlots rows bounds kinds (resolved keys kinds args)) r owners
 
 abbrev μ-loop : tie.MeasureT-loop
-μ-loop rows bounds kinds slots owners₀ r₀ owners r = r
+μ-loop rows bounds kinds keys hints links args owners₀ r₀ owners r = r
 
 loop-holds : tie.Need-loop-holds Inv-loop μ-loop
 loop-holds c =
-    let s = c .before .before .before .before .before in
-    owning-start (s .args .rows .now) (s .args .bounds .now) (s .args .kinds .now) (s .args .slots .now) (s .pre .1)
+    let s = c .before .before .before .before .before .before .before .before in
+    let a = s .args in
+    owning-start (a .rows .now) (a .bounds .now) (a .kinds .now) (resolved (a .keys .now) (a .kinds .now) (a .args .now)) (s .pre .1)
 
 sub-short-at : tie.Need-sub-short-at Inv-loop μ-loop
 sub-short-at c = search needs
@@ -31,9 +33,10 @@ assigned-slot-requires c κs = search needs
 put-short-requires : tie.Need-put-short-requires Inv-loop μ-loop
 put-short-requires c κs =
     let at = c .before .before .before .before in
-    let s = at .before .before .before .before .before .before in
+    let s = at .before .before .before .before .before .before .before .before .before in
     let a = s .args in
-    omega (arith, s .pre .0, at .loop .inv .within, length-map (a .rows .now) (assignedSlot (a .bounds .now) (a .kinds .now) (a .slots .now)))
+    let slots = resolved (a .keys .now) (a .kinds .now) (a .args .now) in
+    omega (arith, s .pre .0, at .loop .inv .within, length-map (a .rows .now) (assignedSlot (a .bounds .now) (a .kinds .now) slots))
 
 sub-r : tie.Need-sub-r Inv-loop μ-loop
 sub-r c = search needs
@@ -46,10 +49,11 @@ loop-again c =
     let slot = c .before .before .before .before in
     let test = slot .before .before in
     let at = test .before in
-    let s = at .before .before .before .before .before .before .args in
-    let as-many = length-map (s .rows .now) (assignedSlot (s .bounds .now) (s .kinds .now) (s .slots .now)) in
+    let s = at .before .before .before .before .before .before .before .before .before .args in
+    let slots = resolved (s .keys .now) (s .kinds .now) (s .args .now) in
+    let as-many = length-map (s .rows .now) (assignedSlot (s .bounds .now) (s .kinds .now) slots) in
     let assigned =
-    assigned-at (s .rows .now) (s .bounds .now) (s .kinds .now) (s .slots .now) (at .loop .r - 1)
+    assigned-at (s .rows .now) (s .bounds .now) (s .kinds .now) slots (at .loop .r - 1)
     (omega (arith, at .loop .inv .within, test .loop-test .taken, as-many)) (slot .assigned-slot .ensures) (slot .before .short-at .ensures .0) in
     owning-next (at .loop .inv) (test .loop-test .taken) assigned (c .before .before .put-short .ensures)
 

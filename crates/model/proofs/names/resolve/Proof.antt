@@ -1,81 +1,102 @@
--- The drafts before the present one are resolved, and those that are flawed are noted.
+-- The statements before the present one are gone over, and where the uses of each equation among them begin is stored.
 use Prim.Native.Nat.{_-_}
-use mathlib.Core.Path.{sym, _∙_}
-use mathlib.Core.Logic.{⊎-elim}
+use mathlib.Core.Path.{refl}
 use native.Mathlib.Omega.{arith}
 use borrow.Author.Needs.{needs}
-use lib.ListN.{length, getD}
-use Rattle.model.proofs.Finding.{place-le}
-use Rattle.model.proofs.Naming.{slot-named, Resolving, resolving-first, resolving-flawed, resolving-clear, resolving-other, resolving-last}
+use lib.ListN.{length}
+use Rattle.model.proofs.Linking.{Stating, stating-first, stating-walked, stating-few, stating-next, stating-last}
 use Rattle.model.proofs.names.resolve.Statement.{statement}
 use Rattle.model.proofs.names.resolve.Tie as tie
 
 abbrev Inv-loop : tie.InvT-loop
-Inv-loop kinds keys hints links places args₀ flawed₀ i₀ args flawed i = Resolving keys kinds places args₀ flawed i args
+Inv-loop lines bounds kinds keys hints links places owners args₀ starts₀ used₀ walk₀ r₀ j₀ args starts used walk r j =
+    Stating lines bounds kinds keys places owners args₀ starts₀ used₀ walk r j args starts used
 
 abbrev μ-loop : tie.MeasureT-loop
-μ-loop kinds keys hints links places args₀ flawed₀ i₀ args flawed i = length kinds - i
+μ-loop lines bounds kinds keys hints links places owners args₀ starts₀ used₀ walk₀ r₀ j₀ args starts used walk r j = length lines - j
 
 loop-holds : tie.Need-loop-holds Inv-loop μ-loop
 loop-holds c =
-    let s = c .before .before .before .before .before .before .args in
-    resolving-first (s .keys .now) (s .kinds .now) (s .places .now) (s .args .now)
+    let s = c .before .before .before .before .before .before .before .before .before .before .before in
+    stating-first (s .args .places .now) (s .args .starts .now) (s .pre .1)
 
-shared-slice-read-kind : tie.Need-shared-slice-read-kind Inv-loop μ-loop
-shared-slice-read-kind c = search needs
+is-equation-requires : tie.Need-is-equation-requires Inv-loop μ-loop
+is-equation-requires c κs =
+    let at = c .before in
+    let s = at .before .before .before .before .before .before .before .before .before .before .before .before in
+    omega (arith, c .loop-test .taken, s .pre .1 .sound .few)
 
-is-named-requires : tie.Need-is-named-requires Inv-loop μ-loop
-is-named-requires c κs = search needs
+put-if-requires : tie.Need-put-if-requires Inv-loop μ-loop
+put-if-requires c κs =
+    let at = c .before .before .before in
+    let s = at .before .before .before .before .before .before .before .before .before .before .before .before in
+    let v = at .loop .inv in
+    (stating-few (s .args .places .now) (s .args .starts .now) (s .pre .1) v, omega (arith, v .few, v .within, s .pre .1 .sound .few))
 
-mul-find : tie.Need-mul-find Inv-loop μ-loop
-mul-find c = search needs
+short-at-requires : tie.Need-short-at-requires Inv-loop μ-loop
+short-at-requires c κs = search needs
 
-slice-read-find : tie.Need-slice-read-find Inv-loop μ-loop
-slice-read-find c = omega (arith, c .before .before .before .before .before .loop .inv .long)
+add-short-at : tie.Need-add-short-at Inv-loop μ-loop
+add-short-at c = search needs
 
-find-requires : tie.Need-find-requires Inv-loop μ-loop
-find-requires c κs = search needs
+short-at-requires-2 : tie.Need-short-at-requires-2 Inv-loop μ-loop
+short-at-requires-2 c κs = search needs
 
-add-slot : tie.Need-add-slot Inv-loop μ-loop
-add-slot c =
-    let at = c .before .before .before .before .before .before in
-    let s = at .before .before .before .before .before .before .before in
-    omega (arith, c .find .ensures, place-le (getD (at .loop .args) (at .loop .i) 0) (s .args .keys .now), s .pre .1)
+resolve-in-requires : tie.Need-resolve-in-requires Inv-loop μ-loop
+resolve-in-requires c κs =
+    let end = c .before .before in
+    let test = end .before .before .before .before .before .before .before in
+    let at = test .before in
+    let s = at .before .before .before .before .before .before .before .before .before .before .before .before in (
+      s .pre .0,
+      stating-walked (s .args .places .now) (s .args .starts .now) (s .pre .1) (at .loop .inv) (test .loop-test .taken) (end .before .short-at .ensures .0)
+          (end .short-at2 .ensures .0),
+    )
 
-mul-args : tie.Need-mul-args Inv-loop μ-loop
-mul-args c = search needs
-
-slice-write-args : tie.Need-slice-write-args Inv-loop μ-loop
-slice-write-args c = omega (arith, c .before .before .before .before .before .before .loop .inv .long)
-
-is-flawed-requires : tie.Need-is-flawed-requires Inv-loop μ-loop
-is-flawed-requires c κs = search needs
-
-add-i : tie.Need-add-i Inv-loop μ-loop
-add-i c = search needs
+add-j : tie.Need-add-j Inv-loop μ-loop
+add-j c =
+    let put = c .before .before .before .before .before .before .before .before .before .before .before in
+    let test = put .before .before .before in
+    let s = test .before .before .before .before .before .before .before .before .before .before .before .before .before in
+    omega (arith, test .loop-test .taken, s .pre .1 .sound .few)
 
 loop-less : tie.Need-loop-less Inv-loop μ-loop
 loop-less c = search needs
 
 loop-again : tie.Need-loop-again Inv-loop μ-loop
 loop-again c =
-    let named = sym (c .before .is-named .ensures) in
-    let at = c .before .before .before .before in
-    let s = at .before .before .before .before .before .before .before in
-    let v = at .loop .inv in
-    let h = c .before .before .before .loop-test .taken in
-    let ks = s .args .keys .now in
-    let kind = getD (s .args .kinds .now) (at .loop .i) 0 in
-    let arg = getD (at .loop .args) (at .loop .i) 0 in
-    ⊎-elim (λ w. resolving-flawed v h (s .pre .2) (slot-named ks kind arg (named ∙ w .0 .taken) (w .2 .ensures)) (w .3 .ensures) (w .4 .taken) (w .5) (w .6))
-    (⊎-elim (λ w. resolving-clear v h (s .pre .2) (slot-named ks kind arg (named ∙ w .0 .taken) (w .2 .ensures)) (w .3 .ensures) (w .4 .left) (w .5) (w .6))
-    (λ w. resolving-other v h (s .pre .2) (named ∙ w .0 .left) (w .1) (w .2))) (c .if1 .came)
+    let done = c .before .before .before .before in
+    let end = done .before .before .before in
+    let put = end .before .before .before .before in
+    let equation = put .before .before in
+    let test = equation .before in
+    let at = test .before in
+    let s = at .before .before .before .before .before .before .before .before .before .before .before .before in
+    stating-next (s .args .places .now) (s .args .starts .now) (s .pre .1) (at .loop .inv) (test .loop-test .taken) (equation .is-equation .ensures) refl
+    (put .put-if .ensures) (end .before .short-at .ensures .0) (end .short-at2 .ensures .0) (search needs) (done .resolve-in .ensures .0)
+    (done .resolve-in .ensures .1)
+
+put-short-requires : tie.Need-put-short-requires Inv-loop μ-loop
+put-short-requires c κs =
+    let at = c .before .before in
+    let s = at .before .before .before .before .before .before .before .before .before .before .before .before in
+    stating-few (s .args .places .now) (s .args .starts .now) (s .pre .1) (at .loop .inv)
 
 same-length : tie.Need-same-length Inv-loop μ-loop
-same-length c = search needs
+same-length c = c .before .before .before .before .before .loop .inv .linking .resolving .long
+
+same-length-2 : tie.Need-same-length-2 Inv-loop μ-loop
+same-length-2 c = search needs
+
+same-length-3 : tie.Need-same-length-3 Inv-loop μ-loop
+same-length-3 c = c .before .before .before .before .before .loop .inv .long-used
 
 returns : tie.Need-returns Inv-loop μ-loop
-returns c = resolving-last (c .before .loop .inv) (c .loop-test .left)
+returns c =
+    let test = c .before .before .before .before in
+    let at = test .before in
+    let s = at .before .before .before .before .before .before .before .before .before .before .before .before in
+    stating-last (s .args .places .now) (s .args .starts .now) (s .pre .1) (at .loop .inv) (test .loop-test .left) refl (c .before .before .put-short .ensures)
 
 pub resolve-spec : {M : Type 1} → statement M
 resolve-spec =
@@ -84,17 +105,17 @@ resolve-spec =
     Inv-loop
     μ-loop
     loop-holds
-    shared-slice-read-kind
-    is-named-requires
-    mul-find
-    slice-read-find
-    find-requires
-    add-slot
-    mul-args
-    slice-write-args
-    is-flawed-requires
-    add-i
+    is-equation-requires
+    put-if-requires
+    short-at-requires
+    add-short-at
+    short-at-requires-2
+    resolve-in-requires
+    add-j
     loop-less
     loop-again
+    put-short-requires
     same-length
+    same-length-2
+    same-length-3
     returns)

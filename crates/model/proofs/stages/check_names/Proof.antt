@@ -1,21 +1,19 @@
 -- Faults 22 and 23 stand, or the plan goes on.
 use borrow.Author.Needs.{needs}
 use Rattle.model.specs.Plan.{lent}
-use Rattle.model.proofs.Staging.{holds-front, named-fault, named-none}
+use Rattle.model.proofs.Staging.{holds-front, tested-fault, tested-none}
 use Rattle.model.proofs.stages.check_names.Statement.{statement}
 use Rattle.model.proofs.stages.check_names.Tie as tie
 
 -- where the function begins, from where the faults are reported
 abbrev S : tie.After-report-nameless → tie.Start
-S k =
-    let a = k .before .before .before .before .before .before .before in
-    a .before .before .before .before .before
+S k = k .before .before .before .before .before .before .before .before .before .before .before .before .before
 
 slice-aggregate-report-nameless : tie.Need-slice-aggregate-report-nameless
-slice-aggregate-report-nameless c = holds-front (c .before .before .before .before .before .before .before .before .before .before .pre .2) .long
+slice-aggregate-report-nameless c = holds-front (c .before .before .before .before .before .before .before .before .before .before .before .pre .2) .long
 
 report-nameless-requires : tie.Need-report-nameless-requires
-report-nameless-requires c κs = search needs
+report-nameless-requires c κs = c .before .before .before .before .before .before .before .before .before .before .before .before .pre .0 .few
 
 refusal-requires : tie.Need-refusal-requires
 refusal-requires c κs = search needs
@@ -28,11 +26,14 @@ returns c =
     let k = c .before .before .before .before in
     let s = S k in
     let a = s .args in
-    named-fault (a .lines .now) (a .bounds .now) (a .kinds .now) (a .slots .now) (a .used .now) (lent (a .places .now) (a .rows .now) (a .placed .now))
-    (s .pre .2) (k .report-nameless .ensures) (c .before .if1 .taken) (c .refusal .ensures)
+    let l = lent (a .places .now) (a .rows .now) (a .placed .now) in
+    tested-fault (a .lines .now) (a .bounds .now) (a .kinds .now) (a .slots .now) (a .used .now) l (s .pre .2) (k .report-nameless .ensures)
+    (c .before .if1 .taken) (c .refusal .ensures)
 
-arrange-requires : tie.Need-arrange-requires
-arrange-requires c κs = search needs
+weigh-requires : tie.Need-weigh-requires
+weigh-requires c κs =
+    let s = S (c .before .before .before .before .before) .pre in
+    (s .0, s .1)
 
 same-length-2 : tie.Need-same-length-2
 same-length-2 c = search needs
@@ -40,21 +41,16 @@ same-length-2 c = search needs
 same-length-3 : tie.Need-same-length-3
 same-length-3 c = search needs
 
-same-length-4 : tie.Need-same-length-4
-same-length-4 c = search needs
-
-same-length-5 : tie.Need-same-length-5
-same-length-5 c = search needs
-
 returns-2 : tie.Need-returns-2
 returns-2 c =
-    let done = c .before .before .before .before .before .before .before .before in
-    let test = done .before .before .before .before .before in
+    let done = c .before .before .before .before in
+    let test = done .before .before .before in
     let k = test .before .before .before in
     let s = S k in
     let a = s .args in
-    named-none (a .lines .now) (a .bounds .now) (a .kinds .now) (a .slots .now) (a .used .now) (lent (a .places .now) (a .rows .now) (a .placed .now))
-    (s .pre .2) (k .report-nameless .ensures) (test .if1 .left) (done .arrange .ensures (a .places .now))
+    let l = lent (a .places .now) (a .rows .now) (a .placed .now) in
+    tested-none (a .lines .now) (a .bounds .now) (a .kinds .now) (a .slots .now) (a .used .now) l (s .pre .2) (k .report-nameless .ensures)
+    (test .if1 .left) (done .weigh .ensures (a .places .now))
 
 pub check-names-spec : {M : Type 1} → statement M
 check-names-spec =
@@ -65,9 +61,7 @@ check-names-spec =
     refusal-requires
     same-length
     returns
-    arrange-requires
+    weigh-requires
     same-length-2
     same-length-3
-    same-length-4
-    same-length-5
     returns-2)

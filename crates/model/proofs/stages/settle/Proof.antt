@@ -1,33 +1,57 @@
--- Each name has its slot. Where a name is flawed, the statements are looked through.
+-- The equations are held in an array, and the owners of their slots are noted.
+use mathlib.Core.Path.{refl}
 use native.Mathlib.Omega.{arith}
 use borrow.Author.Needs.{needs}
-use Rattle.model.specs.Plan.{lent}
-use Rattle.model.proofs.Staging.{holds-front, keyed-count, keyed-slotted, settled, settled-clear}
+use lib.ListN.{length}
+use Rattle.model.specs.Places.{keysIn, resolved, equationRows}
+use Rattle.model.specs.Working.{Holds}
+use Rattle.model.proofs.Staging.{rows-few, holds-put, holds-front, holds-few, keyed-count, named-by}
 use Rattle.model.proofs.stages.settle.Statement.{statement}
 use Rattle.model.proofs.stages.settle.Tie as tie
 
--- where the function begins, from where the names are resolved
-abbrev S : tie.After-resolve → tie.Start
+-- where the function begins, from where the equations are written
+abbrev S : tie.After-collect-rows → tie.Start
 S k =
-    let a = k .before .before .before .before .before .before .before .before in
+    let a = k .before .before .before .before .before .before .before in
     a .before .before .before .before .before .before .before
 
-slice-aggregate-resolve : tie.Need-slice-aggregate-resolve
-slice-aggregate-resolve c =
-    let a = c .before .before .before .before .before .before .before in
-    holds-front (a .before .before .before .before .before .before .pre .0 .placed) .long
+-- they are held
+held : (k : tie.After-collect-rows) → Holds (k .collect-rows .last .1 .1 .1 .0) (k .collect-rows .result)
+    (equationRows (length (S k .args .lines .now)) (S k .args .bounds .now) (S k .args .kinds .now))
+held k =
+    let s = S k in
+    let rows = k .collect-rows .ensures in
+    let few = rows-few (length (s .args .lines .now)) (s .args .bounds .now) (s .args .kinds .now) in
+    holds-put rows (omega (arith, few, rows .behind, s .pre .0 .sound .few)) (s .pre .2 .rows-room)
 
-resolve-requires : tie.Need-resolve-requires
-resolve-requires c κs =
-    let a = c .before .before .before .before .before .before .before .before in
-    let s = a .before .before .before .before .before .before .pre in
-    (s .1, omega (arith, keyed-count (s .0), s .0 .few), s .0 .wide)
+collect-rows-requires : tie.Need-collect-rows-requires
+collect-rows-requires c κs = c .before .before .before .before .before .before .before .before .before .before .before .before .before .pre .0 .sound .few
 
-check-names-requires : tie.Need-check-names-requires
-check-names-requires c κs =
-    let k = c .before .before .before .before .before .before .before .before in
+slice-reshare-prefix-note-owners : tie.Need-slice-reshare-prefix-note-owners
+slice-reshare-prefix-note-owners c = held (c .before .before) .room
+
+slice-aggregate-note-owners : tie.Need-slice-aggregate-note-owners
+slice-aggregate-note-owners c = holds-front (held (c .before .before .before)) .long
+
+slice-aggregate-note-owners-2 : tie.Need-slice-aggregate-note-owners-2
+slice-aggregate-note-owners-2 c = search needs
+
+note-owners-requires : tie.Need-note-owners-requires
+note-owners-requires c κs =
+    let k = c .before .before .before .before .before in
     let s = S k .pre in
-    (s .0 .sound, keyed-slotted (s .0) (k .resolve .ensures), s .0 .placed, s .2)
+    (holds-few (held k), refl, s .1, omega (arith, keyed-count (s .0), s .0 .few), s .0 .wide)
+
+slice-aggregate-link : tie.Need-slice-aggregate-link
+slice-aggregate-link c = search needs
+
+link-requires : tie.Need-link-requires
+link-requires c κs =
+    let owned = c .before .before .before .before .before .before .before in
+    let k = owned .before .before .before .before .before .before in
+    let s = S k .pre in
+    let front = held k .front in
+    (s .0, s .1, held k, (rw front at (owned .note-owners .ensures)), s .2 .order-room)
 
 same-length : tie.Need-same-length
 same-length c = search needs
@@ -47,58 +71,26 @@ same-length-5 c = search needs
 returns : tie.Need-returns
 returns c =
     let done = c .before .before .before .before .before .before .before .before in
-    let k = done .before .before .before .before .before .before .before .before .before in
-    let s = S k in
-    let l = lent (s .args .places .now) (s .args .rows .now) (s .args .placed .now) in
-    settled (s .pre .0) (k .resolve .ensures) (s .args .faults .now) l (done .check-names .ensures)
-
-arrange-requires : tie.Need-arrange-requires
-arrange-requires c κs =
-    let k = c .before .before .before .before .before .before .before .before in
-    let s = S k .pre in
-    (s .0 .sound, keyed-slotted (s .0) (k .resolve .ensures), s .2)
-
-same-length-6 : tie.Need-same-length-6
-same-length-6 c = search needs
-
-same-length-7 : tie.Need-same-length-7
-same-length-7 c = search needs
-
-same-length-8 : tie.Need-same-length-8
-same-length-8 c = search needs
-
-same-length-9 : tie.Need-same-length-9
-same-length-9 c = search needs
-
-same-length-10 : tie.Need-same-length-10
-same-length-10 c = search needs
-
-returns-2 : tie.Need-returns-2
-returns-2 c =
-    let done = c .before .before .before .before .before .before .before .before in
-    let test = done .before .before .before .before .before .before in
-    let k = test .before .before .before in
-    let s = S k in
-    let l = lent (s .args .places .now) (s .args .rows .now) (s .args .placed .now) in
-    settled-clear (s .pre .0) (k .resolve .ensures) (s .args .faults .now) l (test .if1 .left) (done .arrange .ensures (s .args .places .now))
+    let k = done .before .before .before .before .before .before .before .before .before .before .before .before .before .before in
+    let a = S k .args in
+    let slots = resolved (keysIn (a .kinds .now) (a .args .now)) (a .kinds .now) (a .args .now) in
+    named-by (a .lines .now) (a .bounds .now) (a .kinds .now) slots (a .used .now) (a .faults .now) (a .places .now) (a .placed .now)
+    (k .collect-rows .ensures) (done .link .ensures)
 
 pub settle-spec : {M : Type 1} → statement M
 settle-spec =
     tie.close
     (tie.spec
-    slice-aggregate-resolve
-    resolve-requires
-    check-names-requires
+    collect-rows-requires
+    slice-reshare-prefix-note-owners
+    slice-aggregate-note-owners
+    slice-aggregate-note-owners-2
+    note-owners-requires
+    slice-aggregate-link
+    link-requires
     same-length
     same-length-2
     same-length-3
     same-length-4
     same-length-5
-    returns
-    arrange-requires
-    same-length-6
-    same-length-7
-    same-length-8
-    same-length-9
-    same-length-10
-    returns-2)
+    returns)
