@@ -24,7 +24,8 @@ use Rattle.model.proofs.Clean.{order-good}
 use Rattle.model.specs.Definitions.{Def, definitions, keys, equationCount}
 use Rattle.model.specs.Faults.{faults21, nameFaults, faults24, orElse, modelFaults, orderOf, usesIn as uses}
 use Rattle.model.specs.Places.{keysIn, placesIn, doubles, resolved, nameless, equationRows, assignedSlots, usedIn, startsFrom, loopAt, loops}
-use Rattle.model.specs.Plan.{Lent, lent, Outcome, outcome, refused, faulted, some, fit, closed, weighed, ordered, named, distinct, sheeted, planned}
+use Rattle.model.specs.Plan.{Lent, lent, Outcome, outcome, refused, faulted, some, fit, closed, weighed, tested, tabled, named, distinct}
+use Rattle.model.specs.Plan.{sheeted, planned}
 use Rattle.translator.specs.Working.{zeros, blank, held}
 use Rattle.model.proofs.Meant.{keys-meant, doubles-meant, names-meant, rows-meant, order-meant, loops-meant}
 
@@ -77,6 +78,9 @@ module _ (ss : List Numbered) (kinds args lines bounds : List ℕ) (laid : Laid 
   abbrev placed : Lent
   placed = lent (held places) zeros zeros
 
+  abbrev ruled : Lent
+  ruled = lent (held places) (held rows) zeros
+
   abbrev filled : Lent
   filled = lent (held places) (held rows) (held (orderOf ds))
 
@@ -104,8 +108,9 @@ module _ (ss : List Numbered) (kinds args lines bounds : List ℕ) (laid : Laid 
     some-cons f fs = lt-ltb 0 (length (f ∷ fs)) (omega arith)
 
     -- 24: fewer are placed than there are, and these are the faults; or all are, and there is none
-    by-loops : faults21 [] ss ≡ [] → nameFaults ds ds ≡ [] → Conclusion (ordered (length places) lines bounds kinds slots used faults placed)
-    unfolding ordered weighed closed modelFaults
+    by-loops : faults21 [] ss ≡ [] → nameFaults ds ds ≡ []
+        → Conclusion (weighed rows (length places) lines bounds kinds slots (sets used 0 table) faults ruled)
+    unfolding weighed closed modelFaults
     by-loops e g =
         rw (order-meant ss kinds args lines bounds laid e) (go (ltb (length (orderOf ds)) (length rows)) refl)
       where
@@ -127,14 +132,15 @@ module _ (ss : List Numbered) (kinds args lines bounds : List ℕ) (laid : Laid 
 
     -- 22 and 23
     by-names : faults21 [] ss ≡ [] → Conclusion (named places lines bounds kinds slots used faults placed)
-    unfolding named modelFaults
+    unfolding named tabled tested modelFaults
     by-names e = go (nameless places lines bounds kinds slots) refl
       where
         go : (fs : List Fault) → nameless places lines bounds kinds slots ≡ fs
-            → Conclusion (cond (some fs) (faulted fs slots used faults placed) (ordered (length places) lines bounds kinds slots used faults placed))
+            → Conclusion (cond (some fs) (faulted fs slots (sets used 0 table) faults ruled)
+            (weighed rows (length places) lines bounds kinds slots (sets used 0 table) faults ruled))
         go [] q = by-loops e (sym (names-meant ss kinds args lines bounds laid e) ∙ q)
         go (f ∷ fs) q =
-            rw (some-cons f fs) (flawed-by f fs slots used placed (rw (e, sym (names-meant ss kinds args lines bounds laid e) ∙ q)))
+            rw (some-cons f fs) (flawed-by f fs slots (sets used 0 table) ruled (rw (e, sym (names-meant ss kinds args lines bounds laid e) ∙ q)))
 
     -- 21
     by-doubles : Conclusion (distinct lines bounds kinds args used faults placed)
