@@ -18,10 +18,10 @@ use Rattle.model.specs.Places.{defines, isNamed, resolvedAt, resolved, b
 use Rattle.model.specs.Plan.{ownSlots}
 use Rattle.model.specs.Working.{Put, flawedBy, usedOwner, usedHere, usedFrom, Resolved, Resolving, Linking, Walked, Linkable, Tabled, Linked}
 use Rattle.model.specs.declared.names.Walk.{Walk}
-use Rattle.model.proofs.Collecting.{only-length}
+use Rattle.model.proofs.Collecting.{only-length, rises-to}
 use Rattle.model.proofs.Naming.{resolving-first, resolving-flawed, resolving-clear, resolving-other, resolving-last, slot-here}
 use Rattle.model.proofs.Owning.{used-same}
-use Rattle.model.proofs.Tabling.{rises-to, ends-within, beginAt, whole-uses, whole-begin}
+use Rattle.model.proofs.Tabling.{ends-within, beginAt, whole-uses, whole-begin}
 
 -- ---- one part more is written behind a row
 gather-next : {A : Type 0} (f : ℕ → List A) (i : ℕ) → gather f (i + 1) 0 ≡ gather f i 0 ++ f i

@@ -2,9 +2,7 @@
 use Prim.Native.Nat.{ℕ, zero, suc, _+_, _-_, _*_, _≤_, _<_}
 use mathlib.Core.Path.{_≡_, refl, sym, ap, ap₂, _∙_}
 use mathlib.Core.Bool.{Bool, true, false, cond, _||_}
-use mathlib.Core.Logic.{⊎-elim}
 use mathlib.Core.List.{List, [], _∷_}
-use native.Mathlib.Numerals.{add-one, lt-of-le-of-ne}
 use native.Mathlib.Omega.{arith}
 use borrow.Author.Tests.{ltb-false, leb-true, eqb-true, not-true, lt-ltb, le-ltb}
 use lib.Dec.{eqb, leb}
@@ -13,7 +11,7 @@ use lib.Seq.{sets, sets-eq, length-sets, length-take-le, take-append-seam}
 use Rattle.limits.specs.Limits.{mostStatements, mostDefinitions, textBytes, faultBytes}
 use Rattle.laws.specs.Lists.{concat-map}
 use Rattle.laws.specs.Places.{anyIn, onlyIf}
-use Rattle.laws.proofs.Tests.{not-both, and-true, eq-or-ne}
+use Rattle.laws.proofs.Tests.{not-both, and-true}
 use Rattle.laws.proofs.Runs.{held as stands}
 use Rattle.laws.proofs.Gathers.{any-none, none-any, gather-none, gather-short}
 use Rattle.sheet.specs.Sheet.{Fault, faultList}

@@ -2,51 +2,25 @@
 use Prim.Native.Nat.{ℕ, zero, suc, _+_, _-_, _≤_, _<_}
 use mathlib.Core.Path.{_≡_, refl, sym, ap, ap₂, _∙_}
 use mathlib.Core.Bool.{Bool, true, false}
-use mathlib.Core.Logic.{⊎-elim}
 use mathlib.Core.List.{List, [], _∷_, _++_, append-assoc, append-nil}
-use native.Mathlib.Numerals.{add-one, lt-of-le-of-ne}
+use native.Mathlib.Numerals.{add-one}
 use native.Mathlib.Omega.{arith}
 use borrow.Author.Tests.{ltb-true}
 use lib.Dec.{eqb, ltb}
 use lib.ListN.{length, getD, length-map, length-append}
 use Rattle.limits.specs.Limits.{mostStatements}
 use Rattle.laws.specs.Places.{gather, onlyIf}
-use Rattle.laws.proofs.Tests.{cond-ind, eq-or-ne}
+use Rattle.laws.proofs.Tests.{cond-ind}
+use Rattle.laws.proofs.Members.{Below, below-append, below-gather}
 use Rattle.laws.proofs.Gathers.{any-none, gather-add, gather-none, gather-short}
 use Rattle.order.specs.Table.{Fit}
 use Rattle.model.specs.Definitions.{placeIn}
 use Rattle.model.specs.Places.{begins, ends, anyOf, isEquation, equationRows, assignedSlot, assignedSlots, usedBy, usedAt, usedOfRow, usedIn, startsFrom}
 use Rattle.model.specs.Plan.{isUse}
 use Rattle.model.specs.Working.{Rises, Sound}
-use Rattle.model.proofs.Collecting.{only-length}
-
--- ---- each number of a list is below n
-abbrev Below : ℕ → List ℕ → Type 0
-Below n l = (k : ℕ) → k < length l → getD l k 0 < n
-
-below-append : (n : ℕ) (x y : List ℕ) → Below n x → Below n y → Below n (x ++ y)
-below-append n [] y p q k h = q k h
-below-append n (a ∷ x) y p q zero h = p 0 (omega arith)
-below-append n (a ∷ x) y p q (suc k) h = below-append n x y (λ i l. p (suc i) (omega arith)) q k (omega arith)
-
-below-gather : (n : ℕ) (f : ℕ → List ℕ) → ((i : ℕ) → Below n (f i)) → (k i : ℕ) → Below n (gather f k i)
-unfolding gather
-below-gather n f p zero i = λ j h. absurd (omega arith)
-below-gather n f p (suc k) i = below-append n (f i) (gather f k (suc i)) (p i) (below-gather n f p k (suc i))
+use Rattle.model.proofs.Collecting.{only-length, rises-to}
 
 -- a statement ends within the drafts
-pub rises-to : (bounds : List ℕ) (n : ℕ) → Rises bounds n → (j : ℕ) → j ≤ n → begins bounds j ≤ begins bounds n
-rises-to bounds zero r j h = let e : j ≡ 0 = omega arith in rw e (omega arith)
-rises-to bounds (suc n) r j h =
-    ⊎-elim (λ (e : j ≡ suc n). rw e (omega arith))
-    (λ (d : j ≡ suc n → ⊥).
-    omega (
-      arith,
-      rises-to bounds n (record { rise = λ i l. r .rise i (omega arith) }) j (omega (arith, lt-of-le-of-ne h d)),
-      r .rise n (omega arith),
-      ap (begins bounds) (add-one n),
-    )) (eq-or-ne j (suc n))
-
 pub ends-within : {lines bounds kinds used : List ℕ} → Sound lines bounds kinds used → (j : ℕ) → j < length lines → ends bounds j ≤ length kinds
 ends-within {lines} {bounds} s j h = omega (arith, rises-to bounds (length lines) (s .rises) (j + 1) (omega arith), s .whole)
 

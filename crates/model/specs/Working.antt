@@ -13,9 +13,10 @@ use Rattle.laws.specs.Counts.{has}
 use Rattle.sheet.specs.Sheet.{Fault, faultList}
 use Rattle.model.specs.Definitions.{placeIn}
 use Rattle.model.specs.Faults.{again, faultIf}
-use Rattle.model.specs.Plan.{Shaped, ownSlots, ownUses}
+use Rattle.model.specs.Plan.{placeAt, Shaped, ownSlots, ownUses}
 use Rattle.model.specs.declared.names.Walk.{Walk}
-use Rattle.model.specs.Places.{defines, asks, begins, ends, keysIn, placesIn, resolved, homeOf, equationRows, assignedSlots, usedIn, startsFrom}
+use Rattle.model.specs.Places.{defines, asks, begins, ends, definedAt, keysIn, placesIn, resolved, homeOf}
+use Rattle.model.specs.Places.{equationRows, assignedSlots, usedIn, startsFrom}
 
 -- ---- rows that are written
 
@@ -44,6 +45,14 @@ pub record Sound (lines bounds kinds used : List ℕ) : Type 0 where
   pub first : begins bounds 0 ≡ 0
   pub whole : begins bounds (length lines) ≡ length kinds
   pub shaped : Shaped bounds kinds (length lines)
+
+-- n statements follow each other from draft 0 to the last, and have the form of statements
+pub record Statements (bounds kinds : List ℕ) (n : ℕ) : Type 0 where
+  pub few : n ≤ mostStatements
+  pub rises : Rises bounds n
+  pub first : begins bounds 0 ≡ 0
+  pub whole : begins bounds n ≡ length kinds
+  pub shaped : Shaped bounds kinds n
 
 -- an array holds a row of n numbers at its front
 pub record Holds (array : List ℕ) (n : ℕ) (row : List ℕ) : Type 0 where
@@ -74,6 +83,19 @@ pub record Keyed (lines bounds kinds args used keys places : List ℕ) (n : ℕ)
 pub record Noted (kind key place d r : ℕ) (keys keys′ places places′ : List ℕ) : Type 0 where
   pub named : Put (onlyIf (defines kind) key) d r keys keys′
   pub placed : Put (onlyIf (defines kind) place) d r places places′
+
+-- the k drafts from place i on noted so
+pub record NotedAll (kinds args : List ℕ) (k i d r : ℕ) (keys keys′ places places′ : List ℕ) : Type 0 where
+  pub named : Put (gather (definedAt kinds args) k i) d r keys keys′
+  pub placed : Put (gather (placeAt kinds) k i) d r places places′
+
+-- statement j is one of n that have the form of statements, and d definitions stand before it
+pub record Next (bounds kinds : List ℕ) (j d : ℕ) : Type 0 where
+  pub n : ℕ
+  pub few : n ≤ mostStatements
+  pub inside : j < n
+  pub shaped : Shaped bounds kinds n
+  pub before : d ≤ begins bounds j
 
 -- ---- a name is found by hint and links: the hint of a remainder leads to the first key that has it, the link of a key to the next that
 -- has the same

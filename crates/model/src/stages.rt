@@ -380,7 +380,7 @@ pub(crate) fn define(
         (now (faults .entry)) (lent (now (places .entry)) (now (rows .entry)) (now (placed .entry))) ⌝ }
 {
     let mut keys = [0u64; STATEMENTS];
-    let n = collect(kinds, args, &mut keys, &mut *places);
+    let n = collect(lines.len(), bounds, kinds, args, &mut keys, &mut *places);
     if DEFINITIONS < n {
         return refusal(6, 0);
     }

@@ -1,33 +1,31 @@
--- The loop goes over the drafts.
+-- The loop goes over the statements.
 use Prim.Native.Nat.{_-_}
 use borrow.Author.Needs.{needs}
-use lib.ListN.{length}
-use Rattle.model.proofs.Collecting.{Collecting, collecting-first, collecting-next, collecting-last}
+use Rattle.model.proofs.Collecting.{Telling, telling-first, telling-next, telling-last}
 use Rattle.model.proofs.collect.collect.Statement.{statement}
 use Rattle.model.proofs.collect.collect.Tie as tie
 
 abbrev Inv-loop : tie.InvT-loop
-Inv-loop kinds args keys₀ places₀ d₀ i₀ keys places d i = Collecting kinds args keys₀ places₀ d i keys places
+Inv-loop n bounds kinds args keys₀ places₀ d₀ j₀ keys places d j = Telling n bounds kinds args keys₀ places₀ d j keys places
 
 abbrev μ-loop : tie.MeasureT-loop
-μ-loop kinds args keys₀ places₀ d₀ i₀ keys places d i = length kinds - i
+μ-loop n bounds kinds args keys₀ places₀ d₀ j₀ keys places d j = n - j
 
 loop-holds : tie.Need-loop-holds Inv-loop μ-loop
 loop-holds c =
-    let s = c .before .before .before .before .args in
-    collecting-first (s .kinds .now) (s .args .now) (s .keys .now) (s .places .now)
+    let begin = c .before .before .before .before .before in
+    let s = begin .args in
+    telling-first (begin .pre) (s .args .now) (s .keys .now) (s .places .now)
 
-shared-slice-read-note : tie.Need-shared-slice-read-note Inv-loop μ-loop
-shared-slice-read-note c = search needs
+note-statement-requires : tie.Need-note-statement-requires Inv-loop μ-loop
+note-statement-requires c κs =
+    let test = c .before .before in
+    let t = test .before .before .before .before .before .before .before .pre in
+    let v = test .before .loop .inv in
+    record { n = _; few = t .few; inside = test .loop-test .taken; shaped = t .shaped; before = v .told .few }
 
-word-at-requires : tie.Need-word-at-requires Inv-loop μ-loop
-word-at-requires c κs = search needs
-
-note-requires : tie.Need-note-requires Inv-loop μ-loop
-note-requires c κs = search needs
-
-add-i : tie.Need-add-i Inv-loop μ-loop
-add-i c = search needs
+add-j : tie.Need-add-j Inv-loop μ-loop
+add-j c = search needs
 
 loop-less : tie.Need-loop-less Inv-loop μ-loop
 loop-less c = search needs
@@ -35,17 +33,18 @@ loop-less c = search needs
 loop-again : tie.Need-loop-again Inv-loop μ-loop
 loop-again c =
     let noting = c .before .before .before .before in
-    let reading = noting .before .before .before in
-    collecting-next (reading .before .before .before .loop .inv) (reading .before .before .loop-test .taken) (reading .word-at .ensures) (noting .note .ensures)
+    let test = noting .before .before .before in
+    let loop = test .before in
+    telling-next (loop .before .before .before .before .before .before .pre) (loop .loop .inv) (test .loop-test .taken) (noting .note-statement .ensures)
 
 same-length : tie.Need-same-length Inv-loop μ-loop
-same-length c = c .before .loop .inv .named .long
+same-length c = c .before .loop .inv .told .named .long
 
 same-length-2 : tie.Need-same-length-2 Inv-loop μ-loop
-same-length-2 c = c .before .loop .inv .placed .long
+same-length-2 c = c .before .loop .inv .told .placed .long
 
 returns : tie.Need-returns Inv-loop μ-loop
-returns c = collecting-last (c .before .loop .inv) (c .loop-test .left)
+returns c = telling-last (c .before .before .before .before .before .before .before .pre) (c .before .loop .inv) (c .loop-test .left)
 
 pub collect-spec : {M : Type 1} → statement M
 collect-spec =
@@ -54,10 +53,8 @@ collect-spec =
     Inv-loop
     μ-loop
     loop-holds
-    shared-slice-read-note
-    word-at-requires
-    note-requires
-    add-i
+    note-statement-requires
+    add-j
     loop-less
     loop-again
     same-length

@@ -1,0 +1,66 @@
+-- The loop goes over the drafts.
+use Prim.Native.Nat.{_-_}
+use borrow.Author.Needs.{needs}
+use Rattle.model.proofs.Collecting.{Collecting, collecting-first, collecting-next, collecting-last}
+use Rattle.model.proofs.collect.note_run.Statement.{statement}
+use Rattle.model.proofs.collect.note_run.Tie as tie
+
+abbrev Inv-loop : tie.InvT-loop
+Inv-loop kinds args from end keys₀ places₀ at d₀ i₀ keys places d i = Collecting kinds args end from at keys₀ places₀ d i keys places
+
+abbrev μ-loop : tie.MeasureT-loop
+μ-loop kinds args from end keys₀ places₀ at d₀ i₀ keys places d i = end - i
+
+loop-holds : tie.Need-loop-holds Inv-loop μ-loop
+loop-holds c =
+    let begin = c .before .before .before .before in
+    let s = begin .args in
+    collecting-first (s .kinds .now) (s .args .now) (s .end) (s .from) (s .at) (s .keys .now) (s .places .now) (begin .pre .1)
+
+byte-at-requires : tie.Need-byte-at-requires Inv-loop μ-loop
+byte-at-requires c κs = search needs
+
+word-at-requires : tie.Need-word-at-requires Inv-loop μ-loop
+word-at-requires c κs = search needs
+
+note-requires : tie.Need-note-requires Inv-loop μ-loop
+note-requires c κs = search needs
+
+add-i : tie.Need-add-i Inv-loop μ-loop
+add-i c = search needs
+
+loop-less : tie.Need-loop-less Inv-loop μ-loop
+loop-less c = search needs
+
+loop-again : tie.Need-loop-again Inv-loop μ-loop
+loop-again c =
+    let noting = c .before .before .before .before in
+    let word = noting .before .before .before in
+    let test = word .before .before in
+    collecting-next (test .before .loop .inv) (test .loop-test .taken) (word .before .byte-at .ensures) (word .word-at .ensures) (noting .note .ensures)
+
+same-length : tie.Need-same-length Inv-loop μ-loop
+same-length c = c .before .loop .inv .named .long
+
+same-length-2 : tie.Need-same-length-2 Inv-loop μ-loop
+same-length-2 c = c .before .loop .inv .placed .long
+
+returns : tie.Need-returns Inv-loop μ-loop
+returns c = collecting-last (c .before .loop .inv) (c .loop-test .left)
+
+pub note-run-spec : {M : Type 1} → statement M
+note-run-spec =
+    tie.close
+    (tie.spec
+    Inv-loop
+    μ-loop
+    loop-holds
+    byte-at-requires
+    word-at-requires
+    note-requires
+    add-i
+    loop-less
+    loop-again
+    same-length
+    same-length-2
+    returns)
