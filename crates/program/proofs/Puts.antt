@@ -1,11 +1,11 @@
 -- Laws of what is put: nothing, one part behind another, a record, what a loop writes.
-use Prim.Native.Nat.{ℕ, _+_, _-_, _≤_, _<_}
+use Prim.Native.Nat.{ℕ, _+_, _-_, _*_, _/_, _%_, _≤_, _<_}
 use mathlib.Core.Path.{_≡_, refl, sym, ap, _∙_}
 use mathlib.Core.List.{List, [], _∷_, _++_, append-assoc, append-nil}
 use native.Mathlib.Nat.{sub-zero}
 use native.Mathlib.Omega.{arith}
 use borrow.Rule.Slice.PartMut.{mid-len, post-is}
-use lib.ListN.{length, set, take, drop, length-append, drop-of-length-le}
+use lib.ListN.{length, take, drop, length-append, drop-of-length-le}
 use lib.Seq.{sets, length-sets, sets-eq}
 use Rattle.limits.specs.Limits.{recordBytes}
 use Rattle.laws.specs.Places.{gather}
@@ -14,7 +14,7 @@ use Rattle.laws.proofs.Gathers.{Writes, writes-next, writes-count, writes-all, 
 use Rattle.bits.specs.Low.{lowBytes}
 use Rattle.bits.proofs.Lows.{length-low}
 use Rattle.laws.specs.Put.{Put}
-use Rattle.program.specs.Written.{fieldBytes}
+use Rattle.program.specs.Written.{fieldBytes, headOf}
 
 -- where there is nothing to write, nothing is
 pub put-none : {what : List ℕ} (w : ℕ) (buf : List ℕ) → what ≡ [] → Put what w w buf buf
@@ -48,13 +48,63 @@ room-record k s l v w n e h = omega (arith, ap length e, length-record k s l v)
 put-low : (n v w r : ℕ) (b b₁ : List ℕ) → r ≡ w + n → b₁ ≡ sets b w (lowBytes n v) → Put (lowBytes n v) w r b b₁
 put-low n v w r b b₁ e p = record { behind = omega (arith, length-low n v); written = p }
 
+-- a number and one larger by a multiple of 256: the same lowest byte, and what is above it
+same-low : (x y k : ℕ) → y ≡ x + 256 * k → x % 256 ≡ y % 256
+same-low x y k e = omega arith
+
+above : (x y k : ℕ) → y ≡ x + 256 * k → y / 256 ≡ x / 256 + k
+above x y k e = omega arith
+
+-- the two lowest bytes of a number and of one larger by a multiple of 65536
+two-low : (x y k : ℕ) → y ≡ x + 256 * (256 * k) → (x % 256 ≡ y % 256) × (x / 256 % 256 ≡ y / 256 % 256)
+two-low x y k e = (same-low x y (256 * k) e, same-low (x / 256) (y / 256) k (above x y (256 * k) e))
+
+-- the four lowest bytes of a number are in its lowest 32 bits
+low-part : (l : ℕ) → lowBytes 4 (l % 4294967296) ≡ lowBytes 4 l
+unfolding lowBytes
+low-part l =
+    let r = l % 4294967296 in
+    let q = l / 4294967296 in
+    let zero : l ≡ r + 256 * (16777216 * q) = omega arith in
+    let one : l / 256 ≡ r / 256 + 256 * (65536 * q) = above r l (16777216 * q) zero ∙ omega arith in
+    let two : l / 256 / 256 ≡ r / 256 / 256 + 256 * (256 * q) = above (r / 256) (l / 256) (65536 * q) one ∙ omega arith in
+    let three : l / 256 / 256 / 256 ≡ r / 256 / 256 / 256 + 256 * q = above (r / 256 / 256) (l / 256 / 256) (256 * q) two in
+    let a = same-low r l (16777216 * q) zero in
+    let b = same-low (r / 256) (l / 256) (65536 * q) one in
+    let c = same-low (r / 256 / 256) (l / 256 / 256) (256 * q) two in
+    let d = same-low (r / 256 / 256 / 256) (l / 256 / 256 / 256) q three in
+    cc
+
+-- the bytes of the first eight as a number: kind and 0, slot, line
+head-bytes : (k s l : ℕ) → k < 256 → lowBytes 8 (headOf k s l) ≡ k ∷ 0 ∷ (lowBytes 2 s ++ lowBytes 4 l)
+unfolding lowBytes
+head-bytes k s l h =
+    let n = headOf k s l in
+    let m = n / 256 / 256 in
+    let slot : m ≡ s % 65536 + 65536 * (l % 4294967296) = omega arith in
+    let line : m / 256 / 256 ≡ l % 4294967296 = omega (arith, slot) in
+    let first : n % 256 ≡ k = omega arith in
+    let second : n / 256 % 256 ≡ 0 = omega arith in
+    let t = s % 65536 in
+    let ours = two-low t m (l % 4294967296) (slot ∙ omega arith) in
+    let theirs = two-low t s (s / 65536) (omega arith) in
+    let third : m % 256 ≡ s % 256 = sym (ours .0) ∙ theirs .0 in
+    let fourth : m / 256 % 256 ≡ s / 256 % 256 = sym (ours .1) ∙ theirs .1 in
+    let rest : lowBytes 4 (l % 4294967296) ≡ lowBytes 4 l = low-part l in
+    eight first second third fourth (ap (lowBytes 4) line ∙ rest)
+  where
+    eight : {a b c d a′ b′ c′ d′ : ℕ} {r r′ : List ℕ} → a ≡ a′ → b ≡ b′ → c ≡ c′ → d ≡ d′ → r ≡ r′
+        → a ∷ b ∷ c ∷ d ∷ r ≡ a′ ∷ b′ ∷ c′ ∷ d′ ∷ r′
+    eight p q t u v = cc
+
 -- kind and 0, slot, line, value, one behind the other
-pub fields-put : (k s l v : ℕ) (b b₁ b₂ b₃ : List ℕ) → b₁ ≡ sets (set (set b 0 k) 1 0) 2 (lowBytes 2 s) → b₂ ≡ sets b₁ 4 (lowBytes 4 l)
-    → b₃ ≡ sets b₂ 8 (lowBytes 8 v) → b₃ ≡ sets b 0 (fieldBytes k s l v)
-fields-put k s l v b b₁ b₂ b₃ p q t =
-    let front : Put (k ∷ 0 ∷ []) 0 2 b (set (set b 0 k) 1 0) = record { behind = refl; written = refl } in
-    let rest = put-both (put-low 2 s 2 4 _ b₁ refl p) (put-both (put-low 4 l 4 8 b₁ b₂ refl q) (put-low 8 v 8 16 b₂ b₃ refl t)) in
-    put-both front rest .written
+pub fields-put : (k s l v : ℕ) {n : ℕ} (b b₁ b₂ : List ℕ) → k < 256 → n ≡ headOf k s l → b₁ ≡ sets b 0 (lowBytes 8 n) → b₂ ≡ sets b₁ 8 (lowBytes 8 v)
+    → b₂ ≡ sets b 0 (fieldBytes k s l v)
+fields-put k s l v b b₁ b₂ h e p q =
+    let head : Put (k ∷ 0 ∷ (lowBytes 2 s ++ lowBytes 4 l)) 0 8 b b₁ =
+    rw (head-bytes k s l h) at (put-low 8 (headOf k s l) 0 8 b b₁ refl (p ∙ ap (λ (x : ℕ). sets b 0 (lowBytes 8 x)) e)) in
+    let same = ap (λ (r : List ℕ). k ∷ 0 ∷ r) (append-assoc (lowBytes 2 s) (lowBytes 4 l) (lowBytes 8 v)) in
+    put-both head (put-low 8 v 8 16 b₁ b₂ refl q) .written ∙ ap (sets b 0) same
 
 -- a row that is written over from its front to its end
 sets-all : (l vs : List ℕ) → length l ≡ length vs → sets l 0 vs ≡ vs

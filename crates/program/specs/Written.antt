@@ -1,5 +1,5 @@
 -- The program as code writes it: by place, over the arrays of a sheet whose names are resolved. Every read past an end gives 0.
-use Prim.Native.Nat.{ℕ, zero, suc, _+_, _-_, _<_}
+use Prim.Native.Nat.{ℕ, zero, suc, _+_, _-_, _*_, _%_, _<_}
 use mathlib.Core.Path.{_≡_}
 use mathlib.Core.Bool.{Bool, true, false, cond, _&&_, _||_}
 use mathlib.Core.List.{List, [], _∷_, _++_}
@@ -12,6 +12,10 @@ use Rattle.model.specs.Places.{homeOf, begins, inStatement}
 -- the sixteen bytes of a record
 abbrev pub fieldBytes : ℕ → ℕ → ℕ → ℕ → List ℕ
 fieldBytes kind slot line bits = kind ∷ 0 ∷ (lowBytes 2 slot ++ (lowBytes 4 line ++ lowBytes 8 bits))
+
+-- its first eight bytes as a number, of a kind below 256
+abbrev pub headOf : ℕ → ℕ → ℕ → ℕ
+headOf kind slot line = kind + 65536 * (slot % 65536) + 4294967296 * (line % 4294967296)
 
 -- ---- which drafts write a record: all but a value behind a constant or an initial
 abbrev pub writes : ℕ → Bool

@@ -8,11 +8,9 @@ ghost use Rattle.laws.specs.Counts.{once};
 ghost use Rattle.laws.specs.Places.{gather};
 ghost use Rattle.model.specs.Places.{homeOf};
 ghost use Rattle.laws.specs.Put.{Put};
-ghost use Rattle.program.specs.Written.{fieldBytes, writes, recordCount, valueAt, settingAt, settingsOf, Led};
+ghost use Rattle.program.specs.Written.{fieldBytes, headOf, writes, recordCount, valueAt, settingAt, settingsOf, Led};
 ghost use Rattle.program.specs.Written.{stepBytes, stepsOf, orderedSteps, writtenProgram};
 use bits::put_eight;
-use bits::put_four;
-use bits::put_two;
 use limits::RECORD_BYTES;
 
 // The byte at a place, 0 past the end.
@@ -65,15 +63,19 @@ pub fn count_records(kinds: &[u8]) -> usize
     n
 }
 
-// Writes a record to its sixteen bytes.
+// The number that the first eight bytes of a record are: kind, a byte of 0, slot and line.
+fn head_of(kind: u8, slot: u64, line: u64) -> u64
+    ensures { λ r. ⌜ r ≡ headOf kind slot line ⌝ }
+{
+    kind as u64 + 65536 * (slot % 65536) + 4294967296 * (line % 4294967296)
+}
+
+// Writes a record to its sixteen bytes, eight at a time.
 fn put_fields(kind: u8, slot: u64, line: u64, bits: u64, part: &mut [u8])
     requires { ⌜ length (now part) ≡ recordBytes ⌝ }
     ensures { λ _. ⌜ now (part .exit) ≡ sets (now (part .entry)) 0 (fieldBytes kind slot line bits) ⌝ }
 {
-    part[0] = kind;
-    part[1] = 0;
-    put_two(&mut *part, 2, slot);
-    put_four(&mut *part, 4, line);
+    put_eight(&mut *part, 0, head_of(kind, slot, line));
     put_eight(part, 8, bits);
 }
 
