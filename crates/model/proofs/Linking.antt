@@ -1,11 +1,9 @@
 -- Names resolved and uses listed: a turn of each of the two loops, over drafts and over statements, and their ends.
-use Prim.Native.Nat.{ℕ, suc, _+_, _-_, _≤_, _<_}
+use Prim.Native.Nat.{ℕ, _+_, _-_, _≤_, _<_}
 use mathlib.Core.Path.{_≡_, refl, sym, ap, ap₂, _∙_}
 use mathlib.Core.Bool.{Bool, true, false}
 use mathlib.Core.List.{List, [], _∷_, _++_, append-nil}
-use native.Mathlib.Numerals.{add-one}
 use native.Mathlib.Omega.{arith}
-use borrow.Author.Tests.{ne-eqb}
 use lib.Dec.{eqb, ltb}
 use lib.ListN.{length, getD, set, length-append, length-set}
 use lib.Seq.{sets, length-sets}
@@ -13,7 +11,7 @@ use Rattle.laws.specs.Places.{gather, onlyIf}
 use Rattle.laws.proofs.Tests.{cond-ind}
 use Rattle.laws.proofs.Bools.{or-false}
 use Rattle.laws.proofs.Sets.{sets-append}
-use Rattle.laws.proofs.Gathers.{gather-add, gather-same, gather-short}
+use Rattle.laws.proofs.Gathers.{gather-add, gather-same}
 use Rattle.model.specs.Places.{defines, isNamed, resolvedAt, resolved, begins, ends, isEquation, equationRows, usedAt, usedIn, startsFrom}
 use Rattle.model.specs.Plan.{ownSlots}
 use Rattle.model.specs.Working.{Put, flawedBy, usedOwner, usedHere, usedFrom, Resolved, Resolving, Linking, Walked, Linkable, Tabled, Linked}
@@ -71,11 +69,6 @@ pub record Walking (keys kinds places owners args₁ used₁ : List ℕ) (from e
   pub long-used : length used ≡ length used₁
   pub so : (args₀ used₀ : List ℕ) → Linking keys kinds places owners args₀ used₀ from n args₁ used₁
       → Linking keys kinds places owners args₀ used₀ i (walk w flawed) args used
-
-pub walking-first : (keys kinds places owners args used : List ℕ) {from end : ℕ} (n : Walk) → from ≤ end → n .count ≤ from
-    → Walking keys kinds places owners args used from end n (n .count) (n .flawed) from args used
-walking-first keys kinds places owners args used n h c =
-    record { within = h; short = c; long = refl; long-used = refl; so = λ args₀ used₀ l. l }
 
 module _ {keys kinds places owners args₁ used₁ args used : List ℕ} {from end w i : ℕ} {n : Walk} {flawed : Bool}
     (v : Walking keys kinds places owners args₁ used₁ from end n w flawed i args used) (l : length kinds ≤ length args₁) (e : end ≤ length kinds) where

@@ -1,7 +1,7 @@
 -- The form of statements: where they define a name, and which have expressions.
 use Prim.Native.Nat.{ℕ, _+_, _-_, _<_}
 use mathlib.Core.Path.{_≡_, refl, sym, ap, _∙_}
-use mathlib.Core.Bool.{true, false}
+use mathlib.Core.Bool.{false}
 use mathlib.Core.List.{List, [], _∷_, _++_, map, append-assoc, append-nil}
 use native.Mathlib.Omega.{arith}
 use lib.Dec.{eqb}
@@ -12,13 +12,13 @@ use Rattle.laws.proofs.Tests.{not-both}
 use Rattle.laws.proofs.Gathers.{gather-add, gather-same}
 use Rattle.laws.proofs.Along.{gather-part, map-gather, map-only, filled}
 use Rattle.grammar.specs.Tree.{Constant, Says, constants, assignment, state}
-use Rattle.grammar.specs.Drafts.{Draft, draft, constantDrafts, initialDraft, draftsOf}
+use Rattle.grammar.specs.Drafts.{Draft, draft, constantDrafts, draftsOf}
 use Rattle.sheet.specs.Sheet.{Numbered}
 use Rattle.sheet.specs.Layout.{draftsIn}
 use Rattle.model.specs.Places.{defines, begins, ends, inStatement, anyOf, definedAt, isEquation}
 use Rattle.model.specs.Plan.{placeAt, spotOf, isUse, Shaped}
 use Rattle.model.proofs.Drafts.{noDraft, keyOf, expressionDrafts, expression-idle, state-idle, assignment-first}
-use Rattle.model.proofs.Walk.{kindsOf, argsOf, sheetKinds, sheetLines, sheetBounds, kind-at, arg-at, draftsBy, at-each, begins-at, ends-at}
+use Rattle.model.proofs.Walk.{kindsOf, argsOf, sheetKinds, sheetLines, sheetBounds, kind-at, arg-at, draftsBy, at-each, begins-at}
 use Rattle.model.proofs.Walk.{drafts-split, first-kind, span, any-statement}
 use Rattle.model.proofs.Rows.{is-equation}
 

@@ -1,17 +1,17 @@
 -- The table of uses: how long it is, that it fits the order, and that it is what all drafts use, one after the other.
 use Prim.Native.Nat.{ℕ, zero, suc, _+_, _-_, _≤_, _<_}
-use mathlib.Core.Path.{_≡_, refl, sym, ap, ap₂, _∙_}
+use mathlib.Core.Path.{_≡_, refl, sym, ap, _∙_}
 use mathlib.Core.Bool.{Bool, true, false}
 use mathlib.Core.List.{List, [], _∷_, _++_, append-assoc, append-nil}
 use native.Mathlib.Numerals.{add-one}
 use native.Mathlib.Omega.{arith}
-use borrow.Author.Tests.{ltb-true}
 use lib.Dec.{eqb, ltb}
 use lib.ListN.{length, getD, length-map, length-append}
 use Rattle.limits.specs.Limits.{mostStatements}
+use Rattle.laws.specs.Counts.{count}
 use Rattle.laws.specs.Places.{gather, onlyIf}
 use Rattle.laws.proofs.Tests.{cond-ind}
-use Rattle.laws.proofs.Members.{Below, below-append, below-gather}
+use Rattle.laws.proofs.Members.{Below, below-append, below-gather, below-only, at-in}
 use Rattle.laws.proofs.Gathers.{any-none, gather-add, gather-none, gather-short}
 use Rattle.order.specs.Table.{Fit}
 use Rattle.model.specs.Definitions.{placeIn}
@@ -33,19 +33,14 @@ module _ (assigned bounds kinds slots : List ℕ) where
       (λ _. only-length (ltb p (length assigned)) p) (λ _. omega arith)
 
   used-at-below : (i : ℕ) → Below (length assigned) (usedAt assigned kinds slots i)
+  unfolding count
   used-at-below i =
-      let p = placeIn (getD slots i 0) assigned in
       cond-ind (Below (length assigned)) (eqb (getD kinds i 0) 4) (usedBy assigned (getD slots i 0)) []
-      (λ _. go (ltb p (length assigned)) refl) (λ _. λ k h. absurd (omega arith))
-    where
-      go : (b : Bool) → ltb (placeIn (getD slots i 0) assigned) (length assigned) ≡ b → Below (length assigned) (onlyIf b (placeIn (getD slots i 0) assigned))
-      go true e zero h = ltb-true _ _ e
-      go true e (suc k) h = absurd (omega arith)
-      go false e k h = absurd (omega arith)
+      (λ _. below-only (length assigned) (placeIn (getD slots i 0) assigned)) (λ _. λ j h. absurd (omega arith))
 
   used-below : (rows : List ℕ) → Below (length assigned) (usedIn assigned bounds kinds slots rows)
-  unfolding usedIn
-  used-below [] = λ k h. absurd (omega arith)
+  unfolding usedIn count
+  used-below [] = λ j h. absurd (omega arith)
   used-below (j ∷ rows) =
       below-append (length assigned) (usedOfRow assigned bounds kinds slots j) (usedIn assigned bounds kinds slots rows)
       (below-gather (length assigned) (usedAt assigned kinds slots) used-at-below (ends bounds j - begins bounds j) (begins bounds j)) (used-below rows)
@@ -237,5 +232,8 @@ table-fit rows bounds kinds slots h =
       few = h;
       rows = omega (arith, starts-length assigned bounds kinds slots 0 rows);
       ends = λ i _. omega (arith, starts-within assigned bounds kinds slots 0 rows (i + 1));
-      below = λ k l. omega (arith, used-below assigned bounds kinds slots rows k l, length-map rows (assignedSlot bounds kinds slots));
+      below =
+          λ k l.
+          let table = usedIn assigned bounds kinds slots rows in
+          omega (arith, used-below assigned bounds kinds slots rows (getD table k 0) (at-in table k l), length-map rows (assignedSlot bounds kinds slots));
     }

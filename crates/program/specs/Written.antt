@@ -1,11 +1,11 @@
 -- The program as code writes it: by place, over the arrays of a sheet whose names are resolved. Every read past an end gives 0.
-use Prim.Native.Nat.{ℕ, zero, suc, _+_, _-_, _*_, _%_, _<_}
+use Prim.Native.Nat.{ℕ, suc, _+_, _-_, _*_, _%_, _<_}
 use mathlib.Core.Path.{_≡_}
-use mathlib.Core.Bool.{Bool, true, false, cond, _&&_, _||_}
+use mathlib.Core.Bool.{Bool, false, cond, _&&_, _||_}
 use mathlib.Core.List.{List, [], _∷_, _++_}
 use lib.Dec.{eqb, leb}
 use lib.ListN.{length, getD}
-use Rattle.laws.specs.Places.{gather, onlyIf}
+use Rattle.laws.specs.Places.{gather}
 use Rattle.bits.specs.Low.{lowBytes}
 use Rattle.model.specs.Places.{homeOf, begins, inStatement}
 

@@ -1,8 +1,8 @@
 -- What the plan of a sheet is worth: by its number the verdict on the model, with the faults listed or all that the program needs.
-use Prim.Native.Nat.{ℕ, zero, suc, _+_, _<_, _≤_}
+use Prim.Native.Nat.{ℕ, _+_, _<_, _≤_}
 use mathlib.Core.Path.{_≡_, refl, sym, ap, _∙_}
 use mathlib.Core.Bool.{Bool, true, false, cond}
-use mathlib.Core.List.{List, [], _∷_, _++_}
+use mathlib.Core.List.{List, [], _∷_}
 use native.Mathlib.Omega.{arith}
 use borrow.Author.Tests.{lt-ltb, ltb-true, ltb-false}
 use mathlib.Core.Logic.{⊎-elim}
@@ -13,7 +13,6 @@ use Rattle.limits.specs.Limits.{mostDefinitions, mostStatements}
 use Rattle.sheet.specs.Sheet.{Numbered, Fault, faultList}
 use Rattle.sheet.specs.Layout.{Laid}
 use Rattle.order.specs.Greedy.{order}
-use Rattle.order.specs.Table.{usesIn}
 use Rattle.order.proofs.Sorting.{length-order-iff, good-none-left, place-length}
 use Rattle.laws.specs.Counts.{has}
 use Rattle.laws.specs.Places.{gather}
@@ -21,8 +20,8 @@ use Rattle.laws.proofs.Counts.{has-false}
 use Rattle.laws.proofs.Gathers.{gather-none}
 use Rattle.laws.proofs.Tests.{bool-cases}
 use Rattle.model.proofs.Clean.{order-good}
-use Rattle.model.specs.Definitions.{Def, definitions, keys, equationCount}
-use Rattle.model.specs.Faults.{faults21, nameFaults, faults24, orElse, modelFaults, orderOf, usesIn as uses}
+use Rattle.model.specs.Definitions.{Def, definitions, equationCount}
+use Rattle.model.specs.Faults.{faults21, nameFaults, faults24, modelFaults, orderOf, usesIn as uses}
 use Rattle.model.specs.Places.{keysIn, placesIn, doubles, resolved, nameless, equationRows, assignedSlots, usedIn, startsFrom, loopAt, loops}
 use Rattle.model.specs.Plan.{Lent, lent, Outcome, outcome, refused, faulted, some, fit, closed, weighed, tested, tabled, named, distinct}
 use Rattle.model.specs.Plan.{sheeted, planned}

@@ -4,10 +4,10 @@ use mathlib.Core.Path.{sym, _∙_}
 use mathlib.Core.Logic.{⊎-elim}
 use native.Mathlib.Omega.{arith}
 use borrow.Author.Needs.{needs}
-use lib.ListN.{length, getD}
+use lib.ListN.{getD}
 use Rattle.model.proofs.Finding.{place-le}
 use Rattle.model.proofs.Naming.{slot-named}
-use Rattle.model.proofs.Linking.{walk, Walking, walking-first, walking-flawed, walking-clear, walking-other, walking-last}
+use Rattle.model.proofs.Linking.{walk, Walking, walking-flawed, walking-clear, walking-other, walking-last}
 use Rattle.model.proofs.names.resolve_in.Statement.{statement}
 use Rattle.model.proofs.names.resolve_in.Tie as tie
 
