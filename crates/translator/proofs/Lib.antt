@@ -10,4 +10,5 @@ pub mod Fitting
 pub mod Counted
 mod Writing
 mod Rooms
+mod Attempts
 pub mod Verdicts

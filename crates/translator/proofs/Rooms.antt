@@ -1,38 +1,42 @@
 -- From the reading to the verdict: a statement fault stands, or the model decides; in arrays that have room.
-use Prim.Native.Nat.{ℕ, zero, suc, _+_, _*_, _≤_, _<_}
+use Prim.Native.Nat.{ℕ, _+_, _≤_, _<_}
 use mathlib.Core.Path.{_≡_, refl, sym, ap, _∙_}
-use mathlib.Core.Bool.{Bool, true, false, cond}
-use mathlib.Core.List.{List, [], _∷_, _++_, map}
+use mathlib.Core.Bool.{false}
+use mathlib.Core.List.{List, [], _∷_, map}
 use native.Mathlib.Omega.{arith}
 use native.Mathlib.Numerals.{add-one}
 use borrow.Author.Tests.{le-ltb}
 use lib.Dec.{ltb}
 use lib.ListN.{length, take, replicate, length-map, length-replicate}
-use lib.Seq.{sets, length-sets, length-take-le}
-use Rattle.limits.specs.Limits.{mostStatements, textBytes, faultRoom, faultBytes}
+use lib.Seq.{sets, length-sets}
+use Rattle.limits.specs.Limits.{mostStatements}
 use Rattle.laws.specs.Lists.{concat-map}
 use Rattle.deck.specs.Lines.{linesOf}
 use Rattle.deck.specs.Codes.{joinedRoom}
 use Rattle.deck.proofs.Tallies.{statements-le, lines-le}
 use Rattle.grammar.specs.Drafts.{Draft}
-use Rattle.sheet.specs.Sheet.{Sheet, Numbered, Fault, said, statementFaults, faultList}
+use Rattle.sheet.specs.Sheet.{Numbered, Fault, said, statementFaults, faultList}
 use Rattle.sheet.specs.Reader.{sheetOf}
 use Rattle.sheet.specs.Layout.{draftsIn, Laid}
 use Rattle.translator.specs.declared.Tally.{Tally}
+use Rattle.translator.specs.declared.Reading.{Reading}
+use Rattle.translator.specs.declared.Reading.the-variants.{All, NoRoom}
 use Rattle.translator.specs.declared.Verdict.{Verdict}
-use Rattle.translator.specs.declared.Verdict.the-variants.{Refused, Faulty, Translated}
+use Rattle.translator.specs.declared.Verdict.the-variants.{Faulty}
 use Rattle.translator.specs.Contract.{reply, replyOf}
 use Rattle.translator.specs.Verdict.{ifFaults, modelled, judged}
-use Rattle.translator.specs.Working.{kindsOf, argsOf, RowFits, Read, Ready, Concludes, Roomy, Judges}
+use Rattle.translator.specs.Working.{RowFits, Read, Stopped, Reads, Ready, Concludes, Taken, Roomy, Judges}
 use Rattle.translator.proofs.Fitting.{bounds-many, laid-fits}
-use Rattle.translator.proofs.Turns.{counts}
+use Rattle.translator.proofs.Turns.{take-most, counts}
 use Rattle.translator.proofs.Verdicts.{sheet-many}
 
--- a front is no longer than the list
-take-most : (n : ℕ) (l : List ℕ) → length (take n l) ≤ length l
-take-most zero l = omega arith
-take-most (suc n) [] = omega arith
-take-most (suc n) (x ∷ l) = omega (arith, take-most n l)
+-- what an answer says
+module _ {text list₀ kinds args lines bounds list : List ℕ} {r : Reading} (w : Reads text list₀ r kinds args lines bounds list) where
+  pub all-read : {n : Tally} → r ≡ All n → Read text list₀ n kinds args lines bounds list
+  all-read e = rw e at (w .by-answer)
+
+  pub stopped : r ≡ NoRoom → Stopped text list₀ kinds list
+  stopped e = rw e at (w .by-answer)
 
 module _ {text list₀ ks us kinds₀ args₀ used lines₀ bounds₀ : List ℕ} (roomy : Roomy text list₀ ks us kinds₀ args₀ used lines₀ bounds₀)
     {n : Tally} {kinds args lines bounds list : List ℕ} (r : Read text list₀ n kinds args lines bounds list) where
@@ -103,42 +107,41 @@ module _ {text list₀ ks us kinds₀ args₀ used lines₀ bounds₀ : List ℕ
   bounds-enough = omega (arith, bounds-count, take-most (n .statements + 1) bounds)
 
   -- and all fits
-  pub ready-so : Ready (take (n .statements) lines) (take (n .statements + 1) bounds) (take (n .drafts) kinds) (take (n .drafts) args) used list
-  ready-so =
+  pub ready-so : length kinds ≡ length kinds₀
+      → Ready (take (n .statements) lines) (take (n .statements + 1) bounds) (take (n .drafts) kinds) (take (n .drafts) args) used list
+  ready-so kept =
       let long : length list ≡ length list₀ = ap length (r .listed) ∙ length-sets list₀ 0 (faultList (statementFaults (sheetOf text))) in
       record {
         statements = said (sheetOf text);
         laid = bounds-laid;
         fits =
             laid-fits (said (sheetOf text)) _ _ _ _ bounds-laid _ _ _ (omega (arith, statements-few, r .statements))
-            (omega (arith, kinds-many, r .within, roomy .brief)) (omega (arith, kinds-many, args-many))
-            (omega (arith, kinds-many, r .within, roomy .used-room)) (omega (arith, statements-few, r .statements, long, roomy .room .list-room));
+            (omega (arith, kinds-many, r .within, roomy .room .brief)) (omega (arith, kinds-many, args-many))
+            (omega (arith, kinds-many, kinds-enough, kept, roomy .used-room)) (omega (arith, statements-few, r .statements, long, roomy .room .list-room));
       }
 
 -- ---- the rooms: arrays of k places for drafts, of r for a row of tokens, of m for statements
 module _ {text list : List ℕ} (k r m : ℕ) where
-  pub roomy : length (sheetOf text) ≤ mostStatements → length text < k → k ≤ textBytes + 1 → faultRoom ≤ length list
-      → ((n : ℕ) → n ≤ joinedRoom → n ≤ length text → n ≤ r) → length (sheetOf text) ≤ m
+  pub roomy : Taken text list → k < 65536 → ((n : ℕ) → n ≤ joinedRoom → n ≤ length text → n ≤ r) → length (sheetOf text) ≤ m
       → Roomy text list (replicate r 0) (replicate r 0) (replicate k 0) (replicate k 0) (replicate k 0) (replicate m 0) (replicate (m + 1) 0)
-  roomy few short most lent rows many =
+  roomy taken small rows many =
       let at : (n : ℕ) → length (replicate {A = ℕ} n 0) ≡ n = λ n. length-replicate {A = ℕ} n 0 in
       let fits : RowFits text (replicate r 0) = λ n h i. omega (arith, at r, rows n h i) in
       record {
-        brief = omega arith;
         room =
             record {
-              few = few;
+              few = taken .0;
+              brief = taken .1;
               row-kinds = fits;
               row-args = fits;
-              kinds-room = omega (arith, at k);
-              args-room = omega (arith, at k);
+              even = refl;
               small = omega (arith, at k);
               lines-room = omega (arith, at m);
               bounds-room = omega (arith, at (m + 1));
               bounds-first = rw (add-one m);
-              list-room = lent;
+              list-room = taken .2;
             };
-        used-room = omega (arith, at k);
+        used-room = omega arith;
       }
 
 -- a text has no more statements than bytes

@@ -104,11 +104,20 @@ next-spans t at n (l ∷ ls) q =
 found-spans : (t : List ℕ) (c : Cursor) → Lawful c → Spans t (c .at) (foundFrom t c)
 found-spans t c h = rw (found-next t c h) (next-spans t (c .at) (c .line) (linesOf (drop (c .at) t)) refl)
 
--- SPAN: what a statement's joined text takes stands between the cursor and the next one, and within the text
+-- SPAN: the bytes from the start s of a statement to the next cursor are no fewer than its joined text has; and both stand behind the cursor,
+-- at the place at, and within the text
+pub record Span (t : List ℕ) (at s k nx : ℕ) : Type 0 where
+  pub from : at ≤ s
+  pub joins : s + length (joined (cardsAt t s k)) ≤ nx
+  pub within : at + length (joined (cardsAt t s k)) ≤ length t
+  pub upto : at + (nx - s) ≤ length t + 1
+
 pub span : (t : List ℕ) (c : Cursor) → Lawful c → c .at < length t → {f s k : ℕ} {d g : Bool} {nx : Cursor} → foundFrom t c ≡ Statement f s k d g nx
-    → (c .at + length (joined (cardsAt t s k)) ≤ nx .at) × (c .at + length (joined (cardsAt t s k)) ≤ length t)
+    → Span t (c .at) s k (nx .at)
 unfolding joined spread
-span t c h b {f} {s} {k} {d} {g} {nx} e = go (cardsAt t s k) refl
+span t c h b {f} {s} {k} {d} {g} {nx} e =
+    let both = go (cardsAt t s k) refl in
+    record { from = w .0; joins = both .0; within = both .1; upto = omega (arith, w .0, w .1, few) }
   where
     w : (c .at ≤ s) × (nx .at ≡ s + spread (cardsAt t s k))
     w = rw e at (found-spans t c h)
@@ -116,11 +125,11 @@ span t c h b {f} {s} {k} {d} {g} {nx} e = go (cardsAt t s k) refl
     few : spread (cardsAt t s k) ≤ length t - s + 1
     few = omega (arith, spread-take k (linesOf (drop s t)), lines-spread (drop s t), length-drop s t)
 
-    go : (cs : List Line) → cardsAt t s k ≡ cs → (c .at + length (joined cs) ≤ nx .at) × (c .at + length (joined cs) ≤ length t)
-    go [] q = omega (arith, w .0, w .1)
+    go : (cs : List Line) → cardsAt t s k ≡ cs → (s + length (joined cs) ≤ nx .at) × (c .at + length (joined cs) ≤ length t)
+    go [] q = (omega (arith, w .1), omega (arith, w .0))
     go (l ∷ ls) q =
         let m : spread (cardsAt t s k) ≡ spread (l ∷ ls) = ap spread q in
-        omega (arith, w .0, w .1, few, joined-spread l ls)
+        (omega (arith, w .1, joined-spread l ls), omega (arith, w .0, few, joined-spread l ls))
 
 -- ---- a statement of one line
 

@@ -1,10 +1,10 @@
 -- One turn of reading after the other, in buffers that keep their lengths.
-use Prim.Native.Nat.{ℕ, suc, _+_, _-_, _≤_, _<_}
+use Prim.Native.Nat.{ℕ, zero, suc, _+_, _-_, _≤_, _<_}
 use mathlib.Core.Path.{_≡_, refl, ap, _∙_}
 use mathlib.Core.Bool.{Bool, true, false}
 use mathlib.Core.List.{List, [], _∷_, _++_, map}
 use native.Mathlib.Omega.{arith}
-use lib.ListN.{length, replicate, length-append, length-set}
+use lib.ListN.{length, take, replicate, length-append, length-map, length-set}
 use lib.Seq.{length-sets}
 use Rattle.laws.specs.Lists.{concat-map}
 use Rattle.limits.specs.Limits.{mostStatements}
@@ -16,13 +16,21 @@ use Rattle.deck.specs.Next.{foundFrom, statementsFrom, cardsAt}
 use Rattle.deck.specs.declared.Cursor.{Cursor}
 use Rattle.deck.specs.declared.Found.the-variants.{Statement, End}
 use Rattle.deck.proofs.Linked.{Walk, walk, walk-end}
+use Rattle.grammar.specs.Drafts.{Draft}
 use Rattle.sheet.specs.Sheet.{Told, says, faulty, Sheet, saidBy, faultBy, said, statementFaults}
 use Rattle.sheet.specs.Reader.{told, sheetOf}
+use Rattle.sheet.specs.Layout.{draftsIn}
 use Rattle.translator.specs.declared.Tally.{Tally}
-use Rattle.translator.specs.Working.{RowFits, Able, AddsOf, Adds, Progress, Room, Read}
+use Rattle.translator.specs.Working.{RowFits, Able, AddsOf, Adds, Progress, Room, Read, Stopped}
 use Rattle.translator.proofs.Parsing.{drafts-few}
-use Rattle.translator.proofs.Spans.{span, alone, first-near}
+use Rattle.translator.proofs.Spans.{Span, span, alone, first-near}
 use Rattle.translator.proofs.Progress.{progress-first, progress-said, progress-faulty, progress-last}
+
+-- a front is no longer than the list
+pub take-most : (n : ℕ) (l : List ℕ) → length (take n l) ≤ length l
+take-most zero l = omega arith
+take-most (suc n) [] = omega arith
+take-most (suc n) (x ∷ l) = omega (arith, take-most n l)
 
 -- each report is a statement without fault, or a fault
 pub counts : (done : Sheet) → length (said done) + length (statementFaults done) ≡ length done
@@ -67,6 +75,13 @@ module _ {text ks₀ us₀ kinds₀ args₀ lines₀ bounds₀ list₀ kinds arg
   pub going-list : length list ≡ length list₀
   going-list = ap length (g .progress .listed) ∙ simp length-sets
 
+  -- the drafts so far have their places
+  pub going-held : n .drafts ≤ length kinds
+  going-held =
+      let p = g .progress in
+      let many = ap length (p .kinds-held) ∙ length-map (draftsIn (said (p .done))) (λ (d : Draft). d .kind) in
+      omega (arith, many, p .drafts, take-most (n .drafts) kinds)
+
   -- the end
   pub going-last : foundFrom text c ≡ End → Read text list₀ n kinds args lines bounds list
   going-last e = progress-last (g .progress) (walk-end text c (g .progress .lawful) e)
@@ -81,8 +96,24 @@ module _ {text ks₀ us₀ kinds₀ args₀ lines₀ bounds₀ list₀ kinds arg
     going-less = omega (arith, step .bytes, step .further)
 
     -- its joined text stands before the next cursor, and within the text
-    near : (c .at + length (joined (cardsAt text s k)) ≤ nx .at) × (c .at + length (joined (cardsAt text s k)) ≤ length text)
+    near : Span text (c .at) s k (nx .at)
     near = span text c (g .progress .lawful) (step .bytes) e
+
+    -- the next cursor stands behind its start
+    pub going-on : s ≤ nx .at
+    going-on = omega (arith, near .joins)
+
+    -- fewer places for drafts are left than bytes up to the next cursor: then there are no more of them than bytes
+    pub going-stop : length kinds - n .drafts < nx .at - s → Stopped text list₀ kinds list
+    going-stop h =
+        let p = g .progress in
+        record {
+          full = omega (arith, p .short, near .upto, going-held);
+          done = p .done;
+          rest = map (report told) (statementsFrom text c);
+          split = p .split;
+          listed = p .listed;
+        }
 
     -- there is one more statement than those that are read
     left : n .statements + n .faults < length (sheetOf text)
@@ -94,11 +125,13 @@ module _ {text ks₀ us₀ kinds₀ args₀ lines₀ bounds₀ list₀ kinds arg
         let many = length-append (p .done) (report told one ∷ map (report told) (statementsFrom text nx)) in
         omega (arith, ap length all, many, counts (p .done), p .statements, p .faults)
 
-    -- what reading it asks, with two rows of room
-    pub going-able : {ks us : List ℕ} → RowFits text ks → RowFits text us → Able text f s k d long (nx .at) n ks us kinds args lines bounds
-    going-able hk hu =
+    -- what reading it asks, with two rows of room, where so many places are left
+    pub going-able : {ks us : List ℕ} → RowFits text ks → RowFits text us → nx .at - s ≤ length kinds - n .drafts
+        → Able text f s k d long (nx .at) n ks us kinds args lines bounds
+    going-able hk hu fit =
         let p = g .progress in
-        let short = near .1 in
+        let short = near .within in
+        let places : n .drafts + length (joined (cardsAt text s k)) ≤ length kinds = omega (arith, near .joins, going-held, fit) in
         record {
           size = step .size;
           before =
@@ -107,10 +140,10 @@ module _ {text ks₀ us₀ kinds₀ args₀ lines₀ bounds₀ list₀ kinds arg
                 alone = λ z one. alone text c (p .lawful) e one (closed k d long z);
                 row-kinds = λ z. hk (length (joined (cardsAt text s k))) (step .short z) (omega (arith, short));
                 row-args = λ z. hu (length (joined (cardsAt text s k))) (step .short z) (omega (arith, short));
-                room-kinds = omega (arith, p .short, short, room .kinds-room, g .long-kinds);
-                room-args = omega (arith, p .short, short, room .args-room, g .long-args);
+                room-kinds = places;
+                room-args = omega (arith, places, room .even, g .long-kinds, g .long-args);
               };
-          first-fits = omega (arith, first-near text c (p .lawful) e, room .kinds-room, room .small);
+          first-fits = omega (arith, first-near text c (p .lawful) e, room .brief);
           kinds-fit = omega (arith, room .small, g .long-kinds);
           lines-room = omega (arith, left, room .lines-room, g .long-lines);
           bounds-room = omega (arith, left, room .bounds-room, g .long-bounds);
@@ -118,10 +151,10 @@ module _ {text ks₀ us₀ kinds₀ args₀ lines₀ bounds₀ list₀ kinds arg
         }
 
     -- behind it
-    pub going-next : {kinds′ args′ lines′ bounds′ list′ : List ℕ} {n′ : Tally}
+    pub going-next : nx .at - s ≤ length kinds - n .drafts → {kinds′ args′ lines′ bounds′ list′ : List ℕ} {n′ : Tally}
         → Adds (told (cardsAt text s k) d) f n kinds args lines bounds list n′ kinds′ args′ lines′ bounds′ list′
         → Going text kinds₀ args₀ lines₀ bounds₀ list₀ kinds′ args′ lines′ bounds′ list′ n′ nx
-    going-next {kinds′} {args′} {lines′} {bounds′} {list′} {n′} w =
+    going-next fit {kinds′} {args′} {lines′} {bounds′} {list′} {n′} w =
         let both = go (told (cardsAt text s k) d) refl (w .by-told) in
         record {
           progress = both .0;
@@ -138,10 +171,10 @@ module _ {text ks₀ us₀ kinds₀ args₀ lines₀ bounds₀ list₀ kinds arg
             let few = drafts-few (cardsAt text s k) d x q in
             let p = g .progress in
             let row : List ℕ = replicate joinedRoom 0 in
-            let fit : RowFits text row = λ n h _. omega (arith, h) in
-            let a = going-able {ks = row} {us = row} fit fit in
+            let rows : RowFits text row = λ n h _. omega (arith, h) in
+            let a = going-able {ks = row} {us = row} rows rows fit in
             let more : Progress text list₀ nx _ _ _ _ _ list =
-            progress-said p step x q (omega (arith, p .short, near .0)) (omega (arith, p .short, near .1))
+            progress-said p step x q (omega (arith, p .short, near .from, near .joins)) (omega (arith, p .short, near .within))
             (omega (arith, a .before .room-kinds)) (omega (arith, a .before .room-args)) (a .lines-room) (a .bounds-room) in
             (rw (en, ek, ea, el, eb, ef) more, ap length el ∙ simp length-set, ap length eb ∙ simp length-set)
         go (faulty code place) q (en, ek, ea, el, eb, ef) =

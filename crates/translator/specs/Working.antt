@@ -3,7 +3,7 @@ use Prim.Native.Nat.{ℕ, suc, _+_, _-_, _*_, _≤_, _<_}
 use mathlib.Core.Path.{_≡_}
 use mathlib.Core.Bool.{Bool, true, false, cond}
 use mathlib.Core.List.{List, [], _∷_, _++_, map}
-use lib.Dec.{ltb}
+use lib.Dec.{eqb, ltb}
 use lib.ListN.{length, take, drop, set, replicate}
 use lib.Seq.{sets}
 use Rattle.limits.specs.Limits.{mostStatements, mostDefinitions, textBytes, textLines, faultRoom}
@@ -31,6 +31,10 @@ use Rattle.translator.specs.Verdict.{modelled, judged}
 use Rattle.translator.specs.declared.Told.{Told as Answer}
 use Rattle.translator.specs.declared.Told.the-variants.{Says, Faulty}
 use Rattle.translator.specs.declared.Tally.{Tally}
+use Rattle.translator.specs.declared.Reading.{Reading}
+use Rattle.translator.specs.declared.Reading.the-variants.{All, NoRoom}
+use Rattle.translator.specs.declared.room.Attempt.{Attempt}
+use Rattle.translator.specs.declared.room.Attempt.the-variants.{Given, NoRoom as NoRoom′}
 
 -- the kinds of drafts, and their arguments
 abbrev pub kindsOf : List Draft → List ℕ
@@ -152,13 +156,13 @@ pub record Progress (text list₀ : List ℕ) (c : Cursor) (n : Tally) (kinds ar
   pub short : n .drafts ≤ c .at
   pub within : n .drafts ≤ length text
 
--- the room that all of it needs
+-- the room that all of it needs, with any number of places for drafts
 pub record Room (text ks us kinds args lines bounds list : List ℕ) : Type 0 where
   pub few : length (sheetOf text) ≤ mostStatements
+  pub brief : length text ≤ textBytes
   pub row-kinds : RowFits text ks
   pub row-args : RowFits text us
-  pub kinds-room : length text < length kinds
-  pub args-room : length text < length args
+  pub even : length args ≡ length kinds
   pub small : length kinds < 65536
   pub lines-room : length (sheetOf text) ≤ length lines
   pub bounds-room : length (sheetOf text) < length bounds
@@ -173,6 +177,23 @@ pub record Read (text list₀ : List ℕ) (n : Tally) (kinds args lines bounds l
   pub laid : Laid (said (sheetOf text)) (take (n .drafts) kinds) (take (n .drafts) args) (take (n .statements) lines) (take (suc (n .statements)) bounds)
   pub listed : list ≡ sets list₀ 0 (faultList (statementFaults (sheetOf text)))
   pub within : n .drafts ≤ length text
+
+-- what it gives where the next statement's drafts might not fit: there are no more places for drafts than bytes. The reports before that
+-- statement are `done`, and their faults stand in the list
+pub record Stopped (text list₀ kinds list : List ℕ) : Type 0 where
+  pub full : length kinds ≤ length text
+  pub done : Sheet
+  pub rest : Sheet
+  pub split : sheetOf text ≡ done ++ rest
+  pub listed : list ≡ sets list₀ 0 (faultList (statementFaults done))
+
+-- one or the other, by the answer
+abbrev pub ReadsOf : Reading → List ℕ → List ℕ → List ℕ → List ℕ → List ℕ → List ℕ → List ℕ → Type 0
+ReadsOf (All n) text list₀ kinds args lines bounds list = Read text list₀ n kinds args lines bounds list
+ReadsOf NoRoom text list₀ kinds args lines bounds list = Stopped text list₀ kinds list
+
+pub record Reads (text list₀ : List ℕ) (r : Reading) (kinds args lines bounds list : List ℕ) : Type 0 where
+  pub by-answer : ReadsOf r text list₀ kinds args lines bounds list
 
 -- ---- from the sheet to the verdict
 
@@ -217,12 +238,35 @@ sizeNumber n = cond (ltb textLines (n .lines)) 3 (cond (ltb mostStatements (n .s
 
 -- ---- the working room
 
--- what judging asks: a text that is not too large, room for all that is read of it, and for each use
+-- a text that is not too large, and a list that has room for its faults
+abbrev pub Taken : List ℕ → List ℕ → Type 0
+Taken text list = (length (sheetOf text) ≤ mostStatements) × (length text ≤ textBytes) × (faultRoom ≤ length list)
+
+-- what judging asks: room for all that is read of the text, and a place for a use of each draft
 pub record Roomy (text list ks us kinds args used lines bounds : List ℕ) : Type 0 where
-  pub brief : length text ≤ textBytes
   pub room : Room text ks us kinds args lines bounds list
-  pub used-room : length text < length used
+  pub used-room : length kinds ≤ length used
 
 -- the answer r and the buffers f′ and p′ are what the sheet's verdict gives for the buffers f and p
 abbrev pub Judges : List ℕ → List ℕ → List ℕ → Verdict → List ℕ → List ℕ → Type 0
 Judges text f p r f′ p′ = reply r f′ p′ ≡ replyOf (judged (length p) (sheetOf text)) f p
+
+-- no verdict was given: the text has at least as many bytes as there were places for drafts. The program is as it was, and a further attempt
+-- with the list f′, on which some faults may stand already, gives what it would have given with the list f
+pub record Untold (text : List ℕ) (places : ℕ) (f p f′ p′ : List ℕ) : Type 0 where
+  pub full : places ≤ length text
+  pub program : p′ ≡ p
+  pub long : length f′ ≡ length f
+  pub same : replyOf (judged (length p) (sheetOf text)) f′ p ≡ replyOf (judged (length p) (sheetOf text)) f p
+
+-- what an attempt with so many places for drafts gives, by the answer
+abbrev pub TriesOf : Attempt → List ℕ → ℕ → List ℕ → List ℕ → List ℕ → List ℕ → Type 0
+TriesOf (Given v) text places f p f′ p′ = Judges text f p v f′ p′
+TriesOf NoRoom′ text places f p f′ p′ = Untold text places f p f′ p′
+
+pub record Tries (text : List ℕ) (places : ℕ) (f p : List ℕ) (r : Attempt) (f′ p′ : List ℕ) : Type 0 where
+  pub by-answer : TriesOf r text places f p f′ p′
+
+-- the places for drafts of a room by its number: the large one, the vast one, and any other the whole one
+abbrev pub roomPlaces : ℕ → ℕ
+roomPlaces room = cond (eqb room 0) 1536 (cond (eqb room 1) 5120 16385)

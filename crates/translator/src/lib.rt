@@ -12,7 +12,7 @@ ghost use Rattle.deck.specs.Next.{cardsAt};
 ghost use Rattle.deck.specs.Survey.{sizesOf};
 ghost use Rattle.sheet.specs.Reader.{parsed, tokened, told};
 ghost use Rattle.translator.specs.Working.{Tells, RowRoom, JoinedRoom, CardsRoom, Size, Before};
-ghost use Rattle.translator.specs.Working.{entryOf, Able, Adds, Room, Read, sizeNumber};
+ghost use Rattle.translator.specs.Working.{entryOf, Able, Adds, Room, Reads, sizeNumber};
 ghost use Rattle.translator.specs.Contract.{Translates};
 
 mod finish;
@@ -45,6 +45,12 @@ struct Tally {
     statements: usize,
     drafts: usize,
     faults: usize,
+}
+
+// What reading all statements gives: how many there are, or that their drafts do not fit.
+enum Reading {
+    All(Tally),
+    NoRoom,
 }
 
 // ---- one statement
@@ -206,7 +212,8 @@ fn read_one(
     }
 }
 
-// Reads all statements of a text; the tokens of one are held in two lent rows.
+// Reads all statements of a text; the tokens of one are held in two lent rows. It stops where the drafts have too little room left: a statement
+// has no more drafts than there are bytes from its start to the next.
 fn read_all(
     text: &[u8],
     row_kinds: &mut [u8],
@@ -216,9 +223,9 @@ fn read_all(
     lines: &mut [u16],
     bounds: &mut [u16],
     list: &mut [u8],
-) -> Tally
+) -> Reading
     requires { ⌜ Room (now text) (now «row_kinds») (now «row_args») (now kinds) (now args) (now lines) (now bounds) (now list) ⌝ }
-    ensures { λ r. ⌜ Read (now (text .entry)) (now (list .entry)) r
+    ensures { λ r. ⌜ Reads (now (text .entry)) (now (list .entry)) r
         (now (kinds .exit)) (now (args .exit)) (now (lines .exit)) (now (bounds .exit)) (now (list .exit)) ⌝ }
 {
     let mut n = Tally {
@@ -238,8 +245,11 @@ fn read_all(
             next,
         } = found
         else {
-            return n;
+            return Reading::All(n);
         };
+        if kinds.len() - n.drafts < next.at - start {
+            return Reading::NoRoom;
+        }
         n = read_one(
             text,
             first,

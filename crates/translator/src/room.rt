@@ -1,29 +1,34 @@
-// The working room of a translation: arrays in which what is read of the text stands, of six sizes.
-ghost use Prim.Native.Nat.{_≤_, _<_};
+// The working room of a translation: arrays in which what is read of the text stands. To make a room takes time, so there are five sizes.
+ghost use Prim.Native.Nat.{_<_};
+ghost use mathlib.Core.Path.{_≡_};
 ghost use lib.ListN.{length};
-ghost use Rattle.limits.specs.Limits.{mostStatements, textBytes, faultRoom};
-ghost use Rattle.sheet.specs.Reader.{sheetOf};
-ghost use Rattle.translator.specs.Working.{Roomy, Judges};
+ghost use Rattle.translator.specs.declared.room.Attempt.the-variants.{Given};
+ghost use Rattle.translator.specs.Working.{Taken, Roomy, Judges, Tries, roomPlaces};
+use super::Reading;
 use super::Verdict;
 use super::finish::conclude;
 use super::read_all;
 use limits::STATEMENTS;
 use limits::TEXT_BYTES;
 
-// A text shorter than one of these is judged in the room of that size: to make a room takes time.
+// How many drafts a room has places for. A text shorter than one of the first two is judged in that room, and has no more drafts than bytes.
 const TINY: usize = 64;
 
 const SMALL: usize = 256;
 
-const MIDDLE: usize = 1024;
+const LARGE: usize = 1536;
 
-const LARGE: usize = 3072;
-
-const VAST: usize = 8192;
+const VAST: usize = 5120;
 
 const WHOLE: usize = TEXT_BYTES + 1;
 
-// The verdict on a text that is not too large: 5 with the faults listed, or the verdict on its model.
+// What judging in a room gives: a verdict, or that the drafts do not fit.
+enum Attempt {
+    Given(Verdict),
+    NoRoom,
+}
+
+// The verdict on a text that is not too large: 5 with the faults listed, or the verdict on its model; or that its drafts do not fit.
 fn judge(
     text: &[u8],
     faults: &mut [u8],
@@ -35,11 +40,12 @@ fn judge(
     used: &mut [u16],
     lines: &mut [u16],
     bounds: &mut [u16],
-) -> Verdict
+) -> Attempt
     requires { ⌜ Roomy (now text) (now faults) (now «row_kinds») (now «row_args») (now kinds) (now args) (now used) (now lines) (now bounds) ⌝ }
-    ensures { λ r. ⌜ Judges (now (text .entry)) (now (faults .entry)) (now (program .entry)) r (now (faults .exit)) (now (program .exit)) ⌝ }
+    ensures { λ r. ⌜ Tries (now (text .entry)) (length (now (kinds .entry))) (now (faults .entry)) (now (program .entry)) r
+        (now (faults .exit)) (now (program .exit)) ⌝ }
 {
-    let n = read_all(
+    let r = read_all(
         text,
         row_kinds,
         row_args,
@@ -49,12 +55,15 @@ fn judge(
         &mut *bounds,
         &mut *faults,
     );
+    let Reading::All(n) = r else {
+        return Attempt::NoRoom;
+    };
     if 0 < n.faults {
-        return Verdict::Faulty(5, n.faults);
+        return Attempt::Given(Verdict::Faulty(5, n.faults));
     }
     let s = n.statements;
     let d = n.drafts;
-    conclude(
+    let v = conclude(
         &lines[..s],
         &bounds[..s + 1],
         &kinds[..d],
@@ -62,13 +71,16 @@ fn judge(
         used,
         faults,
         program,
-    )
+    );
+    Attempt::Given(v)
 }
 
-// The verdict on a text of a few lines.
-fn in_tiny_room(text: &[u8], faults: &mut [u8], program: &mut [u8]) -> Verdict
-    requires { ⌜ (length (sheetOf (now text)) ≤ mostStatements) × (length (now text) < 64) × (faultRoom ≤ length (now faults)) ⌝ }
-    ensures { λ r. ⌜ Judges (now (text .entry)) (now (faults .entry)) (now (program .entry)) r (now (faults .exit)) (now (program .exit)) ⌝ }
+// ---- the rooms
+
+// A text of a few lines.
+fn in_tiny_room(text: &[u8], faults: &mut [u8], program: &mut [u8]) -> Attempt
+    requires { ⌜ (Taken (now text) (now faults)) × (length (now text) < 64) ⌝ }
+    ensures { λ r. ⌜ Tries (now (text .entry)) 64 (now (faults .entry)) (now (program .entry)) r (now (faults .exit)) (now (program .exit)) ⌝ }
 {
     let mut row_kinds = [0u8; TINY];
     let mut row_args = [0u64; TINY];
@@ -91,10 +103,10 @@ fn in_tiny_room(text: &[u8], faults: &mut [u8], program: &mut [u8]) -> Verdict
     )
 }
 
-// The verdict on a short text.
-fn in_small_room(text: &[u8], faults: &mut [u8], program: &mut [u8]) -> Verdict
-    requires { ⌜ (length (sheetOf (now text)) ≤ mostStatements) × (length (now text) < 256) × (faultRoom ≤ length (now faults)) ⌝ }
-    ensures { λ r. ⌜ Judges (now (text .entry)) (now (faults .entry)) (now (program .entry)) r (now (faults .exit)) (now (program .exit)) ⌝ }
+// A short text.
+fn in_small_room(text: &[u8], faults: &mut [u8], program: &mut [u8]) -> Attempt
+    requires { ⌜ Taken (now text) (now faults) ⌝ }
+    ensures { λ r. ⌜ Tries (now (text .entry)) 256 (now (faults .entry)) (now (program .entry)) r (now (faults .exit)) (now (program .exit)) ⌝ }
 {
     let mut row_kinds = [0u8; deck::JOINED_BYTES];
     let mut row_args = [0u64; deck::JOINED_BYTES];
@@ -117,36 +129,10 @@ fn in_small_room(text: &[u8], faults: &mut [u8], program: &mut [u8]) -> Verdict
     )
 }
 
-// The verdict on a text of some length.
-fn in_middle_room(text: &[u8], faults: &mut [u8], program: &mut [u8]) -> Verdict
-    requires { ⌜ (length (sheetOf (now text)) ≤ mostStatements) × (length (now text) < 1024) × (faultRoom ≤ length (now faults)) ⌝ }
-    ensures { λ r. ⌜ Judges (now (text .entry)) (now (faults .entry)) (now (program .entry)) r (now (faults .exit)) (now (program .exit)) ⌝ }
-{
-    let mut row_kinds = [0u8; deck::JOINED_BYTES];
-    let mut row_args = [0u64; deck::JOINED_BYTES];
-    let mut kinds = [0u8; MIDDLE];
-    let mut args = [0u64; MIDDLE];
-    let mut used = [0u16; MIDDLE];
-    let mut lines = [0u16; STATEMENTS];
-    let mut bounds = [0u16; STATEMENTS + 1];
-    judge(
-        text,
-        faults,
-        program,
-        &mut row_kinds,
-        &mut row_args,
-        &mut kinds,
-        &mut args,
-        &mut used,
-        &mut lines,
-        &mut bounds,
-    )
-}
-
-// The verdict on a long text.
-fn in_large_room(text: &[u8], faults: &mut [u8], program: &mut [u8]) -> Verdict
-    requires { ⌜ (length (sheetOf (now text)) ≤ mostStatements) × (length (now text) < 3072) × (faultRoom ≤ length (now faults)) ⌝ }
-    ensures { λ r. ⌜ Judges (now (text .entry)) (now (faults .entry)) (now (program .entry)) r (now (faults .exit)) (now (program .exit)) ⌝ }
+// A text of some length.
+fn in_large_room(text: &[u8], faults: &mut [u8], program: &mut [u8]) -> Attempt
+    requires { ⌜ Taken (now text) (now faults) ⌝ }
+    ensures { λ r. ⌜ Tries (now (text .entry)) 1536 (now (faults .entry)) (now (program .entry)) r (now (faults .exit)) (now (program .exit)) ⌝ }
 {
     let mut row_kinds = [0u8; deck::JOINED_BYTES];
     let mut row_args = [0u64; deck::JOINED_BYTES];
@@ -169,10 +155,10 @@ fn in_large_room(text: &[u8], faults: &mut [u8], program: &mut [u8]) -> Verdict
     )
 }
 
-// The verdict on a very long text.
-fn in_vast_room(text: &[u8], faults: &mut [u8], program: &mut [u8]) -> Verdict
-    requires { ⌜ (length (sheetOf (now text)) ≤ mostStatements) × (length (now text) < 8192) × (faultRoom ≤ length (now faults)) ⌝ }
-    ensures { λ r. ⌜ Judges (now (text .entry)) (now (faults .entry)) (now (program .entry)) r (now (faults .exit)) (now (program .exit)) ⌝ }
+// A long text.
+fn in_vast_room(text: &[u8], faults: &mut [u8], program: &mut [u8]) -> Attempt
+    requires { ⌜ Taken (now text) (now faults) ⌝ }
+    ensures { λ r. ⌜ Tries (now (text .entry)) 5120 (now (faults .entry)) (now (program .entry)) r (now (faults .exit)) (now (program .exit)) ⌝ }
 {
     let mut row_kinds = [0u8; deck::JOINED_BYTES];
     let mut row_args = [0u64; deck::JOINED_BYTES];
@@ -195,10 +181,10 @@ fn in_vast_room(text: &[u8], faults: &mut [u8], program: &mut [u8]) -> Verdict
     )
 }
 
-// The verdict on a text of any length that is taken.
-fn in_whole_room(text: &[u8], faults: &mut [u8], program: &mut [u8]) -> Verdict
-    requires { ⌜ (length (sheetOf (now text)) ≤ mostStatements) × (length (now text) ≤ textBytes) × (faultRoom ≤ length (now faults)) ⌝ }
-    ensures { λ r. ⌜ Judges (now (text .entry)) (now (faults .entry)) (now (program .entry)) r (now (faults .exit)) (now (program .exit)) ⌝ }
+// Any text that is taken.
+fn in_whole_room(text: &[u8], faults: &mut [u8], program: &mut [u8]) -> Attempt
+    requires { ⌜ Taken (now text) (now faults) ⌝ }
+    ensures { λ r. ⌜ Tries (now (text .entry)) 16385 (now (faults .entry)) (now (program .entry)) r (now (faults .exit)) (now (program .exit)) ⌝ }
 {
     let mut row_kinds = [0u8; deck::JOINED_BYTES];
     let mut row_args = [0u64; deck::JOINED_BYTES];
@@ -221,25 +207,55 @@ fn in_whole_room(text: &[u8], faults: &mut [u8], program: &mut [u8]) -> Verdict
     )
 }
 
-// The verdict on a text in the least room that it fits.
-pub(crate) fn in_some_room(text: &[u8], faults: &mut [u8], program: &mut [u8]) -> Verdict
-    requires { ⌜ (length (sheetOf (now text)) ≤ mostStatements) × (length (now text) ≤ textBytes) × (faultRoom ≤ length (now faults)) ⌝ }
-    ensures { λ r. ⌜ Judges (now (text .entry)) (now (faults .entry)) (now (program .entry)) r (now (faults .exit)) (now (program .exit)) ⌝ }
+// Judges a text in the rooms from 0 to this one, the smallest first, until its drafts fit: 0 is the large room, in which a text of more than twice
+// as many bytes is not tried, 1 the vast one, any other the whole one. It calls itself, and not as its last step: that keeps the frames of the rooms
+// apart. Where the compiler puts them into one, the smallest text touches every page of the largest room.
+fn in_rooms(text: &[u8], faults: &mut [u8], program: &mut [u8], room: usize) -> Attempt
+    requires { ⌜ Taken (now text) (now faults) ⌝ }
+    ensures { λ r. ⌜ Tries (now (text .entry)) (roomPlaces room) (now (faults .entry)) (now (program .entry)) r (now (faults .exit)) (now (program .exit)) ⌝ }
 {
-    if text.len() < TINY {
-        return in_tiny_room(text, faults, program);
-    }
-    if text.len() < SMALL {
-        return in_small_room(text, faults, program);
-    }
-    if text.len() < MIDDLE {
-        return in_middle_room(text, faults, program);
-    }
-    if text.len() < LARGE {
+    if room == 0 {
+        if 2 * LARGE < text.len() {
+            return Attempt::NoRoom;
+        }
         return in_large_room(text, faults, program);
     }
-    if text.len() < VAST {
+    let smaller = in_rooms(text, &mut *faults, &mut *program, room - 1);
+    match smaller {
+        Attempt::Given(v) => {
+            return Attempt::Given(v);
+        }
+        Attempt::NoRoom => {}
+    }
+    if room == 1 {
         return in_vast_room(text, faults, program);
     }
     in_whole_room(text, faults, program)
+}
+
+// The verdict that was given; where none was, which its caller rules out, any.
+fn verdict_of(attempt: Attempt) -> Verdict
+    ensures { λ r. ⌜ ((v : Verdict) → attempt ≡ Given v → r ≡ v) ⌝ }
+{
+    match attempt {
+        Attempt::Given(v) => v,
+        Attempt::NoRoom => Verdict::Refused(2),
+    }
+}
+
+// The verdict on a text, in a room that its drafts fit.
+pub(crate) fn in_some_room(text: &[u8], faults: &mut [u8], program: &mut [u8]) -> Verdict
+    requires { ⌜ Taken (now text) (now faults) ⌝ }
+    ensures { λ r. ⌜ Judges (now (text .entry)) (now (faults .entry)) (now (program .entry)) r (now (faults .exit)) (now (program .exit)) ⌝ }
+{
+    if text.len() < TINY {
+        let tiny = in_tiny_room(text, faults, program);
+        return verdict_of(tiny);
+    }
+    if text.len() < SMALL {
+        let small = in_small_room(text, faults, program);
+        return verdict_of(small);
+    }
+    let large = in_rooms(text, faults, program, 2);
+    verdict_of(large)
 }

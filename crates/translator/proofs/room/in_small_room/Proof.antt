@@ -8,8 +8,7 @@ use Rattle.translator.proofs.room.in_small_room.Tie as tie
 judge-requires : tie.Need-judge-requires
 judge-requires c κs =
     let s = c .before .before .before .before .before .before .before .before .before .before .before .before in
-    roomy 256 291 256 (s .pre .0) (omega (arith, s .pre .1)) (omega arith) (s .pre .2) (λ n h _. omega arith)
-    (omega (arith, s .pre .0))
+    roomy 256 291 256 (s .pre) (omega arith) (λ n h _. omega arith) (omega (arith, s .pre .0))
 
 pub in-small-room-spec : {M : Type 1} → statement M
 in-small-room-spec =

@@ -8,7 +8,7 @@ use Rattle.translator.proofs.room.in_tiny_room.Tie as tie
 judge-requires : tie.Need-judge-requires
 judge-requires c κs =
     let s = c .before .before .before .before .before .before .before .before .before .before .before .before in
-    roomy 64 64 64 (s .pre .0) (omega (arith, s .pre .1)) (omega arith) (s .pre .2) (λ n _ h. omega (arith, s .pre .1))
+    roomy 64 64 64 (s .pre .0) (omega arith) (λ n _ h. omega (arith, s .pre .1))
     (omega (arith, s .pre .1, sheet-bytes (s .args .text .now)))
 
 pub in-tiny-room-spec : {M : Type 1} → statement M
