@@ -75,9 +75,11 @@ module _ {keys kinds places owners args₁ used₁ args used : List ℕ} {from e
   -- a draft is a name: it is resolved, and what it uses is listed
   module _ {slot r r′ : ℕ} {args′ used′ used″ : List ℕ} (h : i < end) (s : slot ≡ resolvedAt keys (getD kinds i 0) (getD args i 0))
       (put′ : Put (usedHere owners (getD kinds i 0) slot) w r′ used used″) (a : args′ ≡ set args i slot) (u : used′ ≡ used″) (c : r ≡ r′) where
+    -- what was put, with what the loop has then
     put : Put (usedHere owners (getD kinds i 0) slot) w r used used′
     put = rw (u, c) put′
 
+    -- one draft more
     listed : {after : Bool}
         → ((args₀ : List ℕ) → length kinds ≤ length args₀ → Resolving keys kinds places args₀ flawed i args
         → Resolving keys kinds places args₀ after (i + 1) args′)
@@ -97,7 +99,8 @@ module _ {keys kinds places owners args₁ used₁ args used : List ℕ} {from e
             let wide : length kinds ≤ length args₀ = omega (arith, k .resolving .long, v .long) in
             let same : usedHere owners (getD kinds i 0) slot ≡ usedFrom owners kinds (resolved keys kinds args₀) i =
             ap (usedHere owners (getD kinds i 0)) (sym (slot-here (k .resolving) (omega arith) wide s)) in
-            record { resolving = more args₀ wide (k .resolving); uses = put-next (usedFrom owners kinds (resolved keys kinds args₀)) i (k .uses) (rw same at put) }
+            let f = usedFrom owners kinds (resolved keys kinds args₀) in
+            record { resolving = more args₀ wide (k .resolving); uses = put-next f i (k .uses) (rw same at put) }
 
     pub walking-flawed : {b after : Bool} → b ≡ flawedBy places kinds (getD kinds i 0) slot → b ≡ true → after ≡ true
         → Walking keys kinds places owners args₁ used₁ from end n r after (i + 1) args′ used′
@@ -128,8 +131,10 @@ module _ {keys kinds places owners args₁ used₁ args used : List ℕ} {from e
           used-other owners (getD kinds i 0) (getD (resolved keys kinds args₀) i 0) m in
           let put : Put (usedFrom owners kinds (resolved keys kinds args₀) i) w r used used′ =
           rw none (record { behind = omega (arith, c); content = u }) in
-          record { resolving = resolving-other (k .resolving) (omega arith) wide m a z; uses = put-next (usedFrom owners kinds (resolved keys kinds args₀)) i (k .uses) put }
+          let f = usedFrom owners kinds (resolved keys kinds args₀) in
+          record { resolving = resolving-other (k .resolving) (omega arith) wide m a z; uses = put-next f i (k .uses) put }
 
+  -- all drafts
   pub walking-last : end ≤ i → (w ≤ end) × ((args₀ used₀ : List ℕ) → Linking keys kinds places owners args₀ used₀ from n args₁ used₁
       → Linking keys kinds places owners args₀ used₀ end (walk w flawed) args used)
   walking-last h =
@@ -138,6 +143,7 @@ module _ {keys kinds places owners args₁ used₁ args used : List ℕ} {from e
 
 -- ---- the loop over statements stands at statement j, with r equations before it
 module _ (keys kinds owners args₀ bounds : List ℕ) where
+  -- where its uses begin, if it is an equation
   abbrev startAt : ℕ → List ℕ
   startAt j = onlyIf (isEquation bounds kinds j) (length (gather (usedFrom owners kinds (resolved keys kinds args₀)) (begins bounds j) 0))
 
@@ -250,8 +256,10 @@ module _ {lines bounds kinds keys owners args₀ used₀ : List ℕ} (places sta
         starts-row : starts′ ≡ sets starts₀ 0 (startsFrom 0 own bounds kinds slots rows)
         starts-row =
             let a = gather (beginAt own bounds kinds slots) (length lines) 0 in
+            let there : length (gather (usedFrom owners kinds slots) (begins bounds j) 0) ≡ length (gather (usedFrom owners kinds slots) (length kinds) 0) =
+            ap (λ (k : ℕ). length (gather (usedFrom owners kinds slots) k 0)) at-end in
             let count : w ≡ length (gather (usedAt own kinds slots) (length kinds) 0) =
-            omega (arith, c, v .linking .uses .behind, ap (λ (k : ℕ). length (gather (usedFrom owners kinds slots) k 0)) at-end, ap length (uses-same (length kinds))) in
+            omega (arith, c, v .linking .uses .behind, there, ap length (uses-same (length kinds))) in
             e ∙ ap₂ (λ (x : List ℕ) (k : ℕ). set x k w) (begun .content) (begun .behind)
             ∙ sym (sets-append starts₀ 0 a (w ∷ []))
             ∙ ap (λ (k : ℕ). sets starts₀ 0 (a ++ (k ∷ []))) count ∙ ap (sets starts₀ 0) (whole-begin own bounds kinds slots (s .sound))

@@ -73,8 +73,8 @@ spotOf bounds kinds j = cond (eqb (getD kinds (begins bounds j) 0) 2) (begins bo
 abbrev pub isUse : List ℕ → ℕ → Bool
 isUse kinds i = eqb (getD kinds i 0) 4
 
--- n statements: one that has drafts and does not begin with a constant defines at most one name, there; one that is no equation has no
--- expression
+-- n statements: one that has drafts and does not begin with a constant defines at most one name, there; in one that is no equation no name
+-- stands in an expression
 pub record Shaped (bounds kinds : List ℕ) (n : ℕ) : Type 0 where
   pub lone : (j : ℕ) → j < n → begins bounds j < ends bounds j → eqb (getD kinds (begins bounds j) 0) 1 ≡ false
       → inStatement bounds (placeAt kinds) j ≡ placeAt kinds (spotOf bounds kinds j)

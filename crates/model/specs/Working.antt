@@ -222,7 +222,8 @@ pub record Weighs (lines bounds kinds slots : List ℕ) (m w : ℕ) (starts used
   pub few : length lines ≤ mostStatements
   pub rows-held : Holds rows m (equationRows (length lines) bounds kinds)
   pub starts-room : m + 1 ≤ length starts
-  pub starts-held : take (m + 1) starts ≡ startsFrom 0 (ownSlots (length lines) bounds kinds slots) bounds kinds slots (equationRows (length lines) bounds kinds)
+  pub starts-held : take (m + 1) starts
+      ≡ startsFrom 0 (ownSlots (length lines) bounds kinds slots) bounds kinds slots (equationRows (length lines) bounds kinds)
   pub used-room : w ≤ length used
   pub used-held : take w used ≡ ownUses (length lines) bounds kinds slots
 

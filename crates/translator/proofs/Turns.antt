@@ -7,7 +7,6 @@ use native.Mathlib.Omega.{arith}
 use lib.ListN.{length, take, replicate, length-append, length-map, length-set}
 use lib.Seq.{length-sets}
 use Rattle.laws.specs.Lists.{concat-map}
-use Rattle.limits.specs.Limits.{mostStatements}
 use Rattle.deck.specs.Joined.{joined}
 use Rattle.deck.specs.Reading.{Statement as Found}
 use Rattle.deck.specs.Codes.{sizeCode, joinedRoom}
