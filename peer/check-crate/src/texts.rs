@@ -13,7 +13,7 @@ const ALPHABET: &[u8] = b"ABCDEIKLMNOPRSTWXZ0123456789.. =(),+-*/ \n\n";
 
 /// A text of a random family.
 pub fn text(random: &mut Random) -> Vec<u8> {
-    match random.below(44) {
+    match random.below(46) {
         0..=4 => valid(random, Size::Small),
         5 => valid(random, Size::Large),
         6..=10 => damaged(random),
@@ -36,6 +36,7 @@ pub fn text(random: &mut Random) -> Vec<u8> {
         38 => raw_bytes(random),
         39 => tiny(random),
         41 => each_byte(random),
+        44 | 45 => dense(random),
         _ => tricky(random),
     }
 }
@@ -834,6 +835,28 @@ fn many_records(random: &mut Random) -> Vec<u8> {
     // The name that some sums use; it needs one more record.
     text.push_str(random.pick(&["CONST T=1\n", "CONST T=1\n", "T=T\n", ""]));
     text.into_bytes()
+}
+
+/// A token in nearly every byte, up to the most that a text holds, at times
+/// with damage.
+fn dense(random: &mut Random) -> Vec<u8> {
+    let most = random.range(100, 16_500);
+    let mut text = b"T=1\n".to_vec();
+    for i in 0..random.range(1, 255) {
+        let part = random.pick(&["+1", "-2", "*3", "+T", "/T"]);
+        let sum = part.repeat(random.range(1, 34));
+        let statement = format!("N{i}={}\n", &sum[1..]);
+        if text.len() + statement.len() > most {
+            break;
+        }
+        text.extend(statement.bytes());
+    }
+    if random.once_in(2) {
+        for _ in 0..random.range(1, 4) {
+            damage_bytes(random, &mut text);
+        }
+    }
+    text
 }
 
 /// Statements nested to just about level 16.
