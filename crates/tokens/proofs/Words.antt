@@ -84,7 +84,7 @@ module _ (n : List ℕ) where
       )
 
   -- any other count is a name
-  pub named-other : (length n ≡ 4 → ⊥) → (length n ≡ 5 → ⊥) → (length n ≡ 6 → ⊥) → named n ≡ name (keyOf n)
+  named-other : (length n ≡ 4 → ⊥) → (length n ≡ 5 → ⊥) → (length n ≡ 6 → ⊥) → named n ≡ name (keyOf n)
   unfolding named
   named-other a b c =
       rw (
@@ -118,21 +118,11 @@ module _ (n : List ℕ) where
       other : (w : Word) → wordKind w ≡ 2 → ⊥
       other w e = omega (arith, word-range w)
 
-  -- a reserved word has none
-  pub arg-word : (kindOf (named n) ≡ 2 → ⊥) → argOf (named n) ≡ 0
-  arg-word = named-ind (λ (t : Symbol). (kindOf t ≡ 2 → ⊥) → argOf t ≡ 0) (λ w _. refl) (λ h. absurd (h refl))
-
   -- a name's number is its key
   pub name-key : (k : ℕ) → named n ≡ name k → k ≡ keyOf n
   name-key k e = ap argOf (sym e) ∙ arg-name (ap kindOf e)
 
-  -- a name as it is held: its key is read from its bytes
-  pub held-name : (k a : ℕ) → length n ≤ nameBytes → k ≡ kindOf (named n) → k ≡ 2 → a ≡ lowWord (take nameBytes n)
-      → _≡_ {A = Held} (record { kind = k; arg = a }) (heldAs (named n))
-  held-name k a h e t q =
-      let arg = q ∙ ap lowWord (take-all nameBytes n h) ∙ sym (arg-name (sym e ∙ t)) in
-      λ i. record { kind = e i; arg = arg i }
-
-  -- a reserved word as it is held
-  pub held-word : (k : ℕ) → k ≡ kindOf (named n) → (k ≡ 2 → ⊥) → _≡_ {A = Held} (record { kind = k; arg = 0 }) (heldAs (named n))
-  held-word k e t = let arg = sym (arg-word (λ f. t (e ∙ f))) in λ i. record { kind = e i; arg = arg i }
+  -- a name of any other count as it is held: its key is read from its bytes
+  pub held-other : (a : ℕ) → length n ≤ nameBytes → (length n ≡ 4 → ⊥) → (length n ≡ 5 → ⊥) → (length n ≡ 6 → ⊥)
+      → a ≡ lowWord (take nameBytes n) → _≡_ {A = Held} (record { kind = 2; arg = a }) (heldAs (named n))
+  held-other a h four five six q = rw (named-other four five six, q, take-all nameBytes n h)

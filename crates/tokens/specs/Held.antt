@@ -1,10 +1,13 @@
 -- A token as code holds it: two numbers, its kind and its argument.
-use Prim.Native.Nat.{ℕ, _+_, _*_}
+use Prim.Native.Nat.{ℕ, _+_, _*_, _<_}
+use mathlib.Core.Path.{_≡_}
 use mathlib.Core.Bool.{cond}
 use mathlib.Core.List.{List, [], _∷_}
 use lib.Dec.{ltb}
-use lib.ListN.{getD}
+use lib.ListN.{getD, take}
 use lib.Ieee.{binary64, toBits, ofBits}
+use Rattle.laws.specs.Every.{Every}
+use Rattle.bits.specs.Low.{lowWord}
 use Rattle.tokens.specs.Symbol.{Word, CONST, PARAM, INCON, INTGRL, TIME, INSW, LIMIT, COMPAR, Symbol, mark, number, name, word}
 
 -- the reserved words in the paper's order
@@ -35,6 +38,15 @@ argOf (word w) = 0
 -- the number of three bytes of a name from place i on, 0 for those past the end
 abbrev pub threeOf : List ℕ → ℕ → ℕ
 threeOf n i = getD n i 0 + 256 * getD n (i + 1) 0 + 65536 * getD n (i + 2) 0
+
+-- a number that one byte holds
+abbrev pub Byte : ℕ → Type 0
+Byte b = b < 256
+
+-- r is the number of the first k bytes of a row, or of as many as there are, and each of them is a byte
+pub record Front (n : List ℕ) (k r : ℕ) : Type 0 where
+  pub value : r ≡ lowWord (take k n)
+  pub each : Every Byte (take k n)
 
 -- ---- and back: the token of a kind and an argument. Every two numbers are one
 

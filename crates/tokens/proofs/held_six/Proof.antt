@@ -1,0 +1,80 @@
+use mathlib.Core.Path.{sym, _∙_}
+use borrow.Author.Needs.{needs}
+use Rattle.tokens.proofs.Spelling.{front-whole}
+use Rattle.tokens.proofs.Words.{named-six}
+use Rattle.tokens.proofs.held_six.Statement.{statement}
+use Rattle.tokens.proofs.held_six.Tie as tie
+
+-- the way from a comparison back to the one before it, and to the start
+abbrev C1 : tie.After-spells-six2 → tie.After-spells-six
+C1 b = b .before .before .before
+
+abbrev S : tie.After-spells-six → tie.Start
+S a = a .before .before .before
+
+slice-aggregate-spells-six : tie.Need-slice-aggregate-spells-six
+slice-aggregate-spells-six c = search needs
+
+spells-six-requires : tie.Need-spells-six-requires
+spells-six-requires c κs = search needs
+
+word-requires : tie.Need-word-requires
+word-requires c κs = search needs
+
+returns : tie.Need-returns
+returns c =
+    let p = c .before .before in
+    c .word .ensures
+    ∙ rw (
+      named-six (S p .args .name .now) (S p .pre),
+      sym (p .spells-six .ensures) ∙ c .before .if1 .taken,
+    )
+
+slice-aggregate-spells-six-2 : tie.Need-slice-aggregate-spells-six-2
+slice-aggregate-spells-six-2 c = search needs
+
+spells-six-requires-2 : tie.Need-spells-six-requires-2
+spells-six-requires-2 c κs = search needs
+
+word-requires-2 : tie.Need-word-requires-2
+word-requires-2 c κs = search needs
+
+returns-2 : tie.Need-returns-2
+returns-2 c =
+    let q = c .before .before in
+    let p = C1 q in
+    c .word2 .ensures
+    ∙ rw (
+      named-six (S p .args .name .now) (S p .pre),
+      sym (p .spells-six .ensures) ∙ q .before .before .if1 .left,
+      sym (q .spells-six2 .ensures) ∙ c .before .if2 .taken,
+    )
+
+six-of-requires : tie.Need-six-of-requires
+six-of-requires c κs = search needs
+
+returns-3 : tie.Need-returns-3
+returns-3 c =
+    let q = c .before .before in
+    let p = C1 q in
+    rw (
+      named-six (S p .args .name .now) (S p .pre),
+      sym (p .spells-six .ensures) ∙ q .before .before .if1 .left,
+      sym (q .spells-six2 .ensures) ∙ c .before .if2 .left,
+      front-whole (c .six-of .ensures) (S p .pre),
+    )
+
+pub held-six-spec : {M : Type 1} → statement M
+held-six-spec =
+    tie.close
+    (tie.spec
+    slice-aggregate-spells-six
+    spells-six-requires
+    word-requires
+    returns
+    slice-aggregate-spells-six-2
+    spells-six-requires-2
+    word-requires-2
+    returns-2
+    six-of-requires
+    returns-3)
