@@ -20,9 +20,9 @@ use Rattle.model.proofs.Rows.{rows-length}
 use Rattle.model.proofs.Clean.{no-faults, order-good}
 use Rattle.model.proofs.Meant.{slots-meant}
 use Rattle.program.specs.Program.{constantRecs, initialRecs, equationRecs, program}
-use Rattle.program.specs.Written.{Led, recordCount, writtenProgram}
+use Rattle.program.specs.Written.{recordCount, writtenProgram}
 use Rattle.program.proofs.Steps.{steps-of}
-use Rattle.program.proofs.Settings.{constants-of, initials-of, led-constants, led-initials}
+use Rattle.program.proofs.Settings.{constants-of, initials-of}
 use Rattle.program.proofs.Counts.{count-of}
 
 -- the bytes of a program whose equations are in the order q
@@ -50,12 +50,6 @@ module _ (ss : List Numbered) (kinds args lines bounds : List ℕ) (laid : Laid 
   -- the order has each equation once
   order-permutes : Permutation (equationCount ds) (orderOf ds)
   order-permutes = order-good ds (no-faults ss clean .2) .perm
-
-  -- A STATEMENT that has a constant or an initial begins with one
-  pub led-meant : Led 1 (placesIn kinds) lines bounds kinds slots × Led 2 (placesIn kinds) lines bounds kinds slots
-  led-meant =
-      rw (slots-meant ss kinds args lines bounds laid)
-      (rw (laid .kinds-held, laid .lines-held, laid .bounds-held) (led-constants ss, led-initials ss))
 
   -- THE COUNT of records
   pub count-meant : recordCount kinds ≡ length (program ds (orderOf ds))

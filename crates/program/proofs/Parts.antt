@@ -1,5 +1,5 @@
 -- What the parts of the program are in each case that code tells apart.
-use Prim.Native.Nat.{ℕ, suc, _+_, _≤_, _<_}
+use Prim.Native.Nat.{ℕ, suc, _+_, _-_, _≤_, _<_}
 use mathlib.Core.Path.{_≡_, refl, sym, ap, _∙_}
 use mathlib.Core.Bool.{Bool, true, false, cond}
 use mathlib.Core.List.{List, [], _∷_, _++_}
@@ -11,7 +11,19 @@ use lib.Seq.{drop-cons}
 use Rattle.laws.specs.Counts.{once}
 use Rattle.laws.specs.Places.{gather}
 use Rattle.laws.proofs.Gathers.{gather-shift}
-use Rattle.program.specs.Written.{fieldBytes, writes, recordCount, stepBytes, stepsOf, orderedSteps}
+use Rattle.model.specs.Places.{begins, ends}
+use Rattle.program.specs.Written.{fieldBytes, writes, recordCount, settingAt, settingsOf, stepBytes, stepsOf, orderedSteps}
+
+-- ---- the settings of a statement whose first draft is at place i
+module _ (phase : ℕ) (places lines bounds kinds slots : List ℕ) (j : ℕ) {i : ℕ} (first : i ≡ begins bounds j) where
+  -- it does not begin with one
+  pub settings-none : (getD kinds i 0 ≡ phase → ⊥) → settingsOf phase places lines bounds kinds slots j ≡ []
+  settings-none h = rw (← first, ne-eqb (getD kinds i 0) phase h)
+
+  -- it does: what its places give
+  pub settings-some : {line end : ℕ} → line ≡ getD lines j 0 → end ≡ ends bounds j → getD kinds i 0 ≡ phase
+      → settingsOf phase places lines bounds kinds slots j ≡ gather (settingAt phase places kinds slots line) (end - i) i
+  settings-some l e h = rw (l, e, ← first, eq-eqb (getD kinds i 0) phase h)
 
 -- ---- the record of a step, by its kind
 module _ (k x line : ℕ) where

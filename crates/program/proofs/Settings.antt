@@ -14,7 +14,7 @@ use lib.Ieee.{Float, binary64, toBits}
 use Rattle.laws.specs.Lists.{concat-map}
 use Rattle.laws.specs.Counts.{count, _∈_}
 use Rattle.laws.specs.Places.{gather}
-use Rattle.laws.proofs.Tests.{eq-or-ne, not-both}
+use Rattle.laws.proofs.Tests.{eq-or-ne, not-both, cond-ind}
 use Rattle.laws.proofs.Counts.{once-other}
 use Rattle.laws.proofs.Concats.{concat-concat}
 use Rattle.laws.proofs.Along.{along, gather-over}
@@ -26,16 +26,16 @@ use Rattle.sheet.specs.Layout.{draftsIn}
 use Rattle.records.specs.Record.{Rec, recBytes}
 use Rattle.model.specs.Definitions.{What, constant, assigned, integral, Def, definedBy, definitions, keys, placeIn, slotIn}
 use Rattle.model.specs.Faults.{constantKeys, nameFaults}
-use Rattle.model.specs.Places.{homeOf, begins}
+use Rattle.model.specs.Places.{homeOf}
 use Rattle.model.proofs.Drafts.{noDraft, Plain, along-expression, Home, homeOfWhat}
 use Rattle.model.proofs.Walk.{sheetKinds, sheetLines, sheetBounds, sheetKeys, sheetSlots, sheetPlaces, slotOf, kind-at, slot-at, draftsBy, line-at}
-use Rattle.model.proofs.Walk.{at-each, along-statement, first-kind}
+use Rattle.model.proofs.Walk.{along-statement, first-kind}
 use Rattle.model.proofs.Slots.{Once, isConstant, definitionOf, definition-first, definition-later, constant-at}
 use Rattle.model.proofs.Doubled.{definedIn, homeAt}
 use Rattle.model.proofs.Asked.{home-of}
 use Rattle.model.proofs.Clean.{initial-known}
 use Rattle.program.specs.Program.{constantValue, valueIn, initialValue, constantRecs, initialRecs}
-use Rattle.program.specs.Written.{fieldBytes, settingAt, settingsOf, Led}
+use Rattle.program.specs.Written.{fieldBytes, settingAt, settingsOf}
 
 -- the value of a constant is the one of its definition
 value-of : (ds : List Def) (k : ℕ) (x : Float) → k ∈ keys ds → definitionOf ds k .what ≡ constant x → valueIn ds k ≡ x
@@ -90,11 +90,19 @@ module _ (ss : List Numbered) where
       rw (getD-drop i (draftsIn ss) 0 noDraft, getD-drop i (draftsIn ss) 1 noDraft, add-zero i)
       (rw (kind-at (draftsIn ss) i, slot-at ks (draftsIn ss) i, kind-at (draftsIn ss) (i + 1), slot-at ks (draftsIn ss) (i + 1)))
 
+  -- what does not begin with a draft of a phase has no setting of it
+  abbrev First : ℕ → Type 0
+  First phase =
+      (l : ℕ) (x : Says) (q : List Draft) → eqb (getD (draftsOf x ++ q) 0 noDraft .kind) phase ≡ false → along (settingOf phase l) (draftsOf x) q ≡ []
+
   -- of a statement
-  settings-at : (phase : ℕ) (a : List Numbered) (s : Numbered) (b : List Numbered) → ss ≡ a ++ s ∷ b
+  settings-at : (phase : ℕ) → First phase → (a : List Numbered) (s : Numbered) (b : List Numbered) → ss ≡ a ++ s ∷ b
       → settingsIn phase (length a) ≡ along (settingOf phase (s .line)) (draftsBy s) (draftsIn b)
-  settings-at phase a s b p =
-      rw (line-at ss a s b p) (along-statement ss a s b p (settingIn phase (s .line)) (settingOf phase (s .line)) (setting-at phase (s .line)))
+  settings-at phase first a s b p =
+      let all = along-statement ss a s b p (settingIn phase (s .line)) (settingOf phase (s .line)) (setting-at phase (s .line)) in
+      rw (first-kind ss a s b p, line-at ss a s b p)
+      (cond-ind (λ (r : List ℕ). r ≡ along (settingOf phase (s .line)) (draftsBy s) (draftsIn b)) _ _ _
+      (λ _. all) (λ e. sym (first (s .line) (s .says) (draftsIn b) e)))
 
   -- statement by statement, where each writes the records f of its definitions
   settings-of : (phase : ℕ) (f : Def → List Rec)
@@ -121,12 +129,20 @@ module _ (ss : List Numbered) where
   constant-settings l (state k (plain x) t) q = along-expression (settingOf 1 l) (constant-none l) t (draft 14 k) q
   constant-settings l (state k (from c) t) q = along-expression (settingOf 1 l) (constant-none l) t (draft 14 k) q
 
+  -- a statement that has a constant begins with one
+  constants-first : First 1
+  unfolding along concat-map
+  constants-first l (constants []) q e = refl
+  constants-first l (constants (c ∷ cs)) q e = absurd (not-both refl e)
+  constants-first l (assignment k t) q e = constant-settings l (assignment k t) q
+  constants-first l (state k i t) q e = constant-settings l (state k i t) q
+
   -- KIND 1, in text order
   pub constants-of : gather (settingsIn 1) (length (sheetLines ss)) 0
       ≡ concat-map recBytes (concat-map (λ (d : Def). constantRecs ds d (d .what)) ds)
   constants-of =
       settings-of 1 (λ (d : Def). constantRecs ds d (d .what))
-      (λ a s b p. settings-at 1 a s b p ∙ constant-settings (s .line) (s .says) (draftsIn b))
+      (λ a s b p. settings-at 1 constants-first a s b p ∙ constant-settings (s .line) (s .says) (draftsIn b))
 
   -- ---- states: plain drafts have no setting
   initial-none : (l k a : ℕ) (x : List Draft) → Plain k → settingOf 2 l (draft k a ∷ x) ≡ []
@@ -150,40 +166,18 @@ module _ (ss : List Numbered) where
   initial-settings l (state k (from c) t) v q =
       ap₂ (λ n r. fieldBytes 2 (slotIn ds k) l n ++ r) v (along-expression (settingOf 2 l) (initial-none l) t (draft 14 k) q)
 
-  -- ---- a statement that has a setting begins with one: constants
-  constants-first : (l : ℕ) (x : Says) (q : List Draft) → eqb (getD (draftsOf x ++ q) 0 noDraft .kind) 1 ≡ false → along (settingOf 1 l) (draftsOf x) q ≡ []
-  unfolding along concat-map
-  constants-first l (constants []) q e = refl
-  constants-first l (constants (c ∷ cs)) q e = absurd (not-both refl e)
-  constants-first l (assignment k t) q e = constant-settings l (assignment k t) q
-  constants-first l (state k i t) q e = constant-settings l (state k i t) q
-
-  -- none of them is an initial
+  -- constants have none
   no-initials : (l : ℕ) (cs : List Constant) (q : List Draft) → along (settingOf 2 l) (draftsOf (constants cs)) q ≡ []
   unfolding along concat-map
   no-initials l [] q = refl
   no-initials l (c ∷ cs) q = no-initials l cs q
 
-  -- states
-  state-first : (l : ℕ) (x : Says) (q : List Draft) → eqb (getD (draftsOf x ++ q) 0 noDraft .kind) 2 ≡ false → along (settingOf 2 l) (draftsOf x) q ≡ []
+  -- a statement that has an initial begins with it
+  state-first : First 2
   unfolding along concat-map
   state-first l (constants cs) q e = no-initials l cs q
   state-first l (assignment k t) q e = initial-settings l (assignment k t) tt q
   state-first l (state k i t) q e = absurd (not-both refl e)
-
-  -- of each statement
-  led-by : (phase : ℕ) → ((l : ℕ) (x : Says) (q : List Draft) → eqb (getD (draftsOf x ++ q) 0 noDraft .kind) phase ≡ false
-      → along (settingOf phase l) (draftsOf x) q ≡ [])
-      → Led phase (sheetPlaces ss) (sheetLines ss) (sheetBounds ss) (sheetKinds ss) (sheetSlots ss)
-  led-by phase f =
-      at-each ss (λ j. eqb (getD (sheetKinds ss) (begins (sheetBounds ss) j) 0) phase ≡ false → settingsIn phase j ≡ [])
-      (λ a s b p e. settings-at phase a s b p ∙ f (s .line) (s .says) (draftsIn b) (rw (first-kind ss a s b p) at e))
-
-  pub led-constants : Led 1 (sheetPlaces ss) (sheetLines ss) (sheetBounds ss) (sheetKinds ss) (sheetSlots ss)
-  led-constants = led-by 1 constants-first
-
-  pub led-initials : Led 2 (sheetPlaces ss) (sheetLines ss) (sheetBounds ss) (sheetKinds ss) (sheetSlots ss)
-  led-initials = led-by 2 state-first
 
   -- ---- where names stand once and there is no 22 and no 23
   module _ (distinct : Once ks) (clean : nameFaults ds ds ≡ []) where
@@ -210,4 +204,4 @@ module _ (ss : List Numbered) where
         ≡ concat-map recBytes (concat-map (λ (d : Def). initialRecs ds d (d .what)) ds)
     initials-of =
         settings-of 2 (λ (d : Def). initialRecs ds d (d .what))
-        (λ a s b p. settings-at 2 a s b p ∙ initial-settings (s .line) (s .says) (valued a s b p (s .says) refl) (draftsIn b))
+        (λ a s b p. settings-at 2 state-first a s b p ∙ initial-settings (s .line) (s .says) (valued a s b p (s .says) refl) (draftsIn b))

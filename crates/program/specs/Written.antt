@@ -1,7 +1,6 @@
 -- The program as code writes it: by place, over the arrays of a sheet whose names are resolved. Every read past an end gives 0.
-use Prim.Native.Nat.{ℕ, suc, _+_, _-_, _*_, _%_, _<_}
-use mathlib.Core.Path.{_≡_}
-use mathlib.Core.Bool.{Bool, false, cond, _&&_, _||_}
+use Prim.Native.Nat.{ℕ, suc, _+_, _*_, _%_}
+use mathlib.Core.Bool.{Bool, cond, _&&_, _||_}
 use mathlib.Core.List.{List, [], _∷_, _++_}
 use lib.Dec.{eqb, leb}
 use lib.ListN.{length, getD}
@@ -44,14 +43,10 @@ stepBytes kind arg line =
 abbrev pub stepAt : List ℕ → List ℕ → ℕ → ℕ → List ℕ
 stepAt kinds slots line i = stepBytes (getD kinds i 0) (getD slots i 0) line
 
--- ---- of a statement: its settings of a phase; its steps
+-- ---- of a statement: its settings of a phase, where it begins with one; its steps
 abbrev pub settingsOf : ℕ → List ℕ → List ℕ → List ℕ → List ℕ → List ℕ → ℕ → List ℕ
-settingsOf phase places lines bounds kinds slots j = inStatement bounds (settingAt phase places kinds slots (getD lines j 0)) j
-
--- a statement that has a setting of a phase begins with one
-abbrev pub Led : ℕ → List ℕ → List ℕ → List ℕ → List ℕ → List ℕ → Type 0
-Led phase places lines bounds kinds slots =
-    (j : ℕ) → j < length lines → eqb (getD kinds (begins bounds j) 0) phase ≡ false → settingsOf phase places lines bounds kinds slots j ≡ []
+settingsOf phase places lines bounds kinds slots j =
+    cond (eqb (getD kinds (begins bounds j) 0) phase) (inStatement bounds (settingAt phase places kinds slots (getD lines j 0)) j) []
 
 abbrev pub stepsOf : List ℕ → List ℕ → List ℕ → List ℕ → ℕ → List ℕ
 stepsOf lines bounds kinds slots j = inStatement bounds (stepAt kinds slots (getD lines j 0)) j

@@ -8,7 +8,7 @@ ghost use Rattle.laws.specs.Counts.{once};
 ghost use Rattle.laws.specs.Places.{gather};
 ghost use Rattle.model.specs.Places.{homeOf};
 ghost use Rattle.laws.specs.Put.{Put};
-ghost use Rattle.program.specs.Written.{fieldBytes, headOf, writes, recordCount, valueAt, settingAt, settingsOf, Led};
+ghost use Rattle.program.specs.Written.{fieldBytes, headOf, writes, recordCount, valueAt, settingAt, settingsOf};
 ghost use Rattle.program.specs.Written.{stepBytes, stepsOf, orderedSteps, writtenProgram};
 use bits::put_eight;
 use limits::RECORD_BYTES;
@@ -147,8 +147,7 @@ fn put_settings(
 ) -> usize
     requires { ⌜
         (j < length (now lines))
-        × (at + length (settingsOf phase (now places) (now lines) (now bounds) (now kinds) (now slots) j) ≤ length (now out))
-        × Led phase (now places) (now lines) (now bounds) (now kinds) (now slots) ⌝ }
+        × (at + length (settingsOf phase (now places) (now lines) (now bounds) (now kinds) (now slots) j) ≤ length (now out)) ⌝ }
     ensures { λ r. ⌜
         Put (settingsOf phase (now (places .entry)) (now (lines .entry)) (now (bounds .entry)) (now (kinds .entry)) (now (slots .entry)) j)
         at r (now (out .entry)) (now (out .exit)) ⌝ }
@@ -179,9 +178,8 @@ fn put_all_settings(
     at: usize,
 ) -> usize
     requires { ⌜
-        (at + length (gather (settingsOf phase (now places) (now lines) (now bounds) (now kinds) (now slots)) (length (now lines)) 0)
-        ≤ length (now out))
-        × Led phase (now places) (now lines) (now bounds) (now kinds) (now slots) ⌝ }
+        at + length (gather (settingsOf phase (now places) (now lines) (now bounds) (now kinds) (now slots)) (length (now lines)) 0)
+        ≤ length (now out) ⌝ }
     ensures { λ r. ⌜
         Put (gather
         (settingsOf phase (now (places .entry)) (now (lines .entry)) (now (bounds .entry)) (now (kinds .entry)) (now (slots .entry)))
@@ -280,10 +278,7 @@ pub fn put_program(
     order: &[u16],
     out: &mut [u8],
 ) -> usize
-    requires { ⌜
-        (length (writtenProgram (now places) (now rows) (now lines) (now bounds) (now kinds) (now slots) (now order)) ≤ length (now out))
-        × Led 1 (now places) (now lines) (now bounds) (now kinds) (now slots)
-        × Led 2 (now places) (now lines) (now bounds) (now kinds) (now slots) ⌝ }
+    requires { ⌜ length (writtenProgram (now places) (now rows) (now lines) (now bounds) (now kinds) (now slots) (now order)) ≤ length (now out) ⌝ }
     ensures { λ r. ⌜
         (let p = writtenProgram (now (places .entry)) (now (rows .entry)) (now (lines .entry)) (now (bounds .entry)) (now (kinds .entry))
         (now (slots .entry)) (now (order .entry)) in

@@ -1,13 +1,13 @@
 -- From a plan to the program: what the plan's arrays hold, and the answer of each path.
-use Prim.Native.Nat.{ℕ, suc, _+_, _/_, _<_, _≤_}
+use Prim.Native.Nat.{ℕ, _/_, _≤_}
 use mathlib.Core.Path.{_≡_, refl, sym, ap, _∙_}
 use mathlib.Core.Bool.{Bool, true, false, _||_}
-use mathlib.Core.List.{List, [], _∷_, _++_}
+use mathlib.Core.List.{List, []}
 use native.Mathlib.Omega.{arith}
 use native.Mathlib.Nat.{zero-add}
 use borrow.Author.Tests.{ltb-true, ltb-false}
 use lib.Dec.{ltb}
-use lib.ListN.{length, take, length-append, length-replicate}
+use lib.ListN.{length, take, length-replicate}
 use lib.Seq.{sets, length-sets, length-take-le}
 use Rattle.limits.specs.Limits.{mostDefinitions, mostStatements, mostRecords, recordBytes}
 use Rattle.laws.proofs.Bools.{or-false}
@@ -15,13 +15,12 @@ use Rattle.sheet.specs.Sheet.{Numbered}
 use Rattle.sheet.specs.Layout.{Laid}
 use Rattle.model.specs.Definitions.{Def, definitions, equationCount}
 use Rattle.model.specs.Faults.{modelFaults, orderOf}
-use Rattle.model.specs.Places.{keysIn, placesIn, resolved, equationRows}
-use Rattle.model.specs.Plan.{lent, Outcome, outcome, Plans, fit, planned}
+use Rattle.model.specs.Places.{placesIn, equationRows}
+use Rattle.model.specs.Plan.{lent, Outcome, outcome, Plans}
 use Rattle.model.specs.declared.answer.Plan.{Plan}
 use Rattle.model.proofs.Clean.{no-faults}
 use Rattle.model.proofs.Meant.{places-meant, rows-meant}
-use Rattle.program.specs.Written.{Led, recordCount, writtenProgram}
-use Rattle.program.proofs.Meant.{led-meant}
+use Rattle.program.specs.Written.{recordCount, writtenProgram}
 use Rattle.translator.specs.declared.Verdict.{Verdict}
 use Rattle.translator.specs.declared.Verdict.the-variants.{Refused, Faulty, Translated}
 use Rattle.translator.specs.Working.{zeros, blank, held, Ready, Planned, Concludes}
@@ -98,10 +97,6 @@ module _ {p : Plan} {places rows order lines bounds kinds args : List ℕ} (s : 
       → r₃ ≡ take (p .equations) order
       → writtenProgram r₁ r₂ lines bounds kinds args r₃ ≡ written (s .statements) kinds (s .named) lines bounds (s .laid) [] [] []
   written-cut e₁ e₂ e₃ = rw (e₁, e₂, e₃, places-cut, rows-cut, order-cut, s .args-resolved)
-
-  -- its statements begin with their settings
-  pub program-led : {r₁ : List ℕ} → r₁ ≡ take (p .definitions) places → Led 1 r₁ lines bounds kinds args × Led 2 r₁ lines bounds kinds args
-  program-led e₁ = rw (e₁, places-cut, s .args-resolved) (led-meant (s .statements) kinds (s .named) lines bounds (s .laid) (s .clean))
 
   -- ---- the answers
   module _ (out : List ℕ) {over : Bool} (tested : over ≡ (ltb mostRecords (recordCount kinds) || ltb (length out / recordBytes) (recordCount kinds))) where

@@ -21,7 +21,7 @@ loop-holds c = writes-first _ _ _ _ _
 put-settings-requires : tie.Need-put-settings-requires Inv-loop μ-loop
 put-settings-requires c κs =
     let s = c .before .before .before .before .before .before .before .before .before in
-    (c .before .loop-test .taken, whole-room (c .before .before .loop .inv) (c .before .loop-test .taken) (s .pre .0), s .pre .1)
+    (c .before .loop-test .taken, whole-room (c .before .before .loop .inv) (c .before .loop-test .taken) (s .pre))
 
 add-j : tie.Need-add-j Inv-loop μ-loop
 add-j c = search needs

@@ -24,14 +24,14 @@ put-all-settings-requires : tie.Need-put-all-settings-requires
 unfolding writtenProgram
 put-all-settings-requires c κs =
     let s = c .before .before .before .before .before .before .before .before .before in
-    (room-first (settings s 1) (settings s 2) (steps s) (s .args .out .now) (s .pre .0), s .pre .1)
+    room-first (settings s 1) (settings s 2) (steps s) (s .args .out .now) (s .pre)
 
 put-all-settings-requires-2 : tie.Need-put-all-settings-requires-2
 unfolding writtenProgram
 put-all-settings-requires-2 c κs =
     let p = c .before .before .before in
     let s = p .before .before .before .before .before .before .before .before .before .before in
-    (room-second (settings s 1) (settings s 2) (steps s) (s .args .out .now) (s .pre .0) (p .put-all-settings .ensures), s .pre .2)
+    room-second (settings s 1) (settings s 2) (steps s) (s .args .out .now) (s .pre) (p .put-all-settings .ensures)
 
 put-ordered-requires : tie.Need-put-ordered-requires
 unfolding writtenProgram
@@ -39,7 +39,7 @@ put-ordered-requires c κs =
     let q = c .before .before .before in
     let p = q .before .before .before .before in
     let s = p .before .before .before .before .before .before .before .before .before .before in
-    room-third (settings s 1) (settings s 2) (steps s) (s .args .out .now) (s .pre .0)
+    room-third (settings s 1) (settings s 2) (steps s) (s .args .out .now) (s .pre)
     (p .put-all-settings .ensures) (q .put-all-settings2 .ensures)
 
 same-length : tie.Need-same-length
@@ -52,7 +52,7 @@ returns c =
     let q = t .before .before .before .before in
     let p = q .before .before .before .before in
     let s = p .before .before .before .before .before .before .before .before .before .before in
-    put-three (settings s 1) (settings s 2) (steps s) (s .args .out .now) (s .pre .0)
+    put-three (settings s 1) (settings s 2) (steps s) (s .args .out .now) (s .pre)
     (p .put-all-settings .ensures) (q .put-all-settings2 .ensures) (t .put-ordered .ensures)
 
 pub put-program-spec : {M : Type 1} → statement M

@@ -1,12 +1,13 @@
 -- A statement that does not begin with a setting has none; else the loop goes over the places of the statement.
 use Prim.Native.Nat.{_-_}
-use mathlib.Core.Path.{_∙_}
+use mathlib.Core.Path.{_≡_, sym, _∙_}
 use native.Mathlib.Omega.{arith}
-use borrow.Author.Tests.{ne-eqb}
 use borrow.Author.Needs.{needs}
+use Rattle.laws.specs.Places.{gather}
 use Rattle.laws.proofs.Gathers.{Writes, writes-first, writes-room}
-use Rattle.program.specs.Written.{settingAt}
-use Rattle.program.proofs.Puts.{put-none, put-next, put-all}
+use Rattle.program.specs.Written.{settingAt, settingsOf}
+use Rattle.program.proofs.Puts.{put-as, put-none, put-next, put-all}
+use Rattle.program.proofs.Parts.{settings-none, settings-some}
 use Rattle.program.proofs.put_settings.Statement.{statement}
 use Rattle.program.proofs.put_settings.Tie as tie
 
@@ -26,10 +27,10 @@ byte-at-requires c κs = search needs
 returns : tie.Need-returns Inv-loop μ-loop
 returns c =
     let h = c .before .before in
-    let s = h .before .before .before .before .before .before .before in
-    let i = h .half-at .ensures .0 in
-    put-none (s .args .at) (s .args .out .now)
-    (s .pre .2 (s .args .j) (s .pre .0) (rw (← i) (ne-eqb _ _ (λ e. c .if1 .taken (c .before .byte-at .ensures ∙ e)))))
+    let a = h .before .before .before .before .before .before .before .args in
+    put-none (a .at) (a .out .now)
+    (settings-none (a .phase) (a .places .now) (a .lines .now) (a .bounds .now) (a .kinds .now) (a .slots .now) (a .j)
+    (h .half-at .ensures .0) (λ e. c .if1 .taken (c .before .byte-at .ensures ∙ e)))
 
 half-at-requires-2 : tie.Need-half-at-requires-2 Inv-loop μ-loop
 half-at-requires-2 c κs = search needs
@@ -47,12 +48,23 @@ loop-holds c = writes-first _ _ _ _ _
 abbrev Start-of : tie.After-half-at3 Inv-loop μ-loop → tie.Start Inv-loop μ-loop
 Start-of h = h .before .before .before .before .before .before .before .before .before .before .before
 
+-- the statement begins with a setting: it has what its places give
+here : (h : tie.After-half-at3 Inv-loop μ-loop) → let a = Start-of h .args in
+    let i = h .before .before .before .before .half-at .result in
+    settingsOf (a .phase) (a .places .now) (a .lines .now) (a .bounds .now) (a .kinds .now) (a .slots .now) (a .j)
+    ≡ gather (settingAt (a .phase) (a .places .now) (a .kinds .now) (a .slots .now) (h .before .half-at2 .result)) (h .half-at3 .result - i) i
+here h =
+    let a = Start-of h .args in
+    let t = h .before .before in
+    settings-some (a .phase) (a .places .now) (a .lines .now) (a .bounds .now) (a .kinds .now) (a .slots .now) (a .j)
+    (t .before .before .half-at .ensures .0) (h .before .half-at2 .ensures .0) (h .half-at3 .ensures .0)
+    (sym (t .before .byte-at .ensures) ∙ t .if1 .left)
+
 put-setting-requires : tie.Need-put-setting-requires Inv-loop μ-loop
 put-setting-requires c κs =
     let h = c .before .before .before in (
       omega arith,
-      writes-room (c .before .before .loop .inv) (c .before .loop-test .taken)
-          (rw (h .half-at3 .ensures .0, h .before .half-at2 .ensures .0, h .before .before .before .before .half-at .ensures .0) (Start-of h .pre .1)),
+      writes-room (c .before .before .loop .inv) (c .before .loop-test .taken) (rw (← (here h)) (Start-of h .pre .1)),
     )
 
 add-i : tie.Need-add-i Inv-loop μ-loop
@@ -70,10 +82,7 @@ same-length : tie.Need-same-length Inv-loop μ-loop
 same-length c = c .before .loop .inv .long
 
 returns-2 : tie.Need-returns-2 Inv-loop μ-loop
-returns-2 c =
-    let h = c .before .before in
-    rw (← (h .half-at3 .ensures .0), ← (h .before .half-at2 .ensures .0), ← (h .before .before .before .before .half-at .ensures .0))
-    (put-all (c .before .loop .inv) (c .loop-test .left))
+returns-2 c = put-as (here (c .before .before)) (put-all (c .before .loop .inv) (c .loop-test .left))
 
 pub put-settings-spec : {M : Type 1} → statement M
 put-settings-spec =

@@ -1,7 +1,7 @@
 -- The records are too many, or too many for the room; or the program is written.
 use mathlib.Core.Path.{refl}
 use borrow.Author.Needs.{needs}
-use Rattle.translator.proofs.Writing.{front, places-room, rows-room, order-room, program-fits, program-led, says-eight, says-zero}
+use Rattle.translator.proofs.Writing.{front, places-room, rows-room, order-room, program-fits, says-eight, says-zero}
 use Rattle.translator.proofs.finish.write_program.Statement.{statement}
 use Rattle.translator.proofs.finish.write_program.Tie as tie
 
@@ -32,9 +32,7 @@ put-program-requires c κs =
     let test = c .before .before .before .before in
     let k = test .before in
     let s = S k in
-    let fits = program-fits (s .pre) (s .args .out .now) (k .is-over .ensures) refl refl refl (test .if1 .left) in
-    let led = program-led (s .pre) refl in
-    (fits, led .0, led .1)
+    program-fits (s .pre) (s .args .out .now) (k .is-over .ensures) refl refl refl (test .if1 .left)
 
 same-length : tie.Need-same-length
 same-length c = search needs
