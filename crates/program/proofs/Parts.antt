@@ -12,7 +12,7 @@ use Rattle.laws.specs.Counts.{once}
 use Rattle.laws.specs.Places.{gather}
 use Rattle.laws.proofs.Gathers.{gather-shift}
 use Rattle.model.specs.Places.{begins, ends}
-use Rattle.program.specs.Written.{fieldBytes, writes, recordCount, settingAt, settingsOf, stepBytes, stepsOf, orderedSteps}
+use Rattle.program.specs.Written.{fieldBytes, writes, recordCount, settingAt, reach, settingsOf, stepBytes, stepsOf, orderedSteps}
 
 -- ---- the settings of a statement whose first draft is at place i
 module _ (phase : ℕ) (places lines bounds kinds slots : List ℕ) (j : ℕ) {i : ℕ} (first : i ≡ begins bounds j) where
@@ -20,10 +20,10 @@ module _ (phase : ℕ) (places lines bounds kinds slots : List ℕ) (j : ℕ) {i
   pub settings-none : (getD kinds i 0 ≡ phase → ⊥) → settingsOf phase places lines bounds kinds slots j ≡ []
   settings-none h = rw (← first, ne-eqb (getD kinds i 0) phase h)
 
-  -- it does: what its places give
-  pub settings-some : {line end : ℕ} → line ≡ getD lines j 0 → end ≡ ends bounds j → getD kinds i 0 ≡ phase
-      → settingsOf phase places lines bounds kinds slots j ≡ gather (settingAt phase places kinds slots line) (end - i) i
-  settings-some l e h = rw (l, e, ← first, eq-eqb (getD kinds i 0) phase h)
+  -- it does: what its places give, up to the last that can be one
+  pub settings-some : {line end : ℕ} (last : ℕ) → line ≡ getD lines j 0 → end ≡ ends bounds j → last - i ≡ reach phase (end - i) → getD kinds i 0 ≡ phase
+      → settingsOf phase places lines bounds kinds slots j ≡ gather (settingAt phase places kinds slots line) (last - i) i
+  settings-some last l e r h = rw (r, l, e, ← first, eq-eqb (getD kinds i 0) phase h)
 
 -- ---- the record of a step, by its kind
 module _ (k x line : ℕ) where

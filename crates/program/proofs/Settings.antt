@@ -1,15 +1,15 @@
 -- The settings of constants and states: their records as they are written.
-use Prim.Native.Nat.{ℕ, suc, _+_}
+use Prim.Native.Nat.{ℕ, suc, _+_, _≤_, min}
 use mathlib.Core.Path.{_≡_, refl, sym, ap, ap₂, _∙_}
-use mathlib.Core.Bool.{true, false, cond}
-use mathlib.Core.Logic.{⊎-elim}
-use mathlib.Core.List.{List, [], _∷_, _++_}
+use mathlib.Core.Bool.{true, cond}
+use mathlib.Core.Logic.{_⊎_, inl, inr, ⊎-elim}
+use mathlib.Core.List.{List, [], _∷_, _++_, append-assoc, append-nil}
 use native.Mathlib.Nat.{add-zero}
 use native.Mathlib.Omega.{arith}
 use borrow.Author.Tests.{eq-eqb, ne-eqb}
 use lib.Dec.{eqb}
-use lib.ListN.{length, getD, drop, length-map}
-use lib.Seq.{getD-drop}
+use lib.ListN.{length, getD, take, drop, length-map, take-append-drop, drop-of-length-le}
+use lib.Seq.{getD-drop, length-take-le}
 use lib.Ieee.{Float, binary64, toBits}
 use Rattle.laws.specs.Lists.{concat-map}
 use Rattle.laws.specs.Counts.{count, _∈_}
@@ -17,9 +17,9 @@ use Rattle.laws.specs.Places.{gather}
 use Rattle.laws.proofs.Tests.{eq-or-ne, not-both, cond-ind}
 use Rattle.laws.proofs.Counts.{once-other}
 use Rattle.laws.proofs.Concats.{concat-concat}
-use Rattle.laws.proofs.Along.{along, gather-over}
+use Rattle.laws.proofs.Along.{along, along-append, gather-along, gather-over}
 use Rattle.laws.proofs.Members.{in-has}
-use Rattle.grammar.specs.Tree.{Constant, plain, from, Says, constants, assignment, state}
+use Rattle.grammar.specs.Tree.{Constant, Initial, plain, from, Says, constants, assignment, state}
 use Rattle.grammar.specs.Drafts.{Draft, draft, initialDraft, draftsOf}
 use Rattle.sheet.specs.Sheet.{Numbered}
 use Rattle.sheet.specs.Layout.{draftsIn}
@@ -27,15 +27,15 @@ use Rattle.records.specs.Record.{Rec, recBytes}
 use Rattle.model.specs.Definitions.{What, constant, assigned, integral, Def, definedBy, definitions, keys, placeIn, slotIn}
 use Rattle.model.specs.Faults.{constantKeys, nameFaults}
 use Rattle.model.specs.Places.{homeOf}
-use Rattle.model.proofs.Drafts.{noDraft, Plain, along-expression, Home, homeOfWhat}
+use Rattle.model.proofs.Drafts.{noDraft, Plain, expressionDrafts, along-expression, Home, homeOfWhat}
 use Rattle.model.proofs.Walk.{sheetKinds, sheetLines, sheetBounds, sheetKeys, sheetSlots, sheetPlaces, slotOf, kind-at, slot-at, draftsBy, line-at}
-use Rattle.model.proofs.Walk.{along-statement, first-kind}
+use Rattle.model.proofs.Walk.{begins-at, drafts-split, first-kind, span}
 use Rattle.model.proofs.Slots.{Once, isConstant, definitionOf, definition-first, definition-later, constant-at}
 use Rattle.model.proofs.Doubled.{definedIn, homeAt}
 use Rattle.model.proofs.Asked.{home-of}
 use Rattle.model.proofs.Clean.{initial-known}
 use Rattle.program.specs.Program.{constantValue, valueIn, initialValue, constantRecs, initialRecs}
-use Rattle.program.specs.Written.{fieldBytes, settingAt, settingsOf}
+use Rattle.program.specs.Written.{fieldBytes, settingAt, reach, settingsOf}
 
 -- the value of a constant is the one of its definition
 value-of : (ds : List Def) (k : ℕ) (x : Float) → k ∈ keys ds → definitionOf ds k .what ≡ constant x → valueIn ds k ≡ x
@@ -60,6 +60,30 @@ constant-what : (w : What) → isConstant w ≡ true → (x : Float) × (w ≡ c
 constant-what (constant x) e = (x, refl)
 constant-what (assigned t) e = absurd (not-both e refl)
 constant-what (integral i t) e = absurd (not-both e refl)
+
+-- no more drafts can be a setting than there are; of one or more, one can be an initial
+reach-le : (phase n : ℕ) → reach phase n ≤ n
+reach-le phase n = cond-ind (λ (r : ℕ). r ≤ n) (eqb phase 2) (min 1 n) n (λ _. omega arith) (λ _. omega arith)
+
+reach-first : (n : ℕ) → reach 2 (suc n) ≡ 1
+reach-first n = omega arith
+
+-- two rows that are nothing together: the first is nothing
+front-none : (x y : List ℕ) → x ++ y ≡ [] → x ≡ []
+front-none [] y e = refl
+front-none (a ∷ x) y e = absurd (omega (arith, ap length e))
+
+module _ {A B : Type 0} (G : List A → List B) where
+  -- along the first n of a row, and then along the others
+  along-split : (m q : List A) (n : ℕ) → along G m q ≡ along G (take n m) (drop n m ++ q) ++ along G (drop n m) q
+  along-split m q n = ap (λ r. along G r q) (sym (take-append-drop n m)) ∙ along-append G (take n m) (drop n m) q
+
+  -- gathering over the places of the first n of m in a list
+  gather-front : (f : ℕ → List B) (p m q : List A) (n : ℕ) → n ≤ length m → ((i : ℕ) → f i ≡ G (drop i (p ++ (m ++ q))))
+      → gather f n (length p) ≡ along G (take n m) (drop n m ++ q)
+  gather-front f p m q n h e =
+      let same : take n m ++ (drop n m ++ q) ≡ m ++ q = sym (append-assoc (take n m) (drop n m) q) ∙ ap (λ r. r ++ q) (take-append-drop n m) in
+      rw (length-take-le n m h) at (gather-along G f p (take n m) (drop n m ++ q) (λ i. e i ∙ ap (λ r. G (drop i (p ++ r))) (sym same)))
 
 module _ (ss : List Numbered) where
   abbrev ds : List Def
@@ -90,19 +114,31 @@ module _ (ss : List Numbered) where
       rw (getD-drop i (draftsIn ss) 0 noDraft, getD-drop i (draftsIn ss) 1 noDraft, add-zero i)
       (rw (kind-at (draftsIn ss) i, slot-at ks (draftsIn ss) i, kind-at (draftsIn ss) (i + 1), slot-at ks (draftsIn ss) (i + 1)))
 
-  -- what does not begin with a draft of a phase has no setting of it
-  abbrev First : ℕ → Type 0
-  First phase =
-      (l : ℕ) (x : Says) (q : List Draft) → eqb (getD (draftsOf x ++ q) 0 noDraft .kind) phase ≡ false → along (settingOf phase l) (draftsOf x) q ≡ []
+  -- the drafts of a statement have no setting of a phase, or they begin with one and have none behind those that can be one
+  abbrev Begun : ℕ → Type 0
+  Begun phase = (l : ℕ) (x : Says) (q : List Draft) → let G = settingOf phase l in
+      (along G (draftsOf x) q ≡ [])
+      ⊎ ((eqb (getD (draftsOf x ++ q) 0 noDraft .kind) phase ≡ true) × (along G (drop (reach phase (length (draftsOf x))) (draftsOf x)) q ≡ []))
 
   -- of a statement
-  settings-at : (phase : ℕ) → First phase → (a : List Numbered) (s : Numbered) (b : List Numbered) → ss ≡ a ++ s ∷ b
+  settings-at : (phase : ℕ) → Begun phase → (a : List Numbered) (s : Numbered) (b : List Numbered) → ss ≡ a ++ s ∷ b
       → settingsIn phase (length a) ≡ along (settingOf phase (s .line)) (draftsBy s) (draftsIn b)
-  settings-at phase first a s b p =
-      let all = along-statement ss a s b p (settingIn phase (s .line)) (settingOf phase (s .line)) (setting-at phase (s .line)) in
-      rw (first-kind ss a s b p, line-at ss a s b p)
-      (cond-ind (λ (r : List ℕ). r ≡ along (settingOf phase (s .line)) (draftsBy s) (draftsIn b)) _ _ _
-      (λ _. all) (λ e. sym (first (s .line) (s .says) (draftsIn b) e)))
+  settings-at phase begun a s b p =
+      let m = draftsBy s in
+      let q = draftsIn b in
+      let n = reach phase (length m) in
+      let G = settingOf phase (s .line) in
+      let begins = eqb (getD (m ++ q) 0 noDraft .kind) phase in
+      let x = along G (take n m) (drop n m ++ q) in
+      let y = along G (drop n m) q in
+      let whole : along G m q ≡ x ++ y = along-split G m q n in
+      let front = gather-front G (settingIn phase (s .line)) (draftsIn a) m q n (reach-le phase (length m))
+      (λ i. setting-at phase (s .line) i ∙ ap (λ r. G (drop i r)) (drafts-split ss a s b p)) in
+      rw (first-kind ss a s b p, line-at ss a s b p, span ss a s b p, begins-at ss a s b p, front)
+      (⊎-elim
+      (λ (e : along G m q ≡ []). cond-ind (λ (r : List ℕ). r ≡ []) begins x [] (λ _. front-none x y (sym whole ∙ e)) (λ _. refl) ∙ sym e)
+      (λ e. rw (e .0) (sym (whole ∙ ap (λ r. x ++ r) (e .1) ∙ append-nil x)))
+      (begun (s .line) (s .says) q))
 
   -- statement by statement, where each writes the records f of its definitions
   settings-of : (phase : ℕ) (f : Def → List Rec)
@@ -130,19 +166,22 @@ module _ (ss : List Numbered) where
   constant-settings l (state k (from c) t) q = along-expression (settingOf 1 l) (constant-none l) t (draft 14 k) q
 
   -- a statement that has a constant begins with one
-  constants-first : First 1
+  constants-begun : Begun 1
   unfolding along concat-map
-  constants-first l (constants []) q e = refl
-  constants-first l (constants (c ∷ cs)) q e = absurd (not-both refl e)
-  constants-first l (assignment k t) q e = constant-settings l (assignment k t) q
-  constants-first l (state k i t) q e = constant-settings l (state k i t) q
+  constants-begun l (constants []) q = inl refl
+  constants-begun l (constants (c ∷ cs)) q =
+      let m = draftsOf (constants (c ∷ cs)) in
+      let all : length m ≤ length m = omega arith in
+      inr (refl, ap (λ r. along (settingOf 1 l) r q) (drop-of-length-le m all))
+  constants-begun l (assignment k t) q = inl (constant-settings l (assignment k t) q)
+  constants-begun l (state k i t) q = inl (constant-settings l (state k i t) q)
 
   -- KIND 1, in text order
   pub constants-of : gather (settingsIn 1) (length (sheetLines ss)) 0
       ≡ concat-map recBytes (concat-map (λ (d : Def). constantRecs ds d (d .what)) ds)
   constants-of =
       settings-of 1 (λ (d : Def). constantRecs ds d (d .what))
-      (λ a s b p. settings-at 1 constants-first a s b p ∙ constant-settings (s .line) (s .says) (draftsIn b))
+      (λ a s b p. settings-at 1 constants-begun a s b p ∙ constant-settings (s .line) (s .says) (draftsIn b))
 
   -- ---- states: plain drafts have no setting
   initial-none : (l k a : ℕ) (x : List Draft) → Plain k → settingOf 2 l (draft k a ∷ x) ≡ []
@@ -172,12 +211,16 @@ module _ (ss : List Numbered) where
   no-initials l [] q = refl
   no-initials l (c ∷ cs) q = no-initials l cs q
 
-  -- a statement that has an initial begins with it
-  state-first : First 2
+  -- a statement that has an initial begins with it, and has no other
+  state-begun : Begun 2
   unfolding along concat-map
-  state-first l (constants cs) q e = no-initials l cs q
-  state-first l (assignment k t) q e = initial-settings l (assignment k t) tt q
-  state-first l (state k i t) q e = absurd (not-both refl e)
+  state-begun l (constants cs) q = inl (no-initials l cs q)
+  state-begun l (assignment k t) q = inl (initial-settings l (assignment k t) tt q)
+  state-begun l (state k i t) q = inr (refl, rw (reach-first _) (behind i))
+    where
+      behind : (i : Initial) → along (settingOf 2 l) (initialDraft i ∷ (expressionDrafts t ++ (draft 14 k ∷ []))) q ≡ []
+      behind (plain x) = along-expression (settingOf 2 l) (initial-none l) t (draft 14 k) q
+      behind (from c) = along-expression (settingOf 2 l) (initial-none l) t (draft 14 k) q
 
   -- ---- where names stand once and there is no 22 and no 23
   module _ (distinct : Once ks) (clean : nameFaults ds ds ≡ []) where
@@ -204,4 +247,4 @@ module _ (ss : List Numbered) where
         ≡ concat-map recBytes (concat-map (λ (d : Def). initialRecs ds d (d .what)) ds)
     initials-of =
         settings-of 2 (λ (d : Def). initialRecs ds d (d .what))
-        (λ a s b p. settings-at 2 state-first a s b p ∙ initial-settings (s .line) (s .says) (valued a s b p (s .says) refl) (draftsIn b))
+        (λ a s b p. settings-at 2 state-begun a s b p ∙ initial-settings (s .line) (s .says) (valued a s b p (s .says) refl) (draftsIn b))

@@ -1,12 +1,12 @@
 -- The program as code writes it: by place, over the arrays of a sheet whose names are resolved. Every read past an end gives 0.
-use Prim.Native.Nat.{ℕ, suc, _+_, _*_, _%_}
+use Prim.Native.Nat.{ℕ, suc, _+_, _-_, _*_, _%_, min}
 use mathlib.Core.Bool.{Bool, cond, _&&_, _||_}
 use mathlib.Core.List.{List, [], _∷_, _++_}
 use lib.Dec.{eqb, leb}
 use lib.ListN.{length, getD}
 use Rattle.laws.specs.Places.{gather}
 use Rattle.bits.specs.Low.{lowBytes}
-use Rattle.model.specs.Places.{homeOf, begins, inStatement}
+use Rattle.model.specs.Places.{homeOf, begins, ends, inStatement}
 
 -- the sixteen bytes of a record
 abbrev pub fieldBytes : ℕ → ℕ → ℕ → ℕ → List ℕ
@@ -43,10 +43,15 @@ stepBytes kind arg line =
 abbrev pub stepAt : List ℕ → List ℕ → ℕ → ℕ → List ℕ
 stepAt kinds slots line i = stepBytes (getD kinds i 0) (getD slots i 0) line
 
+-- of n drafts of a statement so many can be a setting of the phase: an initial is only ever the first
+abbrev pub reach : ℕ → ℕ → ℕ
+reach phase n = cond (eqb phase 2) (min 1 n) n
+
 -- ---- of a statement: its settings of a phase, where it begins with one; its steps
 abbrev pub settingsOf : ℕ → List ℕ → List ℕ → List ℕ → List ℕ → List ℕ → ℕ → List ℕ
 settingsOf phase places lines bounds kinds slots j =
-    cond (eqb (getD kinds (begins bounds j) 0) phase) (inStatement bounds (settingAt phase places kinds slots (getD lines j 0)) j) []
+    cond (eqb (getD kinds (begins bounds j) 0) phase)
+    (gather (settingAt phase places kinds slots (getD lines j 0)) (reach phase (ends bounds j - begins bounds j)) (begins bounds j)) []
 
 abbrev pub stepsOf : List ℕ → List ℕ → List ℕ → List ℕ → ℕ → List ℕ
 stepsOf lines bounds kinds slots j = inStatement bounds (stepAt kinds slots (getD lines j 0)) j

@@ -1,6 +1,6 @@
 // The program of a text, written from the arrays of its sheet, and the count of its records.
 ghost use mathlib.Core.Path.{_≡_};
-ghost use Prim.Native.Nat.{_+_, _≤_, _<_};
+ghost use Prim.Native.Nat.{_+_, _-_, _≤_, _<_};
 ghost use lib.ListN.{length, getD};
 ghost use lib.Seq.{sets};
 ghost use Rattle.limits.specs.Limits.{recordBytes};
@@ -8,7 +8,7 @@ ghost use Rattle.laws.specs.Counts.{once};
 ghost use Rattle.laws.specs.Places.{gather};
 ghost use Rattle.model.specs.Places.{homeOf};
 ghost use Rattle.laws.specs.Put.{Put};
-ghost use Rattle.program.specs.Written.{fieldBytes, headOf, writes, recordCount, valueAt, settingAt, settingsOf};
+ghost use Rattle.program.specs.Written.{fieldBytes, headOf, writes, recordCount, valueAt, settingAt, reach, settingsOf};
 ghost use Rattle.program.specs.Written.{stepBytes, stepsOf, orderedSteps, writtenProgram};
 use bits::put_eight;
 use limits::RECORD_BYTES;
@@ -133,6 +133,19 @@ fn put_setting(
     w
 }
 
+// The place behind the last draft of a statement that can be a setting of the phase.
+fn setting_end(phase: u8, from: usize, end: usize) -> usize
+    ensures { λ r. ⌜ (r - from ≡ reach phase (end - from)) × (r ≤ end) ⌝ }
+{
+    if phase != 2 {
+        return end;
+    }
+    if from < end {
+        return from + 1;
+    }
+    end
+}
+
 // Writes the constants or initials of a statement: none where its first draft is not one.
 fn put_settings(
     phase: u8,
@@ -157,7 +170,7 @@ fn put_settings(
         return at;
     }
     let line = half_at(lines, j) as u64;
-    let end = half_at(bounds, j + 1);
+    let end = setting_end(phase, i, half_at(bounds, j + 1));
     let mut w = at;
     while i < end {
         w = put_setting(phase, places, kinds, slots, line, i, &mut *out, w);

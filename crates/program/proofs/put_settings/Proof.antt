@@ -41,24 +41,29 @@ add-half-at c = search needs
 half-at-requires-3 : tie.Need-half-at-requires-3 Inv-loop μ-loop
 half-at-requires-3 c κs = search needs
 
+setting-end-requires : tie.Need-setting-end-requires Inv-loop μ-loop
+setting-end-requires c κs = search needs
+
 loop-holds : tie.Need-loop-holds Inv-loop μ-loop
 loop-holds c = writes-first _ _ _ _ _
 
 -- where the function begins
-abbrev Start-of : tie.After-half-at3 Inv-loop μ-loop → tie.Start Inv-loop μ-loop
-Start-of h = h .before .before .before .before .before .before .before .before .before .before .before
+abbrev Start-of : tie.After-setting-end Inv-loop μ-loop → tie.Start Inv-loop μ-loop
+Start-of h = h .before .before .before .before .before .before .before .before .before .before .before .before
 
--- the statement begins with a setting: it has what its places give
-here : (h : tie.After-half-at3 Inv-loop μ-loop) → let a = Start-of h .args in
-    let i = h .before .before .before .before .half-at .result in
+-- the statement begins with a setting: it has what its places give, up to the last that can be one
+here : (h : tie.After-setting-end Inv-loop μ-loop) → let a = Start-of h .args in
+    let l = h .before .before in
+    let i = l .before .before .before .half-at .result in
     settingsOf (a .phase) (a .places .now) (a .lines .now) (a .bounds .now) (a .kinds .now) (a .slots .now) (a .j)
-    ≡ gather (settingAt (a .phase) (a .places .now) (a .kinds .now) (a .slots .now) (h .before .half-at2 .result)) (h .half-at3 .result - i) i
+    ≡ gather (settingAt (a .phase) (a .places .now) (a .kinds .now) (a .slots .now) (l .half-at2 .result)) (h .setting-end .result - i) i
 here h =
     let a = Start-of h .args in
-    let t = h .before .before in
+    let l = h .before .before in
+    let t = l .before in
     settings-some (a .phase) (a .places .now) (a .lines .now) (a .bounds .now) (a .kinds .now) (a .slots .now) (a .j)
-    (t .before .before .half-at .ensures .0) (h .before .half-at2 .ensures .0) (h .half-at3 .ensures .0)
-    (sym (t .before .byte-at .ensures) ∙ t .if1 .left)
+    (t .before .before .half-at .ensures .0) (h .setting-end .result) (l .half-at2 .ensures .0) (h .before .half-at3 .ensures .0)
+    (h .setting-end .ensures .0) (sym (t .before .byte-at .ensures) ∙ t .if1 .left)
 
 put-setting-requires : tie.Need-put-setting-requires Inv-loop μ-loop
 put-setting-requires c κs =
@@ -96,6 +101,7 @@ put-settings-spec =
     half-at-requires-2
     add-half-at
     half-at-requires-3
+    setting-end-requires
     loop-holds
     put-setting-requires
     add-i
