@@ -1,25 +1,25 @@
 -- The definitions collected: a turn of each loop, and its end.
 use Prim.Native.Nat.{ℕ, zero, suc, _+_, _-_, _≤_, _<_}
-use mathlib.Core.Path.{_≡_, refl, sym, ap, _∙_}
+use mathlib.Core.Path.{_≡_, refl, sym, ap, ap₂, _∙_}
 use mathlib.Core.Bool.{Bool, true, false, cond}
 use mathlib.Core.Logic.{⊎-elim}
-use mathlib.Core.List.{List, _++_, map}
+use mathlib.Core.List.{List, [], _∷_, _++_, map, append-nil}
 use native.Mathlib.Nat.{sub-zero}
 use native.Mathlib.Numerals.{add-one, lt-of-le-of-ne}
 use native.Mathlib.Omega.{arith}
-use borrow.Author.Tests.{ne-eqb}
+use borrow.Author.Tests.{le-leb, lt-leb, eq-eqb, ne-eqb}
 use lib.Dec.{eqb}
-use lib.ListN.{length, getD, set, length-append}
-use lib.Seq.{sets, length-sets}
+use lib.ListN.{length, getD, set, length-append, length-map}
+use lib.Seq.{sets}
+use Rattle.laws.specs.Counts.{once}
 use Rattle.laws.specs.Places.{gather, onlyIf}
-use Rattle.laws.proofs.Sets.{sets-append}
-use Rattle.laws.proofs.Tests.{not-both, eq-or-ne}
-use Rattle.laws.proofs.Gathers.{gather-add, gather-short, Writes, writes-first, writes-next, writes-count, writes-all}
-use Rattle.laws.proofs.Along.{map-only}
-use Rattle.model.specs.Places.{defines, begins, ends, definedAt, keysIn, placesIn}
-use Rattle.model.specs.Plan.{placeAt, spotOf}
-use Rattle.model.specs.Working.{Rises, Statements, Put, Noted, NotedAll, Next, Collected}
-use Rattle.model.proofs.Shape.{keys-by}
+use Rattle.laws.proofs.Sets.{sets-over}
+use Rattle.laws.proofs.Tests.{bool-cases, not-both, lt-or-ge, eq-or-ne, cond-ind}
+use Rattle.laws.proofs.Gathers.{gather-step, gather-done, gather-add, gather-short, gather-same}
+use Rattle.laws.proofs.Gathers.{Writes, writes-first, writes-next, writes-count, writes-all, whole-count, whole-all}
+use Rattle.laws.proofs.Along.{map-gather, map-only}
+use Rattle.model.specs.Places.{defines, begins, ends, inStatement, definedAt, keysIn, placesIn}
+use Rattle.model.specs.Working.{Rises, Statements, Put, Noted, NotedAll, NotedIn, NotedBy, placeAt, spotOf, looked, Collected}
 
 -- one value, or none
 pub only-length : {A : Type 0} (b : Bool) (x : A) → length (onlyIf b x) ≤ 1
@@ -43,23 +43,7 @@ noted kind key place d t k p = record { named = put-one (defines kind) key d t k
 pub not-noted : (kind key place d : ℕ) (keys places : List ℕ) → defines kind ≡ false → Noted kind key place d d keys keys places places
 not-noted kind key place d keys places t = record { named = put-none (defines kind) key d keys t; placed = put-none (defines kind) place d places t }
 
--- ---- loops that note definitions
-module _ {A : Type 0} {f : ℕ → List A} {n a i w₀ w : ℕ} {buf₀ buf : List A} where
-  -- a loop that writes what f gives, further on by a part
-  writes-part : Writes f n a i w₀ w buf₀ buf → (e : ℕ) → i ≤ e → e ≤ n → {r : ℕ} {last : List A} → r ≡ w + length (gather f (e - i) i)
-      → last ≡ sets buf w (gather f (e - i) i) → Writes f n a e w₀ r buf₀ last
-  writes-part v e h k {r} {last} p q =
-      let part = gather f (e - i) i in
-      let rest = gather f (n - e) e in
-      let both : gather f (n - i) i ≡ part ++ rest =
-      let m : n - i ≡ (e - i) + (n - e) = omega arith in
-      let t : i + (e - i) ≡ e = omega arith in
-      ap (λ (x : ℕ). gather f x i) m ∙ gather-add f (e - i) (n - e) i ∙ ap (λ (x : ℕ). part ++ gather f (n - e) x) t in
-      record {
-        long = ap length q ∙ length-sets buf w part ∙ v .long;
-        left = omega (arith, v .left, p, ap length both, length-append part rest);
-        same = rw (q, p, ← (sets-append buf w part rest), ← both) (v .same);
-      }
+-- ---- the loop over drafts
 
 -- the loop stands at draft i, with d definitions behind the d₀ that stood there; it began at draft a and ends at n
 pub record Collecting (kinds args : List ℕ) (n a d₀ : ℕ) (keys₀ places₀ : List ℕ) (d i : ℕ) (keys places : List ℕ) : Type 0 where
@@ -86,17 +70,6 @@ module _ {kinds args : List ℕ} {n a d₀ : ℕ} {keys₀ places₀ : List ℕ}
         placed = writes-next (v .placed) h r places′ (placed .behind) (placed .content);
       }
 
-  -- up to draft e
-  pub collecting-part : {e r : ℕ} {keys′ places′ : List ℕ} → i ≤ e → e ≤ n → NotedAll kinds args (e - i) i d r keys keys′ places places′
-      → Collecting kinds args n a d₀ keys₀ places₀ r e keys′ places′
-  collecting-part {e} h k noting =
-      let short = gather-short (placeAt kinds) (λ j. only-length (defines (getD kinds j 0)) j) (e - i) i in
-      record {
-        few = omega (arith, v .few, noting .placed .behind, short);
-        named = writes-part (v .named) e h k (noting .named .behind) (noting .named .content);
-        placed = writes-part (v .placed) e h k (noting .placed .behind) (noting .placed .content);
-      }
-
   -- its end
   pub collecting-last : n ≤ i → NotedAll kinds args (n - a) a d₀ d keys₀ keys places₀ places
   collecting-last h =
@@ -105,44 +78,118 @@ module _ {kinds args : List ℕ} {n a d₀ : ℕ} {keys₀ places₀ : List ℕ}
         placed = record { behind = writes-count (v .placed) h; content = writes-all (v .placed) h };
       }
 
--- all drafts are noted
-collected : {kinds args : List ℕ} {r : ℕ} {keys keys′ places places′ : List ℕ}
-    → NotedAll kinds args (length kinds - 0) 0 0 r keys keys′ places places′ → Collected kinds args r keys keys′ places places′
-unfolding keysIn placesIn
-collected {kinds} v = record { named = rw (sub-zero (length kinds)) at (v .named); placed = rw (sub-zero (length kinds)) at (v .placed) }
+-- ---- rows of which one is part of the other: it is not longer, and the same where it is as long
+record PartOf {A : Type 0} (x y : List A) : Type 0 where
+  short : length x ≤ length y
+  full : length x ≡ length y → x ≡ y
 
--- ---- one statement
+none-long : {A : Type 0} (l : List A) → length l ≡ 0 → l ≡ []
+none-long [] e = refl
+none-long (a ∷ l) e = absurd (omega arith)
 
--- no drafts, no definition
-pub noted-none : (kinds args : List ℕ) (a e d : ℕ) (keys places : List ℕ) → e ≤ a → NotedAll kinds args (e - a) a d d keys keys places places
-noted-none kinds args a e d keys places h =
-    let f = writes-first (definedAt kinds args) e a d keys in
-    let g = writes-first (placeAt kinds) e a d places in
+part-same : {A : Type 0} (x : List A) → PartOf x x
+part-same x = record { short = omega arith; full = λ _. refl }
+
+part-mid : {A : Type 0} (a x b : List A) → PartOf x (a ++ (x ++ b))
+part-mid a x b =
+    let all : length (a ++ (x ++ b)) ≡ length a + (length x + length b) = omega (arith, length-append a (x ++ b), length-append x b) in
     record {
-      named = record { behind = writes-count f h; content = writes-all f h };
-      placed = record { behind = writes-count g h; content = writes-all g h };
+      short = omega (arith, all);
+      full = λ e. rw (none-long a (omega (arith, all, e)), none-long b (omega (arith, all, e))) (sym (append-nil x));
     }
 
--- where only one place may define a name, that one is noted
-pub noted-lone : {kinds args : List ℕ} {k i spot kind key d r : ℕ} {keys keys′ places places′ : List ℕ}
-    → gather (placeAt kinds) k i ≡ placeAt kinds spot → kind ≡ getD kinds spot 0 → key ≡ getD args spot 0
-    → Noted kind key spot d r keys keys′ places places′ → NotedAll kinds args k i d r keys keys′ places places′
-noted-lone {kinds} {args} {k} {i} {spot} lone e f noting =
-    let at : ℕ → ℕ = λ j. getD args j 0 in
-    let named : gather (definedAt kinds args) k i ≡ definedAt kinds args spot =
-    sym (keys-by kinds args k i) ∙ ap (map at) lone ∙ map-only at (defines (getD kinds spot 0)) spot in
-    record { named = rw (named, ← e, ← f) (noting .named); placed = rw (lone, ← e) (noting .placed) }
+part-append : {A : Type 0} {a b x y : List A} → PartOf a b → PartOf x y → PartOf (a ++ x) (b ++ y)
+part-append {a = a} {b = b} {x = x} {y = y} p q =
+    let l = length-append a x in
+    let r = length-append b y in
+    record {
+      short = omega (arith, l, r, p .short, q .short);
+      full = λ e.
+          ap₂ _++_ (p .full (omega (arith, l, r, p .short, q .short, e))) (q .full (omega (arith, l, r, p .short, q .short, e)));
+    }
 
--- so it is with a statement that does not begin with a constant. Its bounds, the kind k of its first draft, the place s that is looked at,
--- and the kind and the key there are as they were read
-pub statement-lone : {bounds kinds args : List ℕ} {j from end d r k s l key : ℕ} {keys keys′ places places′ : List ℕ} → Next bounds kinds j d
-    → from ≡ begins bounds j → end ≡ ends bounds j → from < end → k ≡ getD kinds from 0 → (k ≡ 1 → ⊥) → s ≡ cond (eqb k 2) from (end - 1)
-    → l ≡ getD kinds s 0 → key ≡ getD args s 0 → Noted l key s d r keys keys′ places places′
-    → NotedAll kinds args (ends bounds j - begins bounds j) (begins bounds j) d r keys keys′ places places′
-statement-lone {bounds} {kinds} {j = j} {k = k} {s = s} n b e h f o p l q noting =
-    let first : eqb (getD kinds (begins bounds j) 0) 1 ≡ false = rw (← b, ← f) (ne-eqb k 1 o) in
-    let spot : s ≡ spotOf bounds kinds j = rw (← b, ← e, ← f) p in
-    noted-lone (n .shaped .lone j (n .inside) (omega (arith, b, e, h)) first ∙ ap (placeAt kinds) (sym spot)) l q noting
+-- place by place
+gather-parts : {A : Type 0} (g h : ℕ → List A) (k i : ℕ) → ((j : ℕ) → PartOf (g j) (h j)) → PartOf (gather g k i) (gather h k i)
+unfolding gather
+gather-parts g h zero i p = part-same []
+gather-parts g h (suc k) i p = part-append (p i) (gather-parts g h k (suc i) p)
+
+-- one place among k
+gather-mid : {A : Type 0} (f : ℕ → List A) (k i s : ℕ) → i ≤ s → s < i + k → PartOf (f s) (gather f k i)
+unfolding gather
+gather-mid f k i s h l =
+    let a = s - i in
+    let b = (i + k) - (s + 1) in
+    let e : k ≡ a + (1 + b) = omega arith in
+    let t : i + a ≡ s = omega arith in
+    rw (e, gather-add f a (1 + b) i, t, gather-add f 1 b s, append-nil (f s)) (part-mid (gather f a i) (f s) (gather f b (s + 1)))
+
+-- ---- what is looked at in a statement
+module _ {A : Type 0} (bounds kinds : List ℕ) (f : ℕ → List A) (j : ℕ) where
+  looked-none : ends bounds j ≤ begins bounds j → looked bounds kinds f j ≡ []
+  looked-none h = rw (le-leb (ends bounds j) (begins bounds j) h)
+
+  looked-all : begins bounds j < ends bounds j → eqb (getD kinds (begins bounds j) 0) 1 ≡ true → looked bounds kinds f j ≡ inStatement bounds f j
+  looked-all h e = rw (lt-leb (ends bounds j) (begins bounds j) h, e)
+
+  looked-one : begins bounds j < ends bounds j → eqb (getD kinds (begins bounds j) 0) 1 ≡ false → looked bounds kinds f j ≡ f (spotOf bounds kinds j)
+  looked-one h e = rw (lt-leb (ends bounds j) (begins bounds j) h, e)
+
+  -- the one place is one of the statement
+  spot-in : begins bounds j < ends bounds j → (begins bounds j ≤ spotOf bounds kinds j) × (spotOf bounds kinds j < ends bounds j)
+  spot-in h =
+      cond-ind (λ (s : ℕ). (begins bounds j ≤ s) × (s < ends bounds j)) (eqb (getD kinds (begins bounds j) 0) 2) (begins bounds j) (ends bounds j - 1)
+      (λ _. (omega arith, h)) (λ _. (omega arith, omega arith))
+
+  -- so it is part of what all places give
+  looked-part : PartOf (looked bounds kinds f j) (inStatement bounds f j)
+  looked-part = ⊎-elim (λ (h : begins bounds j < ends bounds j). some h) (λ (h : ends bounds j ≤ begins bounds j). none h) (lt-or-ge _ _)
+    where
+      none : ends bounds j ≤ begins bounds j → PartOf (looked bounds kinds f j) (inStatement bounds f j)
+      none h = rw (looked-none h, gather-done f (ends bounds j) (begins bounds j) h) (part-same [])
+
+      some : begins bounds j < ends bounds j → PartOf (looked bounds kinds f j) (inStatement bounds f j)
+      some h =
+          ⊎-elim (λ (e : eqb (getD kinds (begins bounds j) 0) 1 ≡ true). rw (looked-all h e) (part-same (inStatement bounds f j)))
+          (λ (e : eqb (getD kinds (begins bounds j) 0) 1 ≡ false).
+          let s = spot-in h in
+          rw (looked-one h e)
+          (gather-mid f (ends bounds j - begins bounds j) (begins bounds j) (spotOf bounds kinds j) (s .0) (omega (arith, s .1))))
+          (bool-cases _)
+
+-- ---- one statement. Its bounds, the kind k of its first draft, the place s that is looked at, and the kind and the key there are as they
+-- were read
+module _ {bounds kinds args : List ℕ} {j from end d r : ℕ} {keys keys′ places places′ : List ℕ} (b : from ≡ begins bounds j) (e : end ≡ ends bounds j) where
+  -- it has no draft
+  pub noted-none : end ≤ from → r ≡ d → keys′ ≡ keys → places′ ≡ places → NotedIn bounds kinds args j d r keys keys′ places places′
+  noted-none h q v w =
+      let n : ends bounds j ≤ begins bounds j = omega (arith, b, e) in
+      record {
+        named = rw (looked-none bounds kinds (definedAt kinds args) j n) (record { behind = omega (arith, q); content = v });
+        placed = rw (looked-none bounds kinds (placeAt kinds) j n) (record { behind = omega (arith, q); content = w });
+      }
+
+  -- it has some
+  module _ (h : from < end) {k : ℕ} (first : k ≡ getD kinds from 0) where
+    pub noted-all : k ≡ 1 → NotedAll kinds args (end - from) from d r keys keys′ places places′ → NotedIn bounds kinds args j d r keys keys′ places places′
+    noted-all o v =
+        let within : begins bounds j < ends bounds j = omega (arith, b, e) in
+        let t : eqb (getD kinds (begins bounds j) 0) 1 ≡ true = rw (← b, ← first) (eq-eqb k 1 o) in
+        record {
+          named = rw (looked-all bounds kinds (definedAt kinds args) j within t, ← b, ← e) (v .named);
+          placed = rw (looked-all bounds kinds (placeAt kinds) j within t, ← b, ← e) (v .placed);
+        }
+
+    pub noted-one : {s l key : ℕ} → (k ≡ 1 → ⊥) → s ≡ cond (eqb k 2) from (end - 1) → l ≡ getD kinds s 0 → key ≡ getD args s 0
+        → Noted l key s d r keys keys′ places places′ → NotedIn bounds kinds args j d r keys keys′ places places′
+    noted-one {s} o p l q v =
+        let within : begins bounds j < ends bounds j = omega (arith, b, e) in
+        let t : eqb (getD kinds (begins bounds j) 0) 1 ≡ false = rw (← b, ← first) (ne-eqb k 1 o) in
+        let spot : s ≡ spotOf bounds kinds j = rw (← b, ← e, ← first) p in
+        record {
+          named = rw (looked-one bounds kinds (definedAt kinds args) j within t, ← spot, ← l, ← q) (v .named);
+          placed = rw (looked-one bounds kinds (placeAt kinds) j within t, ← spot, ← l) (v .placed);
+        }
 
 -- ---- all statements
 
@@ -159,28 +206,165 @@ rises-to bounds (suc n) r j h =
       ap (begins bounds) (add-one n),
     )) (eq-or-ne j (suc n))
 
--- j statements of n are noted
+-- j statements of n are noted, with d definitions
 pub record Telling (n : ℕ) (bounds kinds args keys₀ places₀ : List ℕ) (d j : ℕ) (keys places : List ℕ) : Type 0 where
   pub within : j ≤ n
-  pub told : Collecting kinds args (length kinds) 0 0 keys₀ places₀ d (begins bounds j) keys places
+  pub few : d ≤ begins bounds j
+  pub named : Writes (looked bounds kinds (definedAt kinds args)) n 0 j 0 d keys₀ keys
+  pub placed : Writes (looked bounds kinds (placeAt kinds)) n 0 j 0 d places₀ places
 
-module _ {n : ℕ} {bounds kinds : List ℕ} (t : Statements bounds kinds n) where
-  -- none yet
-  pub telling-first : (args keys places : List ℕ) → Telling n bounds kinds args keys places 0 0 keys places
-  telling-first args keys places =
-      record { within = omega arith; told = rw (t .first) (collecting-first kinds args (length kinds) 0 0 keys places (omega arith)) }
+-- none yet
+pub telling-first : (n : ℕ) (bounds kinds args keys places : List ℕ) → Telling n bounds kinds args keys places 0 0 keys places
+telling-first n bounds kinds args keys places =
+    record {
+      within = omega arith;
+      few = omega arith;
+      named = writes-first (looked bounds kinds (definedAt kinds args)) n 0 0 keys;
+      placed = writes-first (looked bounds kinds (placeAt kinds)) n 0 0 places;
+    }
 
-  module _ {args keys₀ places₀ keys places : List ℕ} {d j : ℕ} (v : Telling n bounds kinds args keys₀ places₀ d j keys places) where
-    -- one more
-    pub telling-next : {r : ℕ} {keys′ places′ : List ℕ} → j < n
-        → NotedAll kinds args (ends bounds j - begins bounds j) (begins bounds j) d r keys keys′ places places′
-        → Telling n bounds kinds args keys₀ places₀ r (j + 1) keys′ places′
-    telling-next h noting =
-        let up : ends bounds j ≤ length kinds = omega (arith, rises-to bounds n (t .rises) (j + 1) (omega arith), t .whole) in
-        record { within = omega arith; told = collecting-part (v .told) (t .rises .rise j h) up noting }
+module _ {n : ℕ} {bounds kinds args keys₀ places₀ keys places : List ℕ} {d j : ℕ} (v : Telling n bounds kinds args keys₀ places₀ d j keys places) where
+  -- one more
+  pub telling-next : {r : ℕ} {keys′ places′ : List ℕ} → Statements bounds kinds n → j < n → NotedIn bounds kinds args j d r keys keys′ places places′
+      → Telling n bounds kinds args keys₀ places₀ r (j + 1) keys′ places′
+  telling-next {r} {keys′} {places′} t h noting =
+      let k = ends bounds j - begins bounds j in
+      let few = gather-short (placeAt kinds) (λ i. only-length (defines (getD kinds i 0)) i) k (begins bounds j) in
+      record {
+        within = omega arith;
+        few = omega (arith, v .few, noting .placed .behind, looked-part bounds kinds (placeAt kinds) j .short, few, t .rises .rise j h);
+        named = writes-next (v .named) h r keys′ (noting .named .behind) (noting .named .content);
+        placed = writes-next (v .placed) h r places′ (noting .placed .behind) (noting .placed .content);
+      }
+
+  -- all
+  pub telling-last : n ≤ j → NotedBy bounds kinds args n d keys₀ keys places₀ places
+  telling-last h =
+      record {
+        named = record { behind = omega (arith, whole-count (v .named) h); content = whole-all (v .named) h };
+        placed = record { behind = omega (arith, whole-count (v .placed) h); content = whole-all (v .placed) h };
+      }
+
+-- ---- all drafts
+
+-- the keys that places define are those that stand at the places that define one
+keys-by : (kinds args : List ℕ) (k i : ℕ) → map (λ j. getD args j 0) (gather (placeAt kinds) k i) ≡ gather (definedAt kinds args) k i
+keys-by kinds args k i =
+    let key : ℕ → ℕ = λ j. getD args j 0 in
+    map-gather key (placeAt kinds) k i ∙ gather-same _ _ k i (λ j _ _. map-only key (defines (getD kinds j 0)) j)
+
+-- what f gives at the places of n statements that follow each other from draft 0 on
+tiled : {A : Type 0} (f : ℕ → List A) (bounds : List ℕ) (n : ℕ) → begins bounds 0 ≡ 0 → Rises bounds n
+    → gather (inStatement bounds f) n 0 ≡ gather f (begins bounds n) 0
+unfolding gather
+tiled f bounds zero z r = rw z
+tiled f bounds (suc n) z r =
+    let g = inStatement bounds f in
+    let up = r .rise n (omega arith) in
+    let k = ends bounds n - begins bounds n in
+    let e : n + 1 ≡ suc n = omega arith in
+    let m : begins bounds n + k ≡ begins bounds (suc n) = omega (arith, ap (begins bounds) e) in
+    let here : 0 + n ≡ n = omega arith in
+    let there : 0 + begins bounds n ≡ begins bounds n = omega arith in
+    ap (λ (x : ℕ). gather g x 0) (sym e) ∙ gather-add g n 1 0 ∙ ap (λ (x : ℕ). gather g n 0 ++ gather g 1 x) here
+    ∙ ap₂ _++_ (tiled f bounds n z (record { rise = λ i l. r .rise i (omega arith) })) (append-nil (g n))
+    ∙ sym (gather-add f (begins bounds n) k 0 ∙ ap (λ (x : ℕ). gather f (begins bounds n) 0 ++ gather f k x) there)
+    ∙ ap (λ (x : ℕ). gather f x 0) m
+
+-- what is looked at is part of what all drafts give
+told : {bounds kinds : List ℕ} {n : ℕ} → Statements bounds kinds n → (f : ℕ → List ℕ)
+    → PartOf (gather (looked bounds kinds f) n 0) (gather f (length kinds) 0)
+told {bounds} {kinds} {n} t f =
+    rw (← (t .whole), ← (tiled f bounds n (t .first) (t .rises)))
+    (gather-parts (looked bounds kinds f) (inStatement bounds f) n 0 (looked-part bounds kinds f))
+
+-- there are as many keys as places
+as-many : (kinds args : List ℕ) → length (gather (definedAt kinds args) (length kinds) 0) ≡ length (gather (placeAt kinds) (length kinds) 0)
+as-many kinds args =
+    ap length (sym (keys-by kinds args (length kinds) 0)) ∙ length-map (gather (placeAt kinds) (length kinds) 0) (λ i. getD args i 0)
+
+module _ {n d : ℕ} {bounds kinds args keys keys′ places places′ : List ℕ} (t : Statements bounds kinds n)
+    (v : NotedBy bounds kinds args n d keys keys′ places places′) where
+  -- where there are as many as drafts that define a name, they are all
+  pub collected-all : d ≡ length (placesIn kinds) → Collected kinds args d keys keys′ places places′
+  unfolding keysIn placesIn
+  collected-all e =
+      let p = told t (placeAt kinds) .full (omega (arith, e, v .placed .behind)) in
+      let q = told t (definedAt kinds args) .full (omega (arith, e, v .named .behind, as-many kinds args)) in
+      record { named = rw q at (v .named); placed = rw p at (v .placed) }
+
+  -- else all drafts were noted over them
+  pub collected-again : {r : ℕ} {keys″ places″ : List ℕ} → NotedAll kinds args (length kinds - 0) 0 0 r keys′ keys″ places′ places″
+      → Collected kinds args r keys keys″ places places″
+  unfolding keysIn placesIn
+  collected-again w =
+      let z = sub-zero (length kinds) in
+      let named = rw z at (w .named) in
+      let placed = rw z at (w .placed) in
+      record {
+        named = record { behind = named .behind; content = named .content ∙ over (definedAt kinds args) keys (v .named .content) };
+        placed = record { behind = placed .behind; content = placed .content ∙ over (placeAt kinds) places (v .placed .content) };
+      }
+    where
+      over : (f : ℕ → List ℕ) (l : List ℕ) {l′ : List ℕ} → l′ ≡ sets l 0 (gather (looked bounds kinds f) n 0)
+          → sets l′ 0 (gather f (length kinds) 0) ≡ sets l 0 (gather f (length kinds) 0)
+      over f l e =
+          let all = gather f (length kinds) 0 in
+          ap (λ (x : List ℕ). sets x 0 all) e ∙ sets-over l 0 (gather (looked bounds kinds f) n 0) all (told t f .short)
+
+-- ---- how many drafts define a name
+one-long : (b : Bool) (i : ℕ) → length (onlyIf b i) ≡ once b
+one-long true i = refl
+one-long false i = refl
+
+pub once-few : (b : Bool) → once b ≤ 1
+once-few true = omega arith
+once-few false = omega arith
+
+-- the kinds are told apart
+pub once-defines : (k : ℕ) → once (eqb k 1) + once (eqb k 2) + once (eqb k 13) ≡ once (defines k)
+once-defines k =
+    ⊎-elim (λ (e : k ≡ 1). rw e)
+    (λ (a : k ≡ 1 → ⊥). ⊎-elim (λ (e : k ≡ 2). rw e) (λ (b : k ≡ 2 → ⊥). rw (ne-eqb k 1 a, ne-eqb k 2 b) (omega arith)) (eq-or-ne k 2)) (eq-or-ne k 1)
+
+-- m are counted before draft i of those before n, from a on
+pub record Counting (kinds : List ℕ) (n a m i : ℕ) : Type 0 where
+  pub within : i ≤ n
+  pub few : m + a ≤ i
+  pub left : m + length (gather (placeAt kinds) (n - i) i) ≡ length (gather (placeAt kinds) (n - a) a)
+
+module _ {kinds : List ℕ} {n a : ℕ} where
+  pub counting-first : a ≤ n → Counting kinds n a 0 a
+  counting-first h = record { within = h; few = omega arith; left = omega arith }
+
+  module _ {m i : ℕ} (v : Counting kinds n a m i) where
+    -- one draft more
+    pub counting-next : {r : ℕ} → i < n → r ≡ once (defines (getD kinds i 0)) → r ≤ 1 → Counting kinds n a (m + r) (i + 1)
+    counting-next {r} h e s =
+        let f = placeAt kinds in
+        let one = one-long (defines (getD kinds i 0)) i in
+        record {
+          within = omega arith;
+          few = omega (arith, v .few);
+          left = omega (arith, v .left, e, one, ap length (gather-step f n i h), length-append (f i) (gather f (n - (i + 1)) (i + 1)));
+        }
+
+    -- a part more, up to e
+    pub counting-part : {r e : ℕ} → i ≤ e → e ≤ n → r ≡ length (gather (placeAt kinds) (e - i) i) → Counting kinds n a (m + r) e
+    counting-part {r} {e} h l q =
+        let f = placeAt kinds in
+        let x = e - i in
+        let y = n - e in
+        let s : n - i ≡ x + y = omega arith in
+        let t : i + x ≡ e = omega arith in
+        let both : gather f (n - i) i ≡ gather f x i ++ gather f y e = rw (s, gather-add f x y i, t) refl in
+        let short = gather-short f (λ j. only-length (defines (getD kinds j 0)) j) x i in
+        record {
+          within = l;
+          few = omega (arith, v .few, q, short);
+          left = omega (arith, v .left, q, ap length both, length-append (gather f x i) (gather f y e));
+        }
 
     -- all
-    pub telling-last : n ≤ j → Collected kinds args d keys₀ keys places₀ places
-    telling-last h =
-        let e : j ≡ n = omega (arith, v .within, h) in
-        collected (collecting-last (v .told) (omega (arith, ap (begins bounds) e, t .whole)))
+    pub counting-last : n ≤ i → m ≡ length (gather (placeAt kinds) (n - a) a)
+    counting-last h = omega (arith, v .left, ap length (gather-done (placeAt kinds) n i h))

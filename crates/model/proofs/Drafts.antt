@@ -11,10 +11,10 @@ use Rattle.laws.specs.Places.{onlyIf}
 use Rattle.laws.proofs.Lists.{concat-append}
 use Rattle.laws.proofs.Concats.{concat-concat, concat-mapped, concat-same}
 use Rattle.laws.proofs.Along.{along, along-append, along-one}
-use Rattle.grammar.specs.Tree.{plus, minus, times, over, compar, insw, limit, Tree, value, named, time, negated, two, three, names}
-use Rattle.grammar.specs.Tree.{Initial, plain, from, Says, constants, assignment, state}
+use Rattle.grammar.specs.Tree.{plus, minus, times, over, compar, insw, limit, Tree, value, named, time, negated, two, three, names, plain, from, Says}
+use Rattle.grammar.specs.Tree.{constants, assignment, state}
 use Rattle.grammar.specs.Items.{Item, push, fetch, clock, negate, apply-two, apply-three, postfix}
-use Rattle.grammar.specs.Drafts.{Draft, draft, draftItem, initialDraft, draftsOf}
+use Rattle.grammar.specs.Drafts.{Draft, draft, draftItem, draftsOf}
 use Rattle.model.specs.Definitions.{What, constant, assigned, integral, Def, definedBy, keys}
 use Rattle.model.specs.Places.{defines}
 
@@ -129,25 +129,6 @@ defined-keys l (constants (c ∷ cs)) = ap (_∷_ (c .key)) (defined-keys l (con
 defined-keys l (assignment k e) = expression-none keyOf key-none e (draft 13 k)
 defined-keys l (state k (plain x) e) = ap (_∷_ k) (expression-none keyOf key-none e (draft 14 k))
 defined-keys l (state k (from c) e) = ap (_∷_ k) (expression-none keyOf key-none e (draft 14 k))
-
--- none by those of an expression
-pub expression-idle : (e : Tree) → concat-map keyOf (expressionDrafts e) ≡ []
-expression-idle e =
-    sym (along-one keyOf noDraft (expressionDrafts e) []) ∙ along-items (λ l. keyOf (getD l 0 noDraft)) (λ k a l p. key-none k a p) (postfix e) []
-
--- .. nor by those of a state behind its first
-pub state-idle : (k : ℕ) (i : Initial) (e : Tree) → concat-map keyOf (initialDraft i ∷ (expressionDrafts e ++ (draft 14 k ∷ []))) ≡ []
-unfolding concat-map
-state-idle k (plain x) e = expression-none keyOf key-none e (draft 14 k)
-state-idle k (from c) e = expression-none keyOf key-none e (draft 14 k)
-
--- an assignment does not begin with an initial
-pub assignment-first : (k : ℕ) (e : Tree) (q : List Draft) → eqb (getD (draftsOf (assignment k e) ++ q) 0 noDraft .kind) 2 ≡ false
-assignment-first k e q = go (postfix e)
-  where
-    go : (xs : List Item) → eqb (getD ((map draftItem xs ++ (draft 13 k ∷ [])) ++ q) 0 noDraft .kind) 2 ≡ false
-    go [] = refl
-    go (x ∷ xs) = by-item (λ x d. eqb (d .kind) 2 ≡ false) (λ k p. p .3) (λ x k a p _ _. p .3) x
 
 -- ---- where a name is defined: the draft that defines it and, of a constant, the draft behind that
 pub record Home : Type 0 where

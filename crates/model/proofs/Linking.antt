@@ -1,43 +1,48 @@
 -- Names resolved and uses listed: a turn of each of the two loops, over drafts and over statements, and their ends.
-use Prim.Native.Nat.{ℕ, _+_, _-_, _≤_, _<_}
+use Prim.Native.Nat.{ℕ, suc, _+_, _-_, _≤_, _<_}
 use mathlib.Core.Path.{_≡_, refl, sym, ap, ap₂, _∙_}
-use mathlib.Core.Bool.{Bool, true, false}
+use mathlib.Core.Bool.{Bool, true, false, cond}
 use mathlib.Core.List.{List, [], _∷_, _++_, append-nil}
 use native.Mathlib.Omega.{arith}
 use lib.Dec.{eqb, ltb}
-use lib.ListN.{length, getD, set, length-append, length-set}
-use lib.Seq.{sets, length-sets}
+use lib.ListN.{length, getD, set, take, length-append, length-set}
+use lib.Seq.{sets, length-sets, take-all}
 use Rattle.laws.specs.Places.{gather, onlyIf}
 use Rattle.laws.proofs.Tests.{cond-ind}
 use Rattle.laws.proofs.Bools.{or-false}
 use Rattle.laws.proofs.Sets.{sets-append}
-use Rattle.laws.proofs.Gathers.{gather-add, gather-same}
-use Rattle.model.specs.Places.{defines, isNamed, resolvedAt, resolved, begins, ends, isEquation, equationRows, usedAt, usedIn, startsFrom}
+use Rattle.laws.proofs.Gathers.{gather-add, gather-none, gather-same}
+use Rattle.model.specs.Places.{defines, isNamed, resolvedAt, resolved, begins, ends, inStatement, isEquation, equationRows}
+use Rattle.model.specs.Places.{usedAt, usedIn, startsFrom}
 use Rattle.model.specs.Plan.{ownSlots}
 use Rattle.model.specs.Working.{Put, flawedBy, usedOwner, usedHere, usedFrom, Resolved, Resolving, Linking, Walked, Linkable, Tabled, Linked}
 use Rattle.model.specs.declared.names.Walk.{Walk}
 use Rattle.model.proofs.Collecting.{only-length, rises-to}
 use Rattle.model.proofs.Naming.{resolving-first, resolving-flawed, resolving-clear, resolving-other, resolving-last, slot-here}
 use Rattle.model.proofs.Owning.{used-same}
-use Rattle.model.proofs.Tabling.{ends-within, beginAt, whole-uses, whole-begin}
+use Rattle.model.proofs.Tabling.{gather-next, ends-within, usesOf, usesTo, beginAt, whole-uses, whole-begin}
 
 -- ---- one part more is written behind a row
-gather-next : {A : Type 0} (f : ℕ → List A) (i : ℕ) → gather f (i + 1) 0 ≡ gather f i 0 ++ f i
-unfolding gather
-gather-next f i =
-    let z : 0 + i ≡ i = omega arith in
-    gather-add f i 1 0 ∙ ap (λ (r : _). gather f i 0 ++ r) (append-nil (f (0 + i)) ∙ ap f z)
-
-pub put-next : (f : ℕ → List ℕ) (i : ℕ) {w r : ℕ} {buf₀ buf buf′ : List ℕ} → Put (gather f i 0) 0 w buf₀ buf → Put (f i) w r buf buf′
-    → Put (gather f (i + 1) 0) 0 r buf₀ buf′
-put-next f i {w} {r} {buf₀} {buf} {buf′} p q =
-    let a = gather f i 0 in
+put-append : {x y : List ℕ} {w₀ w r : ℕ} {buf₀ buf buf′ : List ℕ} → Put x w₀ w buf₀ buf → Put y w r buf buf′ → Put (x ++ y) w₀ r buf₀ buf′
+put-append {x} {y} {w₀} {buf₀ = buf₀} p q =
     record {
-      behind = omega (arith, p .behind, q .behind, length-append a (f i), ap length (gather-next f i));
+      behind = omega (arith, p .behind, q .behind, length-append x y);
       content =
-          q .content ∙ ap₂ (λ (b : List ℕ) (n : ℕ). sets b n (f i)) (p .content) (p .behind)
-          ∙ sym (sets-append buf₀ 0 a (f i)) ∙ ap (sets buf₀ 0) (sym (gather-next f i));
+          q .content ∙ ap₂ (λ (b : List ℕ) (n : ℕ). sets b n y) (p .content) (p .behind) ∙ sym (sets-append buf₀ w₀ x y);
     }
+
+-- nothing is written
+put-none : (w : ℕ) (buf : List ℕ) → Put [] w w buf buf
+put-none w buf = record { behind = omega arith; content = refl }
+
+-- of the places from a on, one more
+gather-more : {A : Type 0} (f : ℕ → List A) (a i : ℕ) → a ≤ i → gather f ((i + 1) - a) a ≡ gather f (i - a) a ++ f i
+unfolding gather
+gather-more f a i h =
+    let k = i - a in
+    let e : (i + 1) - a ≡ k + 1 = omega arith in
+    let z : a + k ≡ i = omega arith in
+    ap (λ (n : ℕ). gather f n a) e ∙ gather-add f k 1 a ∙ ap (λ (r : _). gather f k a ++ r) (append-nil (f (a + k)) ∙ ap f z)
 
 -- a draft uses at most one equation, and one that is no name uses none
 used-one : (owners : List ℕ) (kind slot : ℕ) → length (usedHere owners kind slot) ≤ 1
@@ -54,24 +59,62 @@ used-other owners kind slot n =
 abbrev pub walk : ℕ → Bool → Walk
 walk w flawed = record { count = w; flawed = flawed }
 
--- ---- before the first draft
-pub linking-first : (keys kinds places owners args used : List ℕ) → Linking keys kinds places owners args used 0 (walk 0 false) args used
+-- ---- before the first draft of a part
+linking-first : {keys kinds places args₀ args : List ℕ} {flawed : Bool} {i : ℕ} (owners used : List ℕ) (w : ℕ)
+    → Resolving keys kinds places args₀ flawed i args → Linking keys kinds places owners args₀ used i w i (walk w flawed) args used
 unfolding gather
-linking-first keys kinds places owners args used =
-    record { resolving = resolving-first keys kinds places args; uses = record { behind = omega arith; content = refl } }
+linking-first {i = i} owners used w r =
+    let e : i - i ≡ 0 = omega arith in
+    record { resolving = r; uses = rw e (put-none w used) }
 
 -- ---- the loop over drafts stands at draft i, with w numbers listed; it began at `from` with what n tells
 pub record Walking (keys kinds places owners args₁ used₁ : List ℕ) (from end : ℕ) (n : Walk) (w : ℕ) (flawed : Bool) (i : ℕ) (args used : List ℕ)
     : Type 0 where
+  pub beyond : from ≤ i
   pub within : i ≤ end
   pub short : w ≤ i
   pub long : length args ≡ length args₁
   pub long-used : length used ≡ length used₁
-  pub so : (args₀ used₀ : List ℕ) → Linking keys kinds places owners args₀ used₀ from n args₁ used₁
-      → Linking keys kinds places owners args₀ used₀ i (walk w flawed) args used
+  pub so : (args₀ : List ℕ) → Resolving keys kinds places args₀ (n .flawed) from args₁
+      → Linking keys kinds places owners args₀ used₁ from (n .count) i (walk w flawed) args used
+
+-- its beginning
+pub walking-first : {keys kinds args : List ℕ} {from end w : ℕ} (places owners used : List ℕ) (flawed : Bool) → Walked keys kinds args from end w
+    → Walking keys kinds places owners args used from end (walk w flawed) w flawed from args used
+walking-first {w = w} places owners used flawed p =
+    record {
+      beyond = omega arith;
+      within = p .upward;
+      short = p .short;
+      long = refl;
+      long-used = refl;
+      so = λ args₀ r. linking-first owners used w r;
+    }
 
 module _ {keys kinds places owners args₁ used₁ args used : List ℕ} {from end w i : ℕ} {n : Walk} {flawed : Bool}
     (v : Walking keys kinds places owners args₁ used₁ from end n w flawed i args used) (l : length kinds ≤ length args₁) (e : end ≤ length kinds) where
+  -- one draft more, of which vs is what it uses
+  further : {r : ℕ} {after : Bool} {vs args′ used′ : List ℕ} → i < end → Put vs w r used used′ → length vs ≤ 1 → length args′ ≡ length args
+      → ((args₀ : List ℕ) → length kinds ≤ length args₀ → Resolving keys kinds places args₀ flawed i args
+      → Resolving keys kinds places args₀ after (i + 1) args′ × (vs ≡ usedFrom owners kinds (resolved keys kinds args₀) i))
+      → Walking keys kinds places owners args₁ used₁ from end n r after (i + 1) args′ used′
+  further {r} {after} {vs} {args′} {used′} h put one same more =
+      record {
+        beyond = omega (arith, v .beyond);
+        within = omega arith;
+        short = omega (arith, v .short, put .behind, one);
+        long = same ∙ v .long;
+        long-used = ap length (put .content) ∙ length-sets used w vs ∙ v .long-used;
+        so = λ args₀ k. so args₀ (v .so args₀ k);
+      }
+    where
+      so : (args₀ : List ℕ) → Linking keys kinds places owners args₀ used₁ from (n .count) i (walk w flawed) args used
+          → Linking keys kinds places owners args₀ used₁ from (n .count) (i + 1) (walk r after) args′ used′
+      so args₀ k =
+          let f = usedFrom owners kinds (resolved keys kinds args₀) in
+          let m = more args₀ (omega (arith, k .resolving .long, v .long)) (k .resolving) in
+          record { resolving = m .0; uses = rw (gather-more f from i (v .beyond), ← (m .1)) (put-append (k .uses) put) }
+
   -- a draft is a name: it is resolved, and what it uses is listed
   module _ {slot r r′ : ℕ} {args′ used′ used″ : List ℕ} (h : i < end) (s : slot ≡ resolvedAt keys (getD kinds i 0) (getD args i 0))
       (put′ : Put (usedHere owners (getD kinds i 0) slot) w r′ used used″) (a : args′ ≡ set args i slot) (u : used′ ≡ used″) (c : r ≡ r′) where
@@ -79,28 +122,13 @@ module _ {keys kinds places owners args₁ used₁ args used : List ℕ} {from e
     put : Put (usedHere owners (getD kinds i 0) slot) w r used used′
     put = rw (u, c) put′
 
-    -- one draft more
     listed : {after : Bool}
         → ((args₀ : List ℕ) → length kinds ≤ length args₀ → Resolving keys kinds places args₀ flawed i args
         → Resolving keys kinds places args₀ after (i + 1) args′)
         → Walking keys kinds places owners args₁ used₁ from end n r after (i + 1) args′ used′
-    listed {after} more =
-        record {
-          within = omega arith;
-          short = omega (arith, v .short, put .behind, used-one owners (getD kinds i 0) slot);
-          long = ap length a ∙ length-set args i slot ∙ v .long;
-          long-used = ap length (put .content) ∙ length-sets used w (usedHere owners (getD kinds i 0) slot) ∙ v .long-used;
-          so = λ args₀ used₀ k. so args₀ used₀ (v .so args₀ used₀ k);
-        }
-      where
-        so : (args₀ used₀ : List ℕ) → Linking keys kinds places owners args₀ used₀ i (walk w flawed) args used
-            → Linking keys kinds places owners args₀ used₀ (i + 1) (walk r after) args′ used′
-        so args₀ used₀ k =
-            let wide : length kinds ≤ length args₀ = omega (arith, k .resolving .long, v .long) in
-            let same : usedHere owners (getD kinds i 0) slot ≡ usedFrom owners kinds (resolved keys kinds args₀) i =
-            ap (usedHere owners (getD kinds i 0)) (sym (slot-here (k .resolving) (omega arith) wide s)) in
-            let f = usedFrom owners kinds (resolved keys kinds args₀) in
-            record { resolving = more args₀ wide (k .resolving); uses = put-next f i (k .uses) (rw same at put) }
+    listed more =
+        further h put (used-one owners (getD kinds i 0) slot) (ap length a ∙ length-set args i slot)
+        (λ args₀ wide k. (more args₀ wide k, ap (usedHere owners (getD kinds i 0)) (sym (slot-here k (omega arith) wide s))))
 
     pub walking-flawed : {b after : Bool} → b ≡ flawedBy places kinds (getD kinds i 0) slot → b ≡ true → after ≡ true
         → Walking keys kinds places owners args₁ used₁ from end n r after (i + 1) args′ used′
@@ -114,51 +142,61 @@ module _ {keys kinds places owners args₁ used₁ args used : List ℕ} {from e
   pub walking-other : {r : ℕ} {after : Bool} {args′ used′ : List ℕ} → i < end → isNamed (getD kinds i 0) ≡ false
       → args′ ≡ args → used′ ≡ used → r ≡ w → after ≡ flawed
       → Walking keys kinds places owners args₁ used₁ from end n r after (i + 1) args′ used′
-  walking-other {r} {after} {args′} {used′} h m a u c z =
-      record {
-        within = omega arith;
-        short = omega (arith, v .short);
-        long = ap length a ∙ v .long;
-        long-used = ap length u ∙ v .long-used;
-        so = λ args₀ used₀ k. so args₀ used₀ (v .so args₀ used₀ k);
-      }
-    where
-      so : (args₀ used₀ : List ℕ) → Linking keys kinds places owners args₀ used₀ i (walk w flawed) args used
-          → Linking keys kinds places owners args₀ used₀ (i + 1) (walk r after) args′ used′
-      so args₀ used₀ k =
-          let wide : length kinds ≤ length args₀ = omega (arith, k .resolving .long, v .long) in
-          let none : usedFrom owners kinds (resolved keys kinds args₀) i ≡ [] =
-          used-other owners (getD kinds i 0) (getD (resolved keys kinds args₀) i 0) m in
-          let put : Put (usedFrom owners kinds (resolved keys kinds args₀) i) w r used used′ =
-          rw none (record { behind = omega (arith, c); content = u }) in
-          let f = usedFrom owners kinds (resolved keys kinds args₀) in
-          record { resolving = resolving-other (k .resolving) (omega arith) wide m a z; uses = put-next f i (k .uses) put }
+  walking-other h m a u c z =
+      further h (rw (u, c) (put-none w used)) (omega arith) (ap length a)
+      (λ args₀ wide k.
+      (resolving-other k (omega arith) wide m a z, sym (used-other owners (getD kinds i 0) (getD (resolved keys kinds args₀) i 0) m)))
 
   -- all drafts
-  pub walking-last : end ≤ i → (w ≤ end) × ((args₀ used₀ : List ℕ) → Linking keys kinds places owners args₀ used₀ from n args₁ used₁
-      → Linking keys kinds places owners args₀ used₀ end (walk w flawed) args used)
+  pub walking-last : end ≤ i → (w ≤ end) × ((args₀ : List ℕ) → Resolving keys kinds places args₀ (n .flawed) from args₁
+      → Linking keys kinds places owners args₀ used₁ from (n .count) end (walk w flawed) args used)
   walking-last h =
       let e : i ≡ end = omega (arith, v .within) in
-      (omega (arith, v .short, v .within), λ args₀ used₀ k. rw e at (v .so args₀ used₀ k))
+      (omega (arith, v .short, v .within), λ args₀ k. rw e at (v .so args₀ k))
 
 -- ---- the loop over statements stands at statement j, with r equations before it
-module _ (keys kinds owners args₀ bounds : List ℕ) where
-  -- where its uses begin, if it is an equation
-  abbrev startAt : ℕ → List ℕ
-  startAt j = onlyIf (isEquation bounds kinds j) (length (gather (usedFrom owners kinds (resolved keys kinds args₀)) (begins bounds j) 0))
 
-pub record Stating (lines bounds kinds keys places owners args₀ starts₀ used₀ : List ℕ) (n : Walk) (r j : ℕ) (args starts used : List ℕ) : Type 0 where
+-- with all owners a statement uses what it uses, with none nothing
+module _ (bounds kinds slots owners assigned : List ℕ) (same : (i : ℕ) → usedFrom owners kinds slots i ≡ usedAt assigned kinds slots i) where
+  uses-known : (j m : ℕ) → m ≡ cond (isEquation bounds kinds j) (length owners) 0
+      → inStatement bounds (usedFrom (take m owners) kinds slots) j ≡ usesOf assigned bounds kinds slots j
+  uses-known j m e = go (isEquation bounds kinds j) e
+    where
+      begin : ℕ
+      begin = begins bounds j
+
+      count : ℕ
+      count = ends bounds j - begin
+
+      none : (s : ℕ) (b : Bool) → cond b (usedOwner [] s) [] ≡ []
+      none s true = refl
+      none s false = refl
+
+      go : (b : Bool) → m ≡ cond b (length owners) 0
+          → inStatement bounds (usedFrom (take m owners) kinds slots) j ≡ cond b (inStatement bounds (usedAt assigned kinds slots) j) []
+      go true q = rw (q, take-all (length owners) owners (omega arith)) (gather-same _ _ count begin (λ i _ _. same i))
+      go false q = rw q (gather-none (usedFrom [] kinds slots) count begin (λ i _ _. none (getD slots i 0) (eqb (getD kinds i 0) 4)))
+
+pub record Stating (lines bounds kinds keys places args₀ starts₀ used₀ : List ℕ) (n : Walk) (r j : ℕ) (args starts used : List ℕ) : Type 0 where
   pub within : j ≤ length lines
   pub few : r ≤ j
   pub short : n .count ≤ begins bounds j
   pub long-starts : length starts ≡ length starts₀
   pub long-used : length used ≡ length used₀
-  pub linking : Linking keys kinds places owners args₀ used₀ (begins bounds j) n args used
-  pub begun : Put (gather (startAt keys kinds owners args₀ bounds) j 0) 0 r starts₀ starts
+  pub resolving : Resolving keys kinds places args₀ (n .flawed) (begins bounds j) args
+  pub uses : Put (usesTo (ownSlots (length lines) bounds kinds (resolved keys kinds args₀)) bounds kinds (resolved keys kinds args₀) j) 0 (n .count) used₀ used
+  pub begun : Put (gather (beginAt (ownSlots (length lines) bounds kinds (resolved keys kinds args₀)) bounds kinds (resolved keys kinds args₀)) j 0)
+      0 r starts₀ starts
 
 module _ {lines bounds kinds keys owners args₀ used₀ : List ℕ} (places starts₀ : List ℕ)
     (s : Linkable lines bounds kinds keys owners args₀ used₀) where
-  pub stating-first : Stating lines bounds kinds keys places owners args₀ starts₀ used₀ (walk 0 false) 0 0 args₀ starts₀ used₀
+  abbrev slots : List ℕ
+  slots = resolved keys kinds args₀
+
+  abbrev own : List ℕ
+  own = ownSlots (length lines) bounds kinds slots
+
+  pub stating-first : Stating lines bounds kinds keys places args₀ starts₀ used₀ (walk 0 false) 0 0 args₀ starts₀ used₀
   unfolding gather
   stating-first =
       record {
@@ -167,18 +205,19 @@ module _ {lines bounds kinds keys owners args₀ used₀ : List ℕ} (places sta
         short = omega arith;
         long-starts = refl;
         long-used = refl;
-        linking = rw (s .sound .first) (linking-first keys kinds places owners args₀ used₀);
-        begun = record { behind = omega arith; content = refl };
+        resolving = rw (s .sound .first) (resolving-first keys kinds places args₀);
+        uses = put-none 0 used₀;
+        begun = put-none 0 starts₀;
       }
 
   module _ {n : Walk} {r j : ℕ} {args starts used : List ℕ}
-      (v : Stating lines bounds kinds keys places owners args₀ starts₀ used₀ n r j args starts used) where
+      (v : Stating lines bounds kinds keys places args₀ starts₀ used₀ n r j args starts used) where
     -- the drafts of a statement can be gone over
     pub stating-walked : {from end : ℕ} → j < length lines → from ≡ begins bounds j → end ≡ ends bounds j → Walked keys kinds args from end (n .count)
     stating-walked h p q =
         record {
           few = s .few;
-          wide = omega (arith, s .wide, v .linking .resolving .long);
+          wide = omega (arith, s .wide, v .resolving .long);
           small = s .sound .small;
           upward = omega (arith, s .sound .rises .rise j h, p, q);
           inside = omega (arith, ends-within (s .sound) j h, q);
@@ -190,79 +229,62 @@ module _ {lines bounds kinds keys owners args₀ used₀ : List ℕ} (places sta
     stating-few =
         omega (arith, v .short, rises-to bounds (length lines) (s .sound .rises) j (v .within), s .sound .whole, s .sound .small)
 
-    -- one statement more
-    pub stating-next : {b : Bool} {w r′ from end : ℕ} {n′ : Walk} {args′ starts′ used′ : List ℕ} → j < length lines → b ≡ isEquation bounds kinds j
-        → w ≡ n .count → Put (onlyIf b w) r r′ starts starts′ → from ≡ begins bounds j → end ≡ ends bounds j
+    -- one statement more, of which the first m owners are looked at
+    pub stating-next : {b : Bool} {w r′ m from end : ℕ} {n′ : Walk} {args′ starts′ used′ : List ℕ} → j < length lines → b ≡ isEquation bounds kinds j
+        → w ≡ n .count → Put (onlyIf b w) r r′ starts starts′ → m ≡ cond b (length owners) 0 → from ≡ begins bounds j → end ≡ ends bounds j
         → length used′ ≡ length used → n′ .count ≤ end
-        → ((args₁ used₁ : List ℕ) → Linking keys kinds places owners args₁ used₁ from n args used
-        → Linking keys kinds places owners args₁ used₁ end n′ args′ used′)
-        → Stating lines bounds kinds keys places owners args₀ starts₀ used₀ n′ r′ (j + 1) args′ starts′ used′
-    stating-next {b} {w} {r′} {from} {end} {n′} {args′} {starts′} {used′} h t c put p q long short so =
+        → ((args₁ : List ℕ) → Resolving keys kinds places args₁ (n .flawed) from args
+        → Linking keys kinds places (take m owners) args₁ used from (n .count) end n′ args′ used′)
+        → Stating lines bounds kinds keys places args₀ starts₀ used₀ n′ r′ (j + 1) args′ starts′ used′
+    stating-next {b} {w} {r′} {m} {from} {end} {n′} {args′} {starts′} {used′} h t c put known p q long short so =
         record {
           within = omega arith;
           few = omega (arith, v .few, put .behind, only-length b w);
           short = omega (arith, short, q);
           long-starts = ap length (put .content) ∙ length-sets starts r (onlyIf b w) ∙ v .long-starts;
           long-used = long ∙ v .long-used;
-          linking = rw q at (so args₀ used₀ (rw (← p) at (v .linking)));
-          begun = put-next (startAt keys kinds owners args₀ bounds) j (v .begun) (rw same at put);
+          resolving = rw q at (linked .resolving);
+          uses = rw (next (usesOf own bounds kinds slots)) (put-append (v .uses) (rw uses-same at (linked .uses)));
+          begun = rw (next (beginAt own bounds kinds slots)) (put-append (v .begun) (rw begin-same at put));
         }
       where
-        same : onlyIf b w ≡ startAt keys kinds owners args₀ bounds j
-        same =
-            let count : w ≡ length (gather (usedFrom owners kinds (resolved keys kinds args₀)) (begins bounds j) 0) =
-            omega (arith, c, v .linking .uses .behind) in
-            ap₂ onlyIf t count
+        linked : Linking keys kinds places (take m owners) args₀ used from (n .count) end n′ args′ used′
+        linked = so args₀ (rw p (v .resolving))
+
+        next : {A : Type 0} (f : ℕ → List A) → gather f (j + 1) 0 ≡ gather f j 0 ++ f j
+        next f = let e : j + 1 ≡ suc j = omega arith in rw e (gather-next f j)
+
+        uses-same : gather (usedFrom (take m owners) kinds slots) (end - from) from ≡ usesOf own bounds kinds slots j
+        uses-same = rw (p, q) (uses-known bounds kinds slots owners own (used-same (s .owned) (s .slotted)) j m (rw t at known))
+
+        begin-same : onlyIf b w ≡ beginAt own bounds kinds slots j
+        begin-same = ap₂ onlyIf t (omega (arith, c, v .uses .behind))
 
     -- all statements
     pub stating-last : {w : ℕ} {starts′ : List ℕ} → length lines ≤ j → w ≡ n .count → starts′ ≡ set starts r w
         → Linked lines bounds kinds keys places n args₀ args starts₀ starts′ used₀ used
     stating-last {w} {starts′} h c e = record { resolved-so = done; tabled-so = rw (done .same) tabled }
       where
-        slots : List ℕ
-        slots = resolved keys kinds args₀
-
-        own : List ℕ
-        own = ownSlots (length lines) bounds kinds slots
-
         rows : List ℕ
         rows = equationRows (length lines) bounds kinds
 
         last : j ≡ length lines
         last = omega (arith, v .within)
 
-        at-end : begins bounds j ≡ length kinds
-        at-end = ap (begins bounds) last ∙ s .sound .whole
-
         done : Resolved keys kinds places args₀ args (n .flawed)
-        done = resolving-last (v .linking .resolving) (omega (arith, at-end))
+        done = resolving-last (v .resolving) (omega (arith, ap (begins bounds) last, s .sound .whole))
 
-        -- by the owners, and by the slots that are assigned
-        uses-same : (k : ℕ) → gather (usedFrom owners kinds slots) k 0 ≡ gather (usedAt own kinds slots) k 0
-        uses-same k = gather-same _ _ k 0 (λ i _ _. used-same (s .owned) (s .slotted) i)
-
-        starts-same : gather (startAt keys kinds owners args₀ bounds) (length lines) 0 ≡ gather (beginAt own bounds kinds slots) (length lines) 0
-        starts-same =
-            gather-same _ _ (length lines) 0
-            (λ i _ _. ap (λ (x : List ℕ). onlyIf (isEquation bounds kinds i) (length x)) (uses-same (begins bounds i)))
-
-        all : gather (usedFrom owners kinds slots) (begins bounds j) 0 ≡ usedIn own bounds kinds slots rows
-        all = ap (λ (k : ℕ). gather (usedFrom owners kinds slots) k 0) at-end ∙ uses-same (length kinds) ∙ whole-uses own bounds kinds slots (s .sound)
+        all : usesTo own bounds kinds slots j ≡ usedIn own bounds kinds slots rows
+        all = ap (usesTo own bounds kinds slots) last ∙ whole-uses own bounds kinds slots (length lines)
 
         -- the starts, and behind them how much is used
-        begun : Put (gather (beginAt own bounds kinds slots) (length lines) 0) 0 r starts₀ starts
-        begun = rw (last, starts-same) at (v .begun)
+        behind : Put (w ∷ []) r (r + 1) starts starts′
+        behind = record { behind = refl; content = e }
 
-        starts-row : starts′ ≡ sets starts₀ 0 (startsFrom 0 own bounds kinds slots rows)
-        starts-row =
-            let a = gather (beginAt own bounds kinds slots) (length lines) 0 in
-            let there : length (gather (usedFrom owners kinds slots) (begins bounds j) 0) ≡ length (gather (usedFrom owners kinds slots) (length kinds) 0) =
-            ap (λ (k : ℕ). length (gather (usedFrom owners kinds slots) k 0)) at-end in
-            let count : w ≡ length (gather (usedAt own kinds slots) (length kinds) 0) =
-            omega (arith, c, v .linking .uses .behind, there, ap length (uses-same (length kinds))) in
-            e ∙ ap₂ (λ (x : List ℕ) (k : ℕ). set x k w) (begun .content) (begun .behind)
-            ∙ sym (sets-append starts₀ 0 a (w ∷ []))
-            ∙ ap (λ (k : ℕ). sets starts₀ 0 (a ++ (k ∷ []))) count ∙ ap (sets starts₀ 0) (whole-begin own bounds kinds slots (s .sound))
+        row : gather (beginAt own bounds kinds slots) j 0 ++ (w ∷ []) ≡ startsFrom 0 own bounds kinds slots rows
+        row =
+            let count : w ≡ length (usesTo own bounds kinds slots j) = omega (arith, c, v .uses .behind) in
+            rw (count, last) (whole-begin own bounds kinds slots (length lines))
 
         tabled : Tabled rows bounds kinds slots (n .count) starts₀ starts′ used₀ used
-        tabled = record { uses = rw all at (v .linking .uses); begun = starts-row }
+        tabled = record { uses = rw all at (v .uses); begun = put-append (v .begun) behind .content ∙ ap (sets starts₀ 0) row }

@@ -13,14 +13,12 @@ use Rattle.order.specs.Greedy.{order}
 use Rattle.model.specs.Definitions.{What, constant, Def, definitions, keys, Equation, equationAt, equationCount}
 use Rattle.model.specs.Faults.{faults21, nameFaults, usesIn, faults24, orElse, modelFaults, orderOf}
 use Rattle.model.specs.Places.{keysIn, placesIn, doubles, resolved, nameless, equationRows, loops}
-use Rattle.model.specs.Plan.{Shaped}
 use Rattle.model.proofs.Drafts.{Home, kindOfWhat, homeOfWhat, homeOfDef}
 use Rattle.model.proofs.Walk.{sheetLines, sheetSlots, sheetPlaces, kind-at, arg-at}
 use Rattle.model.proofs.Slots.{noDef, keys-once}
 use Rattle.model.proofs.Doubled.{homeAt, homes-of, keys-of, places-length, doubles-of}
 use Rattle.model.proofs.Asked.{names-of}
 use Rattle.model.proofs.Rows.{row-lines, rows-length, row-at}
-use Rattle.model.proofs.Shape.{shaped-of}
 use Rattle.model.proofs.Table.{usedOf}
 use Rattle.model.proofs.Uses.{uses-of, order-of, loops-of}
 
@@ -84,10 +82,6 @@ module _ (ss : List Numbered) (kinds args lines bounds : List ℕ) (laid : Laid 
         let b : homeAt ss place .behind .arg ≡ toBits binary64 x = ap (λ (y : Home). y .behind .arg) (home-meant ∙ ap (homeOfWhat (def .key)) e) in
         let k : homeAt ss place .own .kind ≡ 1 = ap (λ (y : Home). y .own .kind) (home-meant ∙ ap (homeOfWhat (def .key)) e) in
         ap (λ l. getD l (place + 1) 0) (laid .args-held) ∙ arg-at (draftsIn ss) (place + 1) ∙ rw k at b
-
-  -- THE FORM of the statements
-  pub shaped-meant : Shaped bounds kinds (length lines)
-  shaped-meant = rw (laid .kinds-held, laid .lines-held, laid .bounds-held) (shaped-of ss)
 
   -- 21
   pub doubles-meant : doubles lines bounds kinds args ≡ faults21 [] ss

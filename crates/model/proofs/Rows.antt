@@ -45,7 +45,7 @@ constants-end c (d ∷ cs) =
     (f ++ r .0, r .1, ap (λ l. f ++ l) (r .2))
 
 -- a statement that has an equation
-abbrev pub speaks : Says → Bool
+abbrev speaks : Says → Bool
 speaks (constants cs) = false
 speaks (assignment k e) = true
 speaks (state k i e) = true
@@ -83,7 +83,7 @@ module _ (ss : List Numbered) where
         rw (lt-ltb begin end l, last-kind m z e)
 
     -- assignments and state statements are, constants are not
-    pub is-equation : (x : Says) → s .says ≡ x → isRow (length a) ≡ speaks x
+    is-equation : (x : Says) → s .says ≡ x → isRow (length a) ≡ speaks x
     unfolding concat-map
     is-equation (constants []) e =
         let l : end ≤ begin = omega (arith, begins-at ss a s b p, ends-at ss a s b p, ap (λ x. length (draftsOf x)) e) in

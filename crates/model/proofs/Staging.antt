@@ -23,7 +23,7 @@ use Rattle.order.specs.declared.Sorted.the-variants.{Placed, Unfit}
 use Rattle.order.proofs.Tables.{fits-iff}
 use Rattle.model.specs.Places.{begins, ends, anyOf, keysIn, placesIn, doubles, resolvedAt, resolved, undefinedAt, unfitAt, namesAt, nameless}
 use Rattle.model.specs.Places.{isEquation, equationRows, assignedSlots, usedIn, startsFrom, loops}
-use Rattle.model.specs.Plan.{Shaped, Lent, lent, withPlaces, Outcome, outcome, refused, faulted, some, falls, inTurn, roomy, fit}
+use Rattle.model.specs.Plan.{Lent, lent, withPlaces, Outcome, outcome, refused, faulted, some, falls, inTurn, roomy, fit}
 use Rattle.model.specs.Plan.{closed, weighed, tested, ownSlots, ownUses, tabled, named, distinct, sheeted, planned}
 use Rattle.model.specs.Working.{Put, Reported, Collected, Keyed, flawedAt, Sound, Holds, Wide, Slotted, Owned, Linkable, Linked, Weighs, repeated}
 use Rattle.model.specs.declared.names.Walk.{Walk}
@@ -388,11 +388,11 @@ module _ {kinds args keys places places′ : List ℕ} {n : ℕ} (v : Collected 
         (e ∙ ap (distinct lines bounds kinds args used faults) (arrays rows order))
 
 -- ---- the arrays fit, or they do not
-pub fit-sound : (lines bounds kinds used rows order : List ℕ) (args faults places : ℕ) → Shaped bounds kinds (length lines)
+pub fit-sound : (lines bounds kinds used rows order : List ℕ) (args faults places : ℕ)
     → fit lines bounds kinds args (length used) faults places (length rows) (length order) ≡ true
     → Sound lines bounds kinds used × (length kinds ≤ args) × (mostStatements ≤ places) × Wide rows order
 unfolding fit roomy inTurn
-fit-sound lines bounds kinds used rows order args faults places shaped e =
+fit-sound lines bounds kinds used rows order args faults places e =
     let a = and-true (leb (length lines) mostStatements) _ e in
     let b = and-true (eqb (length bounds) (length lines + 1)) _ (a .1) in
     let c = and-true (leb (length kinds) textBytes) _ (b .1) in
@@ -412,7 +412,6 @@ fit-sound lines bounds kinds used rows order args faults places shaped e =
         rises = record { rise = λ k h. ltb-false (ends bounds k) (begins bounds k) (none k (omega arith) (omega arith)) };
         first = eqb-true _ _ (i .0);
         whole = eqb-true _ _ (j .0);
-        shaped = shaped;
       },
       leb-true _ _ (d .0),
       leb-true _ _ (p .0),

@@ -1,8 +1,8 @@
--- The table of uses: how long it is, that it fits the order, and that it is what all drafts use, one after the other.
+-- The table of uses: how long it is, that it fits the order, and that it is what the statements that are equations use, one after the other.
 use Prim.Native.Nat.{ℕ, zero, suc, _+_, _-_, _≤_, _<_}
-use mathlib.Core.Path.{_≡_, refl, sym, ap, _∙_}
-use mathlib.Core.Bool.{Bool, true, false}
-use mathlib.Core.List.{List, [], _∷_, _++_, append-assoc, append-nil}
+use mathlib.Core.Path.{_≡_, refl, ap, subst, _∙_}
+use mathlib.Core.Bool.{Bool, true, false, cond}
+use mathlib.Core.List.{List, [], _∷_, _++_, append-nil}
 use native.Mathlib.Numerals.{add-one}
 use native.Mathlib.Omega.{arith}
 use lib.Dec.{eqb, ltb}
@@ -12,13 +12,20 @@ use Rattle.laws.specs.Counts.{count}
 use Rattle.laws.specs.Places.{gather, onlyIf}
 use Rattle.laws.proofs.Tests.{cond-ind}
 use Rattle.laws.proofs.Members.{Below, below-append, below-gather, below-only, at-in}
-use Rattle.laws.proofs.Gathers.{any-none, gather-add, gather-none, gather-short}
+use Rattle.laws.proofs.Gathers.{gather-add, gather-short}
 use Rattle.order.specs.Table.{Fit}
 use Rattle.model.specs.Definitions.{placeIn}
-use Rattle.model.specs.Places.{begins, ends, anyOf, isEquation, equationRows, assignedSlot, assignedSlots, usedBy, usedAt, usedOfRow, usedIn, startsFrom}
-use Rattle.model.specs.Plan.{isUse}
+use Rattle.model.specs.Places.{begins, ends, isEquation, equationRows, assignedSlot, assignedSlots, usedBy, usedAt, usedOfRow, usedIn, startsFrom}
 use Rattle.model.specs.Working.{Rises, Sound}
 use Rattle.model.proofs.Collecting.{only-length, rises-to}
+
+-- one place more
+pub gather-next : {A : Type 0} (f : ℕ → List A) (i : ℕ) → gather f (suc i) 0 ≡ gather f i 0 ++ f i
+unfolding gather
+gather-next f i =
+    let e : suc i ≡ i + 1 = omega arith in
+    let z : 0 + i ≡ i = omega arith in
+    ap (λ (k : ℕ). gather f k 0) e ∙ gather-add f i 1 0 ∙ ap (λ (r : _). gather f i 0 ++ r) (append-nil (f (0 + i)) ∙ ap f z)
 
 -- a statement ends within the drafts
 pub ends-within : {lines bounds kinds used : List ℕ} → Sound lines bounds kinds used → (j : ℕ) → j < length lines → ends bounds j ≤ length kinds
@@ -95,132 +102,79 @@ module _ (assigned bounds kinds slots : List ℕ) where
       let e : begins bounds (0 + n) ≡ begins bounds n = let z : 0 + n ≡ n = omega arith in ap (begins bounds) z in
       omega (arith, e, few-from n 0 (λ j _ h. r .rise j (omega arith)))
 
-  -- what the drafts before statement j use
-  abbrev usesTo : ℕ → List ℕ
-  usesTo j = gather (usedAt assigned kinds slots) (begins bounds j) 0
+  -- what statement j uses, if it is an equation; what those before it use; where it begins
+  abbrev pub usesOf : ℕ → List ℕ
+  usesOf j = cond (isEquation bounds kinds j) (usedOfRow assigned bounds kinds slots j) []
 
-  -- and with statement j
-  uses-step : (j : ℕ) → begins bounds j ≤ ends bounds j → usesTo (suc j) ≡ usesTo j ++ usedOfRow assigned bounds kinds slots j
-  uses-step j h =
-      let u = usedAt assigned kinds slots in
-      let k = ends bounds j - begins bounds j in
-      let e : begins bounds (suc j) ≡ begins bounds j + k = omega (arith, ap (begins bounds) (add-one j)) in
-      let z : 0 + begins bounds j ≡ begins bounds j = omega arith in
-      ap (λ (n : ℕ). gather u n 0) e ∙ gather-add u (begins bounds j) k 0 ∙ ap (λ (i : ℕ). usesTo j ++ gather u k i) z
+  abbrev pub usesTo : ℕ → List ℕ
+  usesTo j = gather usesOf j 0
 
-  -- a statement without a name in an expression uses nothing
-  quiet : (j : ℕ) → anyOf bounds (isUse kinds) j ≡ false → usedOfRow assigned bounds kinds slots j ≡ []
-  quiet j e =
-      let k = ends bounds j - begins bounds j in
-      gather-none (usedAt assigned kinds slots) k (begins bounds j)
-      (λ i a b. let z = any-none (isUse kinds) k (begins bounds j) e i a b in rw z)
-
-  -- k statements from j on do not fall, and those of them that are no equations use nothing
-  abbrev Lawful : ℕ → ℕ → Type 0
-  Lawful k j =
-      (i : ℕ) → j ≤ i → i < j + k → (begins bounds i ≤ ends bounds i) × (isEquation bounds kinds i ≡ false → anyOf bounds (isUse kinds) i ≡ false)
+  abbrev pub beginAt : ℕ → List ℕ
+  beginAt j = onlyIf (isEquation bounds kinds j) (length (usesTo j))
 
   rowsFrom : ℕ → ℕ → List ℕ
   rowsFrom k j = gather (λ i. onlyIf (isEquation bounds kinds i) i) k j
 
-  -- where the uses of statement j begin, if it is an equation
-  abbrev pub beginAt : ℕ → List ℕ
-  beginAt j = onlyIf (isEquation bounds kinds j) (length (usesTo j))
-
-  lawful-next : (k j : ℕ) → Lawful (suc k) j → Lawful k (suc j)
-  lawful-next k j h i a b = h i (omega arith) (omega arith)
-
-  -- what these statements use is what the equations among them use
-  rows-uses : (k j : ℕ) → Lawful k j → usesTo (j + k) ≡ usesTo j ++ usedIn assigned bounds kinds slots (rowsFrom k j)
+  -- what k statements from j on use is what the equations among them use
+  rows-uses : (k j : ℕ) → gather usesOf k j ≡ usedIn assigned bounds kinds slots (rowsFrom k j)
   unfolding rowsFrom gather usedIn
-  rows-uses zero j h = let e : j + 0 ≡ j = omega arith in ap usesTo e ∙ sym (append-nil (usesTo j))
-  rows-uses (suc k) j h = go (isEquation bounds kinds j) refl (rows-uses k (suc j) (lawful-next k j h))
+  rows-uses zero j = refl
+  rows-uses (suc k) j = go (isEquation bounds kinds j) (rows-uses k (suc j))
     where
-      here : (begins bounds j ≤ ends bounds j) × (isEquation bounds kinds j ≡ false → anyOf bounds (isUse kinds) j ≡ false)
-      here = h j (omega arith) (omega arith)
-
       row : List ℕ
       row = usedOfRow assigned bounds kinds slots j
 
-      rest : List ℕ
-      rest = usedIn assigned bounds kinds slots (rowsFrom k (suc j))
-
-      split : usesTo (suc j + k) ≡ usesTo (suc j) ++ rest → usesTo (j + suc k) ≡ (usesTo j ++ row) ++ rest
-      split r =
-          let e : j + suc k ≡ suc j + k = omega arith in
-          ap usesTo e ∙ r ∙ ap (λ (x : List ℕ). x ++ rest) (uses-step j (here .0))
-
-      go : (b : Bool) → isEquation bounds kinds j ≡ b → usesTo (suc j + k) ≡ usesTo (suc j) ++ rest
-          → usesTo (j + suc k) ≡ usesTo j ++ usedIn assigned bounds kinds slots (onlyIf b j ++ rowsFrom k (suc j))
-      go true e r = split r ∙ append-assoc (usesTo j) row rest
-      go false e r =
-          split r ∙ ap (λ (x : List ℕ). (usesTo j ++ x) ++ rest) (quiet j (here .1 e)) ∙ ap (λ (x : List ℕ). x ++ rest) (append-nil (usesTo j))
+      go : (b : Bool) → gather usesOf k (suc j) ≡ usedIn assigned bounds kinds slots (rowsFrom k (suc j))
+          → cond b row [] ++ gather usesOf k (suc j) ≡ usedIn assigned bounds kinds slots (onlyIf b j ++ rowsFrom k (suc j))
+      go true r = ap (λ (x : List ℕ). row ++ x) r
+      go false r = r
 
   -- and where each of these begins
-  rows-begin : (k j : ℕ) → Lawful k j
+  rows-begin : (k j : ℕ)
       → gather beginAt k j ++ (length (usesTo (j + k)) ∷ []) ≡ startsFrom (length (usesTo j)) assigned bounds kinds slots (rowsFrom k j)
   unfolding rowsFrom gather startsFrom
-  rows-begin zero j h = let e : j + 0 ≡ j = omega arith in ap (λ (i : ℕ). length (usesTo i) ∷ []) e
-  rows-begin (suc k) j h = go (isEquation bounds kinds j) refl (rows-begin k (suc j) (lawful-next k j h))
+  rows-begin zero j = let e : j + 0 ≡ j = omega arith in ap (λ (i : ℕ). length (usesTo i) ∷ []) e
+  rows-begin (suc k) j = go (isEquation bounds kinds j) count (rows-begin k (suc j))
     where
-      here : (begins bounds j ≤ ends bounds j) × (isEquation bounds kinds j ≡ false → anyOf bounds (isUse kinds) j ≡ false)
-      here = h j (omega arith) (omega arith)
-
       row : List ℕ
       row = usedOfRow assigned bounds kinds slots j
 
       last : List ℕ
       last = length (usesTo (j + suc k)) ∷ []
 
-      count : length (usesTo (suc j)) ≡ length (usesTo j) + length row
-      count = ap length (uses-step j (here .0)) ∙ length-append (usesTo j) row
+      count : length (usesTo (suc j)) ≡ length (usesTo j) + length (usesOf j)
+      count = ap length (gather-next usesOf j) ∙ length-append (usesTo j) (usesOf j)
+
+      -- the statements behind, from n on
+      From : ℕ → Type 0
+      From n = gather beginAt k (suc j) ++ last ≡ startsFrom n assigned bounds kinds slots (rowsFrom k (suc j))
 
       rest : gather beginAt k (suc j) ++ (length (usesTo (suc j + k)) ∷ [])
           ≡ startsFrom (length (usesTo (suc j))) assigned bounds kinds slots (rowsFrom k (suc j))
-          → gather beginAt k (suc j) ++ last ≡ startsFrom (length (usesTo (suc j))) assigned bounds kinds slots (rowsFrom k (suc j))
+          → From (length (usesTo (suc j)))
       rest r =
           let e : j + suc k ≡ suc j + k = omega arith in
           ap (λ (i : ℕ). gather beginAt k (suc j) ++ (length (usesTo i) ∷ [])) e ∙ r
 
-      go : (b : Bool) → isEquation bounds kinds j ≡ b
+      go : (b : Bool) → length (usesTo (suc j)) ≡ length (usesTo j) + length (cond b row [])
           → gather beginAt k (suc j) ++ (length (usesTo (suc j + k)) ∷ [])
           ≡ startsFrom (length (usesTo (suc j))) assigned bounds kinds slots (rowsFrom k (suc j))
           → (onlyIf b (length (usesTo j)) ++ gather beginAt k (suc j)) ++ last
           ≡ startsFrom (length (usesTo j)) assigned bounds kinds slots (onlyIf b j ++ rowsFrom k (suc j))
-      go true e r =
-          ap (λ (x : List ℕ). length (usesTo j) ∷ x)
-          (rest r ∙ ap (λ (n : ℕ). startsFrom n assigned bounds kinds slots (rowsFrom k (suc j))) count)
+      go true e r = ap (λ (x : List ℕ). length (usesTo j) ∷ x) (subst From e (rest r))
       go false e r =
-          let same : length (usesTo (suc j)) ≡ length (usesTo j) = omega (arith, count, ap length (quiet j (here .1 e))) in
-          rest r ∙ ap (λ (n : ℕ). startsFrom n assigned bounds kinds slots (rowsFrom k (suc j))) same
+          let same : length (usesTo (suc j)) ≡ length (usesTo j) = omega (arith, e) in
+          subst From same (rest r)
 
-  -- of a whole sheet
-  module _ {lines used : List ℕ} (s : Sound lines bounds kinds used) where
-    lawful : Lawful (length lines) 0
-    lawful i a b = (s .rises .rise i (omega arith), s .shaped .still i (omega arith))
+  -- of n statements
+  pub whole-uses : (n : ℕ) → usesTo n ≡ usedIn assigned bounds kinds slots (equationRows n bounds kinds)
+  unfolding rowsFrom equationRows
+  whole-uses n = rows-uses n 0
 
-    none : usesTo 0 ≡ []
-    unfolding gather
-    none = rw (s .first)
-
-    all : usesTo (0 + length lines) ≡ gather (usedAt assigned kinds slots) (length kinds) 0
-    all =
-        let e : 0 + length lines ≡ length lines = omega arith in
-        ap usesTo e ∙ ap (λ (n : ℕ). gather (usedAt assigned kinds slots) n 0) (s .whole)
-
-    pub whole-uses : gather (usedAt assigned kinds slots) (length kinds) 0
-        ≡ usedIn assigned bounds kinds slots (equationRows (length lines) bounds kinds)
-    unfolding rowsFrom equationRows
-    whole-uses =
-        sym all ∙ rows-uses (length lines) 0 lawful
-        ∙ ap (λ (x : List ℕ). x ++ usedIn assigned bounds kinds slots (equationRows (length lines) bounds kinds)) none
-
-    pub whole-begin : gather beginAt (length lines) 0 ++ (length (gather (usedAt assigned kinds slots) (length kinds) 0) ∷ [])
-        ≡ startsFrom 0 assigned bounds kinds slots (equationRows (length lines) bounds kinds)
-    unfolding rowsFrom equationRows
-    whole-begin =
-        ap (λ (x : List ℕ). gather beginAt (length lines) 0 ++ (length x ∷ [])) (sym all) ∙ rows-begin (length lines) 0 lawful
-        ∙ ap (λ (x : List ℕ). startsFrom (length x) assigned bounds kinds slots (equationRows (length lines) bounds kinds)) none
+  pub whole-begin : (n : ℕ)
+      → gather beginAt n 0 ++ (length (usesTo n) ∷ []) ≡ startsFrom 0 assigned bounds kinds slots (equationRows n bounds kinds)
+  unfolding rowsFrom equationRows gather
+  whole-begin n = let e : 0 + n ≡ n = omega arith in rw e at (rows-begin n 0)
 
 -- the table fits
 pub table-fit : (rows bounds kinds slots : List ℕ) → length rows ≤ mostStatements

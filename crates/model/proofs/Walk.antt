@@ -1,18 +1,18 @@
 -- A sheet that is laid out, walked statement by statement.
-use Prim.Native.Nat.{ℕ, zero, suc, _+_, _-_, _<_}
-use mathlib.Core.Path.{_≡_, refl, sym, ap, subst, _∙_}
+use Prim.Native.Nat.{ℕ, zero, suc, _+_, _-_}
+use mathlib.Core.Path.{_≡_, refl, sym, ap, _∙_}
 use mathlib.Core.Bool.{Bool}
 use mathlib.Core.List.{List, [], _∷_, _++_, map, append-assoc}
 use native.Mathlib.Nat.{add-zero}
 use native.Mathlib.Omega.{arith}
-use lib.ListN.{length, getD, drop, length-append, length-map, List·getD-map}
+use lib.ListN.{length, getD, length-append, length-map, List·getD-map}
 use lib.Seq.{getD-at, getD-append-add}
 use Rattle.laws.specs.Lists.{concat-map}
 use Rattle.laws.specs.Places.{gather, onlyIf}
 use Rattle.laws.proofs.Lists.{concat-append}
 use Rattle.laws.proofs.Concats.{map-append}
-use Rattle.laws.proofs.Along.{along, gather-along, gather-part, filled, any-filled, startsAt, start-at, end-at}
-use Rattle.grammar.specs.Drafts.{Draft, draft, draftsOf}
+use Rattle.laws.proofs.Along.{gather-part, filled, any-filled, startsAt, start-at, end-at}
+use Rattle.grammar.specs.Drafts.{Draft, draftsOf}
 use Rattle.sheet.specs.Sheet.{Numbered}
 use Rattle.sheet.specs.Layout.{draftsIn, boundsFrom}
 use Rattle.model.specs.Definitions.{definitions, keys}
@@ -84,29 +84,6 @@ unfolding boundsFrom startsAt
 bounds-starts o [] = refl
 bounds-starts o (s ∷ ss) = ap (_∷_ o) (bounds-starts (o + length (draftsBy s)) ss)
 
--- ---- a list split at one of its places
-record Parts {A : Type 0} (l : List A) (j : ℕ) : Type 0 where
-  before : List A
-  own : A
-  behind : List A
-  split : l ≡ before ++ own ∷ behind
-  many : length before ≡ j
-
-parts : {A : Type 0} (l : List A) (j : ℕ) → j < length l → Parts l j
-parts [] j h = absurd (omega arith)
-parts (a ∷ l) zero h = record { before = []; own = a; behind = l; split = refl; many = refl }
-parts (a ∷ l) (suc j) h =
-    let r = parts l j (omega arith) in
-    record { before = a ∷ r .before; own = r .own; behind = r .behind; split = ap (_∷_ a) (r .split); many = ap suc (r .many) }
-
--- what holds of each statement, with a before it and b behind, holds by number
-pub at-each : (ss : List Numbered) (P : ℕ → Type 0) → ((a : List Numbered) (s : Numbered) (b : List Numbered) → ss ≡ a ++ s ∷ b → P (length a))
-    → (j : ℕ) → j < length (sheetLines ss) → P j
-at-each ss P f j h =
-    let k : length (sheetLines ss) ≡ length ss = length-map ss (λ (s : Numbered). s .line) in
-    let c = parts ss j (rw k at h) in
-    subst P (c .many) (f (c .before) (c .own) (c .behind) (c .split))
-
 -- ---- statement s of the sheet, with a before it and b behind
 module _ (ss a : List Numbered) (s : Numbered) (b : List Numbered) (p : ss ≡ a ++ s ∷ b) where
   -- its drafts begin behind all before it
@@ -142,11 +119,6 @@ module _ (ss a : List Numbered) (s : Numbered) (b : List Numbered) (p : ss ≡ a
   pub in-statement : {B : Type 0} (f : ℕ → List B) (G : Draft → List B) → ((i : ℕ) → f i ≡ G (getD (draftsIn ss) i noDraft))
       → inStatement (sheetBounds ss) f (length a) ≡ concat-map G (draftsBy s)
   in-statement f G e = rw (span, begins-at) (gather-part f G noDraft (draftsIn a) (draftsBy s) (draftsIn b) (rw drafts-split at e))
-
-  -- the same where f looks also at what stands behind a place
-  pub along-statement : {B : Type 0} (f : ℕ → List B) (G : List Draft → List B) → ((i : ℕ) → f i ≡ G (drop i (draftsIn ss)))
-      → inStatement (sheetBounds ss) f (length a) ≡ along G (draftsBy s) (draftsIn b)
-  along-statement f G e = rw (span, begins-at) (gather-along G f (draftsIn a) (draftsBy s) (draftsIn b) (rw drafts-split at e))
 
   -- a test at some place of the statement
   pub any-statement : (f : ℕ → Bool) (G : Draft → Bool) → ((i : ℕ) → f i ≡ G (getD (draftsIn ss) i noDraft))

@@ -1,20 +1,19 @@
 -- What `plan` answers for the arrays of a sheet, and what it leaves in those that are lent to it. The tests stand in the order of the
 -- paper's verdict: 6; then 7 by the faults 21, by 22 and 23, by 24; else 0, and with it all that the program is written from: the count of
 -- definitions, with their places at the front of an array, and of equations, with these and their order.
-use Prim.Native.Nat.{ℕ, _+_, _-_, _*_, _<_}
+use Prim.Native.Nat.{ℕ, _+_, _*_}
 use mathlib.Core.Path.{_≡_}
-use mathlib.Core.Bool.{Bool, false, not, cond, _&&_}
+use mathlib.Core.Bool.{Bool, not, cond, _&&_}
 use mathlib.Core.List.{List}
 use lib.Dec.{eqb, leb, ltb}
-use lib.ListN.{length, getD}
+use lib.ListN.{length}
 use lib.Seq.{sets}
 use Rattle.limits.specs.Limits.{mostStatements, mostDefinitions, textBytes, faultBytes}
-use Rattle.laws.specs.Places.{anyIn, onlyIf}
+use Rattle.laws.specs.Places.{anyIn}
 use Rattle.sheet.specs.Sheet.{Fault, faultList}
 use Rattle.order.specs.Greedy.{order}
 use Rattle.order.specs.Table.{usesIn}
-use Rattle.model.specs.Places.{defines, begins, ends, inStatement, anyOf, isEquation}
-use Rattle.model.specs.Places.{keysIn, placesIn, doubles, resolved, nameless, equationRows, assignedSlots, usedIn, startsFrom, loops}
+use Rattle.model.specs.Places.{begins, ends, keysIn, placesIn, doubles, resolved, nameless, equationRows, assignedSlots, usedIn, startsFrom, loops}
 use Rattle.model.specs.declared.answer.Plan.{Plan}
 
 -- the three arrays that are lent for what the program is written from: the places of the definitions, the statements that are equations,
@@ -58,27 +57,6 @@ faulted fs args used faults l = outcome (refused 7 (length fs)) args used (sets 
 
 abbrev pub some : List Fault → Bool
 some fs = ltb 0 (length fs)
-
--- ---- what is asked of the arrays: they are those of some statements (the law `shaped-meant` of proofs/Meant)
-
--- place i, if it defines a name
-abbrev pub placeAt : List ℕ → ℕ → List ℕ
-placeAt kinds i = onlyIf (defines (getD kinds i 0)) i
-
--- the one place of statement j that may define a name, where it does not begin with a constant: its first, if that is an initial, else its last
-abbrev pub spotOf : List ℕ → List ℕ → ℕ → ℕ
-spotOf bounds kinds j = cond (eqb (getD kinds (begins bounds j) 0) 2) (begins bounds j) (ends bounds j - 1)
-
--- a name stands in an expression at place i
-abbrev pub isUse : List ℕ → ℕ → Bool
-isUse kinds i = eqb (getD kinds i 0) 4
-
--- n statements: one that has drafts and does not begin with a constant defines at most one name, there; in one that is no equation no name
--- stands in an expression
-pub record Shaped (bounds kinds : List ℕ) (n : ℕ) : Type 0 where
-  pub lone : (j : ℕ) → j < n → begins bounds j < ends bounds j → eqb (getD kinds (begins bounds j) 0) 1 ≡ false
-      → inStatement bounds (placeAt kinds) j ≡ placeAt kinds (spotOf bounds kinds j)
-  pub still : (j : ℕ) → j < n → isEquation bounds kinds j ≡ false → anyOf bounds (isUse kinds) j ≡ false
 
 -- ---- 9: the arrays are none of a sheet, or there is too little room
 

@@ -4,7 +4,7 @@ use Prim.Native.Nat.{ℕ, zero, suc, _+_, _-_, _*_, _%_, _≤_, _<_}
 use mathlib.Core.Path.{_≡_}
 use mathlib.Core.Bool.{Bool, not, cond, _&&_, _||_}
 use mathlib.Core.List.{List, [], _∷_, _++_}
-use lib.Dec.{eqb, ltb}
+use lib.Dec.{eqb, leb, ltb}
 use lib.ListN.{length, getD, take, drop}
 use lib.Seq.{sets, slice}
 use Rattle.limits.specs.Limits.{mostStatements, mostDefinitions, textBytes, faultBytes}
@@ -13,9 +13,9 @@ use Rattle.laws.specs.Counts.{has}
 use Rattle.sheet.specs.Sheet.{Fault, faultList}
 use Rattle.model.specs.Definitions.{placeIn}
 use Rattle.model.specs.Faults.{again, faultIf}
-use Rattle.model.specs.Plan.{placeAt, Shaped, ownSlots, ownUses}
+use Rattle.model.specs.Plan.{ownSlots, ownUses}
 use Rattle.model.specs.declared.names.Walk.{Walk}
-use Rattle.model.specs.Places.{defines, asks, begins, ends, definedAt, keysIn, placesIn, resolved, homeOf}
+use Rattle.model.specs.Places.{defines, asks, begins, ends, inStatement, definedAt, keysIn, placesIn, resolved, homeOf}
 use Rattle.model.specs.Places.{equationRows, assignedSlots, usedIn, startsFrom}
 
 -- ---- rows that are written
@@ -36,7 +36,7 @@ pub record Reported (fs : List Fault) (c r : ℕ) (list list′ : List ℕ) : Ty
 pub record Rises (bounds : List ℕ) (n : ℕ) : Type 0 where
   pub rise : (j : ℕ) → j < n → begins bounds j ≤ ends bounds j
 
--- the statements follow each other from draft 0 to the last, there is room for all that they use, and they have the form of statements
+-- the statements follow each other from draft 0 to the last, and there is room for all that they use
 pub record Sound (lines bounds kinds used : List ℕ) : Type 0 where
   pub few : length lines ≤ mostStatements
   pub small : length kinds ≤ textBytes
@@ -44,15 +44,14 @@ pub record Sound (lines bounds kinds used : List ℕ) : Type 0 where
   pub rises : Rises bounds (length lines)
   pub first : begins bounds 0 ≡ 0
   pub whole : begins bounds (length lines) ≡ length kinds
-  pub shaped : Shaped bounds kinds (length lines)
 
--- n statements follow each other from draft 0 to the last, and have the form of statements
+-- n statements follow each other from draft 0 to the last
 pub record Statements (bounds kinds : List ℕ) (n : ℕ) : Type 0 where
   pub few : n ≤ mostStatements
+  pub small : length kinds ≤ textBytes
   pub rises : Rises bounds n
   pub first : begins bounds 0 ≡ 0
   pub whole : begins bounds n ≡ length kinds
-  pub shaped : Shaped bounds kinds n
 
 -- an array holds a row of n numbers at its front
 pub record Holds (array : List ℕ) (n : ℕ) (row : List ℕ) : Type 0 where
@@ -79,23 +78,40 @@ pub record Keyed (lines bounds kinds args used keys places : List ℕ) (n : ℕ)
   pub named : keys ≡ keysIn kinds args
   pub placed : Holds places n (placesIn kinds)
 
--- a draft of a kind noted as a definition, if it is one
+-- ---- definitions noted behind d others: their keys and their places
+
+-- a draft of a kind, if it is one
 pub record Noted (kind key place d r : ℕ) (keys keys′ places places′ : List ℕ) : Type 0 where
   pub named : Put (onlyIf (defines kind) key) d r keys keys′
   pub placed : Put (onlyIf (defines kind) place) d r places places′
 
--- the k drafts from place i on noted so
+-- place i, if it defines a name
+abbrev pub placeAt : List ℕ → ℕ → List ℕ
+placeAt kinds i = onlyIf (defines (getD kinds i 0)) i
+
+-- those of the k drafts from place i on
 pub record NotedAll (kinds args : List ℕ) (k i d r : ℕ) (keys keys′ places places′ : List ℕ) : Type 0 where
   pub named : Put (gather (definedAt kinds args) k i) d r keys keys′
   pub placed : Put (gather (placeAt kinds) k i) d r places places′
 
--- statement j is one of n that have the form of statements, and d definitions stand before it
-pub record Next (bounds kinds : List ℕ) (j d : ℕ) : Type 0 where
-  pub n : ℕ
-  pub few : n ≤ mostStatements
-  pub inside : j < n
-  pub shaped : Shaped bounds kinds n
-  pub before : d ≤ begins bounds j
+-- the one place of statement j that is looked at where it does not begin with a constant: its first, if that is an initial, else its last
+abbrev pub spotOf : List ℕ → List ℕ → ℕ → ℕ
+spotOf bounds kinds j = cond (eqb (getD kinds (begins bounds j) 0) 2) (begins bounds j) (ends bounds j - 1)
+
+-- what f gives at the places of statement j that are looked at: all of them, where it begins with a constant
+abbrev pub looked : {A : Type 0} → List ℕ → List ℕ → (ℕ → List A) → ℕ → List A
+looked bounds kinds f j =
+    cond (leb (ends bounds j) (begins bounds j)) []
+    (cond (eqb (getD kinds (begins bounds j) 0) 1) (inStatement bounds f j) (f (spotOf bounds kinds j)))
+
+-- those at such places of statement j, and of n statements
+pub record NotedIn (bounds kinds args : List ℕ) (j d r : ℕ) (keys keys′ places places′ : List ℕ) : Type 0 where
+  pub named : Put (looked bounds kinds (definedAt kinds args) j) d r keys keys′
+  pub placed : Put (looked bounds kinds (placeAt kinds) j) d r places places′
+
+pub record NotedBy (bounds kinds args : List ℕ) (n r : ℕ) (keys keys′ places places′ : List ℕ) : Type 0 where
+  pub named : Put (gather (looked bounds kinds (definedAt kinds args)) n 0) 0 r keys keys′
+  pub placed : Put (gather (looked bounds kinds (placeAt kinds)) n 0) 0 r places places′
 
 -- ---- a name is found by hint and links: the hint of a remainder leads to the first key that has it, the link of a key to the next that
 -- has the same
@@ -185,10 +201,10 @@ pub record Resolving (keys kinds places args₀ : List ℕ) (flawed : Bool) (i :
   pub left : (flawed || anyIn (flawedAt places kinds (resolved keys kinds args₀)) (length kinds - i) i)
       ≡ anyIn (flawedAt places kinds (resolved keys kinds args₀)) (length kinds) 0
 
--- and what they use is listed
-pub record Linking (keys kinds places owners args₀ used₀ : List ℕ) (i : ℕ) (n : Walk) (args used : List ℕ) : Type 0 where
+-- and what those of them from a place on use is listed behind w numbers
+pub record Linking (keys kinds places owners args₀ used₀ : List ℕ) (from w i : ℕ) (n : Walk) (args used : List ℕ) : Type 0 where
   pub resolving : Resolving keys kinds places args₀ (n .flawed) i args
-  pub uses : Put (gather (usedFrom owners kinds (resolved keys kinds args₀)) i 0) 0 (n .count) used₀ used
+  pub uses : Put (gather (usedFrom owners kinds (resolved keys kinds args₀)) (i - from) from) w (n .count) used₀ used
 
 -- what going over the drafts from a place on, before an end, asks; c numbers are listed
 pub record Walked (keys kinds args : List ℕ) (from end c : ℕ) : Type 0 where

@@ -1,6 +1,5 @@
 // The model of a sheet: what its statements define, the faults 21 to 24, and the order of its equations.
-ghost use lib.ListN.{length};
-ghost use Rattle.model.specs.Plan.{lent, Plans, Shaped};
+ghost use Rattle.model.specs.Plan.{lent, Plans};
 
 pub mod answer;
 mod collect;
@@ -30,7 +29,6 @@ pub fn plan(
     rows: &mut [u16],
     order: &mut [u16],
 ) -> Plan
-    requires { ⌜ Shaped (now bounds) (now kinds) (length (now lines)) ⌝ }
     ensures { λ r. ⌜ Plans (now (lines .entry)) (now (bounds .entry)) (now (kinds .entry)) (now (args .entry)) (now (used .entry))
         (now (faults .entry)) (lent (now (places .entry)) (now (rows .entry)) (now (order .entry))) r (now (args .exit)) (now (used .exit))
         (now (faults .exit)) (lent (now (places .exit)) (now (rows .exit)) (now (order .exit))) ⌝ }

@@ -1,6 +1,6 @@
 // Names resolved to slots, and the faults 22 and 23.
 ghost use mathlib.Core.Path.{_≡_};
-ghost use mathlib.Core.Bool.{not, _&&_};
+ghost use mathlib.Core.Bool.{not, cond, _&&_};
 ghost use mathlib.Core.List.{List};
 ghost use Prim.Native.Nat.{ℕ, _-_, _≤_};
 ghost use lib.Dec.{eqb, ltb};
@@ -8,7 +8,7 @@ ghost use lib.ListN.{length, getD};
 ghost use Rattle.limits.specs.Limits.{mostStatements};
 ghost use Rattle.laws.specs.Places.{anyIn};
 ghost use Rattle.model.specs.Places.{isNamed, asks, homeOf, undefinedAt, unfitAt, nameless};
-ghost use Rattle.model.specs.Working.{Reported, Hinted, flawedBy, Walked, Linking, Linkable, Linked, flawOf};
+ghost use Rattle.model.specs.Working.{Reported, Hinted, flawedBy, Walked, Resolving, Linking, Linkable, Linked, flawOf};
 use super::collect::is_defining;
 use super::equations::is_equation;
 use super::equations::put_if;
@@ -100,11 +100,10 @@ fn resolve_in(
     used: &mut [u16],
 ) -> Walk
     requires { ⌜ Hinted (now keys) (now hints) (now links) × Walked (now keys) (now kinds) (now args) from end (walk .count) ⌝ }
-    ensures { λ r. ⌜ (r .count ≤ end) × ((args₀ used₀ : List ℕ)
-        → Linking (now (keys .entry)) (now (kinds .entry)) (now (places .entry)) (now (owners .entry)) args₀ used₀ from walk
-        (now (args .entry)) (now (used .entry))
-        → Linking (now (keys .entry)) (now (kinds .entry)) (now (places .entry)) (now (owners .entry)) args₀ used₀ end r
-        (now (args .exit)) (now (used .exit))) ⌝ }
+    ensures { λ r. ⌜ (r .count ≤ end) × ((args₀ : List ℕ)
+        → Resolving (now (keys .entry)) (now (kinds .entry)) (now (places .entry)) args₀ (walk .flawed) from (now (args .entry))
+        → Linking (now (keys .entry)) (now (kinds .entry)) (now (places .entry)) (now (owners .entry)) args₀ (now (used .entry))
+        from (walk .count) end r (now (args .exit)) (now (used .exit))) ⌝ }
 {
     let mut w = walk.count;
     let mut flawed = walk.flawed;
@@ -122,6 +121,13 @@ fn resolve_in(
         i += 1;
     }
     Walk { count: w, flawed }
+}
+
+// How many owners are looked at in a statement: all in an equation, else none.
+fn all_or_none(equation: bool, n: usize) -> usize
+    ensures { λ r. ⌜ (r ≡ cond equation n 0) × (r ≤ n) ⌝ }
+{
+    if equation { n } else { 0 }
 }
 
 // Resolves the names of all drafts. What all equations use is stored, one after the other, and where each begins; how much that is, and
@@ -151,15 +157,17 @@ pub(crate) fn resolve(
     let mut r: usize = 0;
     let mut j = 0;
     while j < lines.len() {
+        let equation = is_equation(bounds, kinds, j);
         let w = walk.count;
-        r = put_if(is_equation(bounds, kinds, j), w, &mut *starts, r);
+        r = put_if(equation, w, &mut *starts, r);
+        let known = all_or_none(equation, owners.len());
         walk = resolve_in(
             kinds,
             keys,
             hints,
             links,
             places,
-            owners,
+            &owners[..known],
             short_at(bounds, j),
             short_at(bounds, j + 1),
             walk,

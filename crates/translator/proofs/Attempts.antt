@@ -1,15 +1,15 @@
 -- One room after another: where the drafts had no room, what was written to the list does no harm to the next attempt.
-use Prim.Native.Nat.{ℕ, suc, _+_, _≤_, _<_}
-use mathlib.Core.Path.{_≡_, refl, sym, ap, _∙_}
+use Prim.Native.Nat.{ℕ, _≤_, _<_}
+use mathlib.Core.Path.{_≡_, refl, ap, _∙_}
 use mathlib.Core.List.{List, [], _∷_, _++_}
 use native.Mathlib.Omega.{arith}
 use borrow.Author.Tests.{le-ltb, ne-eqb}
-use lib.ListN.{length, set}
-use lib.Seq.{sets, set-set, set-comm, length-sets}
+use lib.ListN.{length, length-append}
+use lib.Seq.{sets, length-sets}
 use Rattle.limits.specs.Limits.{mostStatements}
 use Rattle.laws.specs.Lists.{concat-map}
 use Rattle.laws.proofs.Lists.{concat-append}
-use Rattle.laws.proofs.Sets.{sets-append}
+use Rattle.laws.proofs.Sets.{sets-over}
 use Rattle.sheet.specs.Sheet.{Sheet, Fault, statementFaults, faultEntry, faultList}
 use Rattle.sheet.specs.Reader.{sheetOf}
 use Rattle.translator.specs.declared.Verdict.{Verdict}
@@ -20,34 +20,13 @@ use Rattle.translator.specs.Contract.{reply, replyOf}
 use Rattle.translator.specs.Verdict.{Verdict as Decision, ifFaults, judged}
 use Rattle.translator.specs.Working.{Stopped, Taken, Roomy, Judges, Untold, TriesOf, Tries, roomPlaces}
 
--- ---- the list is written once more
-module _ {A : Type 0} where
-  -- a value before others may be written behind them
-  set-before : (l : List A) (i j : ℕ) (a : A) (vs : List A) → i < j → set (sets l j vs) i a ≡ sets (set l i a) j vs
-  set-before l i j a [] h = refl
-  set-before l i j a (v ∷ vs) h =
-      set-before (set l j v) i (suc j) a vs (omega arith)
-      ∙ ap (λ (m : List A). sets m (suc j) vs) (set-comm l j i v a λ e. absurd (omega arith))
-
-  -- what is written twice is written
-  sets-twice : (l : List A) (i : ℕ) (vs : List A) → sets (sets l i vs) i vs ≡ sets l i vs
-  sets-twice l i [] = refl
-  sets-twice l i (a ∷ vs) =
-      ap (λ (m : List A). sets m (suc i) vs)
-      (set-before (set l i a) i (suc i) a vs (omega arith) ∙ ap (λ (m : List A). sets m (suc i) vs) (set-set l i a a))
-      ∙ sets-twice (set l i a) (suc i) vs
-
-  -- over the front of a row the whole row may be written
-  sets-again : (l : List A) (i : ℕ) (x y : List A) → sets (sets l i x) i (x ++ y) ≡ sets l i (x ++ y)
-  sets-again l i x y =
-      sets-append (sets l i x) i x y
-      ∙ ap (λ (m : List A). sets m (i + length x) y) (sets-twice l i x)
-      ∙ sym (sets-append l i x y)
-
--- so may all faults over the first
+-- ---- the list is written once more: all faults over the first
 list-again : (l : List ℕ) (x y : List Fault) → sets (sets l 0 (faultList x)) 0 (faultList (x ++ y)) ≡ sets l 0 (faultList (x ++ y))
 unfolding faultList
-list-again l x y = rw (concat-append faultEntry x y) (sets-again l 0 (concat-map faultEntry x) (concat-map faultEntry y))
+list-again l x y =
+    let a = concat-map faultEntry x in
+    let b = concat-map faultEntry y in
+    rw (concat-append faultEntry x y) (sets-over l 0 a (a ++ b) (omega (arith, length-append a b)))
 
 -- where faults stand, all are listed; where none stands, none was written
 faults-again : (f p : List ℕ) (x y : List Fault) (next : Decision)

@@ -21,7 +21,7 @@ define-requires c κs =
     let a = S k .args in
     let told = sym (k .fits2 .ensures) ∙ test .if1 .taken in
     fit-sound (a .lines .now) (a .bounds .now) (a .kinds .now) (a .used .now) (a .rows .now) (a .order .now) (length (a .args .now)) (length (a .faults .now))
-    (length (a .places .now)) (S k .pre) told
+    (length (a .places .now)) told
 
 same-length : tie.Need-same-length
 same-length c = search needs

@@ -1,62 +1,57 @@
--- The loop goes over the statements.
-use Prim.Native.Nat.{_-_}
+-- What was looked at is all that there is, or all drafts are gone over.
+use mathlib.Core.Path.{_∙_}
 use borrow.Author.Needs.{needs}
-use Rattle.model.proofs.Collecting.{Telling, telling-first, telling-next, telling-last}
+use Rattle.model.proofs.Collecting.{collected-all, collected-again}
 use Rattle.model.proofs.collect.collect.Statement.{statement}
 use Rattle.model.proofs.collect.collect.Tie as tie
 
-abbrev Inv-loop : tie.InvT-loop
-Inv-loop n bounds kinds args keys₀ places₀ d₀ j₀ keys places d j = Telling n bounds kinds args keys₀ places₀ d j keys places
+-- where the function begins, from where the statements are noted
+abbrev S : tie.After-note-statements → tie.Start
+S k = k .before .before .before .before .before .before .before .before
 
-abbrev μ-loop : tie.MeasureT-loop
-μ-loop n bounds kinds args keys₀ places₀ d₀ j₀ keys places d j = n - j
+note-statements-requires : tie.Need-note-statements-requires
+note-statements-requires c κs = search needs
 
-loop-holds : tie.Need-loop-holds Inv-loop μ-loop
-loop-holds c =
-    let begin = c .before .before .before .before .before in
-    let s = begin .args in
-    telling-first (begin .pre) (s .args .now) (s .keys .now) (s .places .now)
+count-definitions-requires : tie.Need-count-definitions-requires
+count-definitions-requires c κs = search needs
 
-note-statement-requires : tie.Need-note-statement-requires Inv-loop μ-loop
-note-statement-requires c κs =
-    let test = c .before .before in
-    let t = test .before .before .before .before .before .before .before .pre in
-    let v = test .before .loop .inv in
-    record { n = _; few = t .few; inside = test .loop-test .taken; shaped = t .shaped; before = v .told .few }
+same-length : tie.Need-same-length
+same-length c = search needs
 
-add-j : tie.Need-add-j Inv-loop μ-loop
-add-j c = search needs
+same-length-2 : tie.Need-same-length-2
+same-length-2 c = search needs
 
-loop-less : tie.Need-loop-less Inv-loop μ-loop
-loop-less c = search needs
+returns : tie.Need-returns
+returns c =
+    let count = c .before in
+    let k = count .before .before .before .before .before in
+    collected-all (S k .pre) (k .note-statements .ensures) (c .if1 .taken ∙ count .count-definitions .ensures)
 
-loop-again : tie.Need-loop-again Inv-loop μ-loop
-loop-again c =
-    let noting = c .before .before .before .before in
-    let test = noting .before .before .before in
-    let loop = test .before in
-    telling-next (loop .before .before .before .before .before .before .pre) (loop .loop .inv) (test .loop-test .taken) (noting .note-statement .ensures)
+note-run-requires : tie.Need-note-run-requires
+note-run-requires c κs = search needs
 
-same-length : tie.Need-same-length Inv-loop μ-loop
-same-length c = c .before .loop .inv .told .named .long
+same-length-3 : tie.Need-same-length-3
+same-length-3 c = search needs
 
-same-length-2 : tie.Need-same-length-2 Inv-loop μ-loop
-same-length-2 c = c .before .loop .inv .told .placed .long
+same-length-4 : tie.Need-same-length-4
+same-length-4 c = search needs
 
-returns : tie.Need-returns Inv-loop μ-loop
-returns c = telling-last (c .before .before .before .before .before .before .before .pre) (c .before .loop .inv) (c .loop-test .left)
+returns-2 : tie.Need-returns-2
+returns-2 c =
+    let run = c .before .before .before .before in
+    let k = run .before .before .before .before .before .before .before .before .before in
+    collected-again (S k .pre) (k .note-statements .ensures) (run .note-run .ensures)
 
 pub collect-spec : {M : Type 1} → statement M
 collect-spec =
     tie.close
     (tie.spec
-    Inv-loop
-    μ-loop
-    loop-holds
-    note-statement-requires
-    add-j
-    loop-less
-    loop-again
+    note-statements-requires
+    count-definitions-requires
     same-length
     same-length-2
-    returns)
+    returns
+    note-run-requires
+    same-length-3
+    same-length-4
+    returns-2)

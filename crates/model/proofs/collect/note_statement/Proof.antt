@@ -1,6 +1,7 @@
 -- No draft, constants, or the one place that may define a name.
+use mathlib.Core.Path.{refl}
 use borrow.Author.Needs.{needs}
-use Rattle.model.proofs.Collecting.{noted-none, statement-lone}
+use Rattle.model.proofs.Collecting.{noted-none, noted-all, noted-one}
 use Rattle.model.proofs.collect.note_statement.Statement.{statement}
 use Rattle.model.proofs.collect.note_statement.Tie as tie
 
@@ -16,10 +17,7 @@ short-at-requires-2 c κs = search needs
 returns : tie.Need-returns
 returns c =
     let end = c .before in
-    let from = end .before in
-    let s = from .before .before .before .before .before .before .args in
-    rw (← (from .short-at .ensures .0), ← (end .short-at2 .ensures .0))
-    (noted-none (s .kinds .now) (s .args .now) _ _ (s .d) (s .keys .now) (s .places .now) (c .if1 .taken))
+    noted-none (end .before .short-at .ensures .0) (end .short-at2 .ensures .0) (c .if1 .taken) refl refl refl
 
 byte-at-requires : tie.Need-byte-at-requires
 byte-at-requires c κs = search needs
@@ -36,10 +34,11 @@ same-length-2 c = search needs
 returns-2 : tie.Need-returns-2
 returns-2 c =
     let run = c .before .before .before .before in
-    let test = run .before .before .before .before .before in
+    let one = run .before .before .before in
+    let test = one .before .before in
     let end = test .before in
-    let from = end .before in
-    rw (← (from .short-at .ensures .0), ← (end .short-at2 .ensures .0)) (run .note-run .ensures)
+    noted-all (end .before .short-at .ensures .0) (end .short-at2 .ensures .0) (test .if1 .left) (one .before .byte-at .ensures) (one .if2 .taken)
+    (run .note-run .ensures)
 
 spot-of-requires : tie.Need-spot-of-requires
 spot-of-requires c κs = search needs
@@ -67,9 +66,7 @@ returns-3 c =
     let other = spot .before in
     let test = other .before .before in
     let end = test .before in
-    let from = end .before in
-    let s = from .before .before .before .before .before .before in
-    statement-lone (s .pre) (from .short-at .ensures .0) (end .short-at2 .ensures .0) (test .if1 .left) (other .before .byte-at .ensures) (other .if2 .left)
+    noted-one (end .before .short-at .ensures .0) (end .short-at2 .ensures .0) (test .if1 .left) (other .before .byte-at .ensures) (other .if2 .left)
     (spot .spot-of .ensures .0) (word .before .byte-at2 .ensures) (word .word-at .ensures) (noting .note .ensures)
 
 pub note-statement-spec : {M : Type 1} → statement M

@@ -4,13 +4,14 @@ use mathlib.Core.Path.{refl}
 use native.Mathlib.Omega.{arith}
 use borrow.Author.Needs.{needs}
 use lib.ListN.{length}
+use Rattle.model.proofs.Staging.{prefix-length}
 use Rattle.model.proofs.Linking.{Stating, stating-first, stating-walked, stating-few, stating-next, stating-last}
 use Rattle.model.proofs.names.resolve.Statement.{statement}
 use Rattle.model.proofs.names.resolve.Tie as tie
 
 abbrev Inv-loop : tie.InvT-loop
 Inv-loop lines bounds kinds keys hints links places owners args₀ starts₀ used₀ walk₀ r₀ j₀ args starts used walk r j =
-    Stating lines bounds kinds keys places owners args₀ starts₀ used₀ walk r j args starts used
+    Stating lines bounds kinds keys places args₀ starts₀ used₀ walk r j args starts used
 
 abbrev μ-loop : tie.MeasureT-loop
 μ-loop lines bounds kinds keys hints links places owners args₀ starts₀ used₀ walk₀ r₀ j₀ args starts used walk r j = length lines - j
@@ -33,6 +34,14 @@ put-if-requires c κs =
     let v = at .loop .inv in
     (stating-few (s .args .places .now) (s .args .starts .now) (s .pre .1) v, omega (arith, v .few, v .within, s .pre .1 .sound .few))
 
+all-or-none-requires : tie.Need-all-or-none-requires Inv-loop μ-loop
+all-or-none-requires c κs = search needs
+
+slice-aggregate-resolve-in : tie.Need-slice-aggregate-resolve-in Inv-loop μ-loop
+slice-aggregate-resolve-in c =
+    let known = c .before .all-or-none in
+    prefix-length (known .result) _ (known .ensures .1)
+
 short-at-requires : tie.Need-short-at-requires Inv-loop μ-loop
 short-at-requires c κs = search needs
 
@@ -45,7 +54,8 @@ short-at-requires-2 c κs = search needs
 resolve-in-requires : tie.Need-resolve-in-requires Inv-loop μ-loop
 resolve-in-requires c κs =
     let end = c .before .before in
-    let test = end .before .before .before .before .before .before .before in
+    let known = end .before .before .before in
+    let test = known .before .before .before .before .before .before in
     let at = test .before in
     let s = at .before .before .before .before .before .before .before .before .before .before .before .before in (
       s .pre .0,
@@ -55,7 +65,7 @@ resolve-in-requires c κs =
 
 add-j : tie.Need-add-j Inv-loop μ-loop
 add-j c =
-    let put = c .before .before .before .before .before .before .before .before .before .before .before in
+    let put = c .before .before .before .before .before .before .before .before .before .before .before .before .before in
     let test = put .before .before .before in
     let s = test .before .before .before .before .before .before .before .before .before .before .before .before .before in
     omega (arith, test .loop-test .taken, s .pre .1 .sound .few)
@@ -67,14 +77,15 @@ loop-again : tie.Need-loop-again Inv-loop μ-loop
 loop-again c =
     let done = c .before .before .before .before in
     let end = done .before .before .before in
-    let put = end .before .before .before .before in
+    let known = end .before .before .before in
+    let put = known .before .before .before in
     let equation = put .before .before in
     let test = equation .before in
     let at = test .before in
     let s = at .before .before .before .before .before .before .before .before .before .before .before .before in
     stating-next (s .args .places .now) (s .args .starts .now) (s .pre .1) (at .loop .inv) (test .loop-test .taken) (equation .is-equation .ensures) refl
-    (put .put-if .ensures) (end .before .short-at .ensures .0) (end .short-at2 .ensures .0) (search needs) (done .resolve-in .ensures .0)
-    (done .resolve-in .ensures .1)
+    (put .put-if .ensures) (known .all-or-none .ensures .0) (end .before .short-at .ensures .0) (end .short-at2 .ensures .0) (search needs)
+    (done .resolve-in .ensures .0) (done .resolve-in .ensures .1)
 
 put-short-requires : tie.Need-put-short-requires Inv-loop μ-loop
 put-short-requires c κs =
@@ -83,7 +94,7 @@ put-short-requires c κs =
     stating-few (s .args .places .now) (s .args .starts .now) (s .pre .1) (at .loop .inv)
 
 same-length : tie.Need-same-length Inv-loop μ-loop
-same-length c = c .before .before .before .before .before .loop .inv .linking .resolving .long
+same-length c = c .before .before .before .before .before .loop .inv .resolving .long
 
 same-length-2 : tie.Need-same-length-2 Inv-loop μ-loop
 same-length-2 c = search needs
@@ -107,6 +118,8 @@ resolve-spec =
     loop-holds
     is-equation-requires
     put-if-requires
+    all-or-none-requires
+    slice-aggregate-resolve-in
     short-at-requires
     add-short-at
     short-at-requires-2

@@ -7,7 +7,7 @@ use borrow.Author.Needs.{needs}
 use lib.ListN.{getD}
 use Rattle.model.proofs.Finding.{place-le}
 use Rattle.model.proofs.Naming.{slot-named}
-use Rattle.model.proofs.Linking.{walk, Walking, walking-flawed, walking-clear, walking-other, walking-last}
+use Rattle.model.proofs.Linking.{walk, Walking, walking-first, walking-flawed, walking-clear, walking-other, walking-last}
 use Rattle.model.proofs.names.resolve_in.Statement.{statement}
 use Rattle.model.proofs.names.resolve_in.Tie as tie
 
@@ -19,7 +19,9 @@ abbrev μ-loop : tie.MeasureT-loop
 μ-loop kinds keys hints links places owners from end args₀ used₀ w₀ flawed₀ i₀ args used w flawed i = end - i
 
 loop-holds : tie.Need-loop-holds Inv-loop μ-loop
-loop-holds c = search needs
+loop-holds c =
+    let s = c .before .before .before .before .before .before .before .before in
+    walking-first (s .args .places .now) (s .args .owners .now) (s .args .used .now) (s .args .walk .flawed) (s .pre .1)
 
 shared-slice-read-kind : tie.Need-shared-slice-read-kind Inv-loop μ-loop
 shared-slice-read-kind c = search needs

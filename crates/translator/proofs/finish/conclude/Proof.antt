@@ -1,7 +1,6 @@
 -- The plan is made, and by its number the answer is 6, or 7, or what the writing gives.
 use mathlib.Core.Path.{_≡_}
 use borrow.Author.Needs.{needs}
-use Rattle.model.proofs.Meant.{shaped-meant}
 use Rattle.translator.proofs.Writing.{says-six, says-seven, planned-so, says-rest}
 use Rattle.translator.proofs.finish.conclude.Statement.{statement}
 use Rattle.translator.proofs.finish.conclude.Tie as tie
@@ -44,10 +43,7 @@ slice-aggregate-plan-3 : tie.Need-slice-aggregate-plan-3
 slice-aggregate-plan-3 c = search needs
 
 plan-requires : tie.Need-plan-requires
-plan-requires c κs =
-    let a = c .before .before .before .before .before .before .before in
-    let s = a .before .before .before .before .before .before in
-    shaped-meant (s .pre .statements) _ _ _ _ (s .pre .laid)
+plan-requires c κs = search needs
 
 same-length : tie.Need-same-length
 same-length c = search needs
