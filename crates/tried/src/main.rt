@@ -1,5 +1,6 @@
 // Translates the texts that no table proves: the other rows of the paper's table, the slips to shut out, and texts at each limit.
-// Verdict, faults, records and untouched bytes are compared with what the paper says.
+// Verdict, faults, records and untouched bytes are compared with what the paper says. Then plans arrays that no text gives.
+mod arrays;
 mod limits_met;
 mod rows;
 mod slips;
@@ -11,5 +12,6 @@ fn main() {
     t = rows::all(t);
     t = slips::all(t);
     t = limits_met::all(t);
+    t = arrays::all(t);
     tally::finish(t);
 }

@@ -1,0 +1,135 @@
+// Plans arrays that are those of no text, as model/specs/Plan says.
+use limits::STATEMENTS;
+use model::answer::Plan;
+use tally::Tally;
+
+// The number at a place, 0 past the end.
+fn word(s: &[u64], i: usize) -> usize {
+    if i < s.len() { s[i] as usize } else { 0 }
+}
+
+// The same of numbers of two bytes.
+fn short(s: &[u16], i: usize) -> usize {
+    if i < s.len() { s[i] as usize } else { 0 }
+}
+
+// The first three numbers are these.
+fn words(t0: Tally, s: &[u64], a: usize, b: usize, c: usize) -> Tally {
+    let mut t = tally::number(t0, word(s, 0), a);
+    t = tally::number(t, word(s, 1), b);
+    tally::number(t, word(s, 2), c)
+}
+
+// The same of numbers of two bytes.
+fn shorts(t0: Tally, s: &[u16], a: usize, b: usize, c: usize) -> Tally {
+    let mut t = tally::number(t0, short(s, 0), a);
+    t = tally::number(t, short(s, 1), b);
+    tally::number(t, short(s, 2), c)
+}
+
+// The plan has this number, and these counts of faults, definitions and equations.
+fn planned(
+    t0: Tally,
+    p: Plan,
+    number: usize,
+    faults: usize,
+    definitions: usize,
+    equations: usize,
+) -> Tally {
+    let mut t = tally::number(t0, p.number as usize, number);
+    t = tally::number(t, p.count, faults);
+    t = tally::number(t, p.definitions, definitions);
+    tally::number(t, p.equations, equations)
+}
+
+// A constant amid an equation is a definition like any other.
+fn amid(t0: Tally) -> Tally {
+    let lines = [1u16; 1];
+    let bounds = [0u16, 3];
+    let kinds = [3u8, 1, 13];
+    let mut args = [7u64, 5, 6];
+    let mut used = [170u16; 3];
+    let mut faults = [170u8; 4];
+    let mut places = [170u16; STATEMENTS];
+    let mut rows = [170u16; STATEMENTS];
+    let mut order = [170u16; STATEMENTS];
+    let p = model::plan(
+        &lines,
+        &bounds,
+        &kinds,
+        &mut args,
+        &mut used,
+        &mut faults,
+        &mut places,
+        &mut rows,
+        &mut order,
+    );
+    let mut t = planned(t0, p, 0, 0, 2, 1);
+    t = words(t, &args, 7, 1, 2);
+    t = shorts(t, &places, 1, 2, 170);
+    t = shorts(t, &rows, 0, 170, 170);
+    shorts(t, &order, 0, 170, 170)
+}
+
+// So it is the first of two of one name: the statement has fault 21.
+fn amid_twice(t0: Tally) -> Tally {
+    let lines = [1u16; 1];
+    let bounds = [0u16, 3];
+    let kinds = [3u8, 1, 13];
+    let mut args = [7u64, 5, 5];
+    let mut used = [170u16; 3];
+    let mut faults = [170u8; 4];
+    let mut places = [170u16; STATEMENTS];
+    let mut rows = [170u16; STATEMENTS];
+    let mut order = [170u16; STATEMENTS];
+    let p = model::plan(
+        &lines,
+        &bounds,
+        &kinds,
+        &mut args,
+        &mut used,
+        &mut faults,
+        &mut places,
+        &mut rows,
+        &mut order,
+    );
+    let t = planned(t0, p, 7, 1, 0, 0);
+    tally::right(t, check::same(&faults, b"\x01\x00\x15\x00"))
+}
+
+// A name in the expression of a statement that is no equation is resolved, and is no use.
+fn unused(t0: Tally) -> Tally {
+    let lines = [1u16, 2];
+    let bounds = [0u16, 1, 3];
+    let kinds = [4u8, 3, 13];
+    let mut args = [6u64, 9, 6];
+    let mut used = [170u16; 3];
+    let mut faults = [170u8; 8];
+    let mut places = [170u16; STATEMENTS];
+    let mut rows = [170u16; STATEMENTS];
+    let mut order = [170u16; STATEMENTS];
+    let p = model::plan(
+        &lines,
+        &bounds,
+        &kinds,
+        &mut args,
+        &mut used,
+        &mut faults,
+        &mut places,
+        &mut rows,
+        &mut order,
+    );
+    let mut t = planned(t0, p, 0, 0, 1, 1);
+    t = words(t, &args, 1, 9, 1);
+    t = shorts(t, &used, 170, 170, 170);
+    t = shorts(t, &places, 2, 170, 170);
+    t = shorts(t, &rows, 1, 170, 170);
+    shorts(t, &order, 0, 170, 170)
+}
+
+// All of these.
+pub fn all(t0: Tally) -> Tally {
+    let mut t = amid(t0);
+    t = amid_twice(t);
+    unused(t)
+}
