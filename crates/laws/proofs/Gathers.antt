@@ -3,13 +3,13 @@ use Prim.Native.Nat.{ℕ, zero, suc, _+_, _-_, _≤_, _<_}
 use mathlib.Core.Path.{_≡_, refl, sym, ap, ap₂, _∙_}
 use mathlib.Core.Bool.{Bool, true, false, _||_}
 use mathlib.Core.Logic.{⊎-elim}
-use mathlib.Core.List.{List, [], _∷_, _++_, append-assoc}
+use mathlib.Core.List.{List, [], _++_, append-assoc, append-nil}
 use native.Mathlib.Nat.{sub-zero}
 use native.Mathlib.Numerals.{add-one}
 use native.Mathlib.Omega.{arith}
 use lib.ListN.{length, length-append}
 use lib.Seq.{sets, length-sets}
-use Rattle.laws.specs.Places.{gather, anyIn, onlyIf}
+use Rattle.laws.specs.Places.{gather, anyIn}
 use Rattle.laws.proofs.Sets.{sets-append}
 use Rattle.laws.proofs.Tests.{not-both, eq-or-ne}
 
@@ -65,6 +65,15 @@ module _ {A : Type 0} (f : ℕ → List A) where
       let q : i + suc a ≡ suc i + a = omega arith in
       rw (p, q, gather-add a b (suc i), append-assoc (f i))
 
+  -- of the places from a on, one more
+  pub gather-more : (a i : ℕ) → a ≤ i → gather f ((i + 1) - a) a ≡ gather f (i - a) a ++ f i
+  unfolding gather
+  gather-more a i h =
+      let k = i - a in
+      let e : (i + 1) - a ≡ k + 1 = omega arith in
+      let z : a + k ≡ i = omega arith in
+      ap (λ (n : ℕ). gather f n a) e ∙ gather-add k 1 a ∙ ap (λ (r : List A). gather f k a ++ r) (append-nil (f (a + k)) ∙ ap f z)
+
   -- nothing, where each place gives nothing
   pub gather-none : (k i : ℕ) → ((j : ℕ) → i ≤ j → j < i + k → f j ≡ []) → gather f k i ≡ []
   unfolding gather
@@ -117,12 +126,6 @@ module _ {A : Type 0} {f : ℕ → List A} {n i w : ℕ} {buf₀ buf : List A} w
 
   pub whole-all : Writes f n 0 i 0 w buf₀ buf → n ≤ i → buf ≡ sets buf₀ 0 (gather f n 0)
   whole-all v h = writes-all v h ∙ ap (λ (k : ℕ). sets buf₀ 0 (gather f k 0)) (sub-zero n)
-
--- there is room for what place i gives, if there is for what all give
-pub writes-room : {A : Type 0} {f : ℕ → List A} {n a i w₀ w : ℕ} {buf₀ buf : List A} → Writes f n a i w₀ w buf₀ buf → i < n
-    → w₀ + length (gather f (n - a) a) ≤ length buf₀ → w + length (f i) ≤ length buf
-writes-room {f = f} {n = n} {i = i} v h m =
-    omega (arith, v .long, v .left, ap length (gather-step f n i h), length-append (f i) (gather f (n - (i + 1)) (i + 1)))
 
 -- one place further on
 pub gather-shift : {A : Type 0} (f : ℕ → List A) (k i : ℕ) → gather f k (suc i) ≡ gather (λ j. f (suc j)) k i

@@ -1,4 +1,5 @@
 pub mod Figures
+mod Puts
 mod Rooms
 mod Shorts
 mod Numbers

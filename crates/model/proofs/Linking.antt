@@ -2,7 +2,7 @@
 use Prim.Native.Nat.{ℕ, suc, _+_, _-_, _≤_, _<_}
 use mathlib.Core.Path.{_≡_, refl, sym, ap, ap₂, _∙_}
 use mathlib.Core.Bool.{Bool, true, false, cond}
-use mathlib.Core.List.{List, [], _∷_, _++_, append-nil}
+use mathlib.Core.List.{List, [], _∷_, _++_}
 use native.Mathlib.Omega.{arith}
 use lib.Dec.{eqb, ltb}
 use lib.ListN.{length, getD, set, take, length-append, length-set}
@@ -11,7 +11,7 @@ use Rattle.laws.specs.Places.{gather, onlyIf}
 use Rattle.laws.proofs.Tests.{cond-ind}
 use Rattle.laws.proofs.Bools.{or-false}
 use Rattle.laws.proofs.Sets.{sets-append}
-use Rattle.laws.proofs.Gathers.{gather-add, gather-none, gather-same}
+use Rattle.laws.proofs.Gathers.{gather-more, gather-none, gather-same}
 use Rattle.model.specs.Places.{defines, isNamed, resolvedAt, resolved, begins, ends, inStatement, isEquation, equationRows}
 use Rattle.model.specs.Places.{usedAt, usedIn, startsFrom}
 use Rattle.model.specs.Plan.{ownSlots}
@@ -34,15 +34,6 @@ put-append {x} {y} {w₀} {buf₀ = buf₀} p q =
 -- nothing is written
 put-none : (w : ℕ) (buf : List ℕ) → Put [] w w buf buf
 put-none w buf = record { behind = omega arith; content = refl }
-
--- of the places from a on, one more
-gather-more : {A : Type 0} (f : ℕ → List A) (a i : ℕ) → a ≤ i → gather f ((i + 1) - a) a ≡ gather f (i - a) a ++ f i
-unfolding gather
-gather-more f a i h =
-    let k = i - a in
-    let e : (i + 1) - a ≡ k + 1 = omega arith in
-    let z : a + k ≡ i = omega arith in
-    ap (λ (n : ℕ). gather f n a) e ∙ gather-add f k 1 a ∙ ap (λ (r : _). gather f k a ++ r) (append-nil (f (a + k)) ∙ ap f z)
 
 -- a draft uses at most one equation, and one that is no name uses none
 used-one : (owners : List ℕ) (kind slot : ℕ) → length (usedHere owners kind slot) ≤ 1

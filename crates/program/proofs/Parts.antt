@@ -1,18 +1,52 @@
 -- What the parts of the program are in each case that code tells apart.
 use Prim.Native.Nat.{ℕ, suc, _+_, _-_, _≤_, _<_}
 use mathlib.Core.Path.{_≡_, refl, sym, ap, _∙_}
-use mathlib.Core.Bool.{Bool, true, false, cond}
+use mathlib.Core.Bool.{Bool, true, false, cond, _&&_}
 use mathlib.Core.List.{List, [], _∷_, _++_}
 use native.Mathlib.Numerals.{add-one}
 use native.Mathlib.Omega.{arith}
 use borrow.Author.Tests.{le-leb, lt-leb, eq-eqb, ne-eqb}
+use lib.Dec.{eqb, leb}
 use lib.ListN.{length, getD, drop}
 use lib.Seq.{drop-cons}
 use Rattle.laws.specs.Counts.{once}
 use Rattle.laws.specs.Places.{gather}
+use Rattle.laws.proofs.Tests.{cond-ind}
 use Rattle.laws.proofs.Gathers.{gather-shift}
 use Rattle.model.specs.Places.{begins, ends}
-use Rattle.program.specs.Written.{fieldBytes, writes, recordCount, settingAt, reach, settingsOf, stepBytes, stepsOf, orderedSteps}
+use Rattle.program.specs.Written.{fieldBytes, writes, recordCount, valueAt, settingAt, reach, settingsOf, stepBytes, stepAt, stepsOf, orderedSteps}
+use Rattle.program.proofs.Puts.{Whole, whole-gather, length-record}
+
+-- ---- each part has whole records
+whole-record : (k s l v : ℕ) → Whole (fieldBytes k s l v)
+whole-record k s l v = omega (arith, length-record k s l v)
+
+pub whole-setting : (phase : ℕ) (places kinds slots : List ℕ) (line i : ℕ) → Whole (settingAt phase places kinds slots line i)
+whole-setting phase places kinds slots line i =
+    cond-ind Whole (eqb (getD kinds i 0) phase) _ [] (λ _. whole-record phase (getD slots i 0) line (valueAt places kinds slots i)) (λ _. omega arith)
+
+pub whole-settings : (phase : ℕ) (places lines bounds kinds slots : List ℕ) (j : ℕ) → Whole (settingsOf phase places lines bounds kinds slots j)
+whole-settings phase places lines bounds kinds slots j =
+    cond-ind Whole (eqb (getD kinds (begins bounds j) 0) phase) _ []
+    (λ _. whole-gather _ (whole-setting phase places kinds slots (getD lines j 0)) (reach phase (ends bounds j - begins bounds j)) (begins bounds j))
+    (λ _. omega arith)
+
+pub whole-all-settings : (phase : ℕ) (places lines bounds kinds slots : List ℕ)
+    → Whole (gather (settingsOf phase places lines bounds kinds slots) (length lines) 0)
+whole-all-settings phase places lines bounds kinds slots = whole-gather _ (whole-settings phase places lines bounds kinds slots) (length lines) 0
+
+whole-step : (k x line : ℕ) → Whole (stepBytes k x line)
+whole-step k x line =
+    cond-ind Whole (eqb k 3) _ _ (λ _. whole-record 3 0 line x)
+    (λ _. cond-ind Whole (eqb k 17) _ _ (λ _. whole-record 4 0 line 0)
+    (λ _. cond-ind Whole (leb 4 k && leb k 14) _ [] (λ _. whole-record k x line 0) (λ _. omega arith)))
+
+pub whole-step-at : (kinds slots : List ℕ) (line i : ℕ) → Whole (stepAt kinds slots line i)
+whole-step-at kinds slots line i = whole-step (getD kinds i 0) (getD slots i 0) line
+
+pub whole-steps : (lines bounds kinds slots : List ℕ) (j : ℕ) → Whole (stepsOf lines bounds kinds slots j)
+whole-steps lines bounds kinds slots j =
+    whole-gather _ (whole-step-at kinds slots (getD lines j 0)) (ends bounds j - begins bounds j) (begins bounds j)
 
 -- ---- the settings of a statement whose first draft is at place i
 module _ (phase : ℕ) (places lines bounds kinds slots : List ℕ) (j : ℕ) {i : ℕ} (first : i ≡ begins bounds j) where

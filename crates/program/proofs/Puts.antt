@@ -1,52 +1,97 @@
--- Laws of what is put: nothing, one part behind another, a record, what a loop writes.
-use Prim.Native.Nat.{ℕ, _+_, _-_, _*_, _/_, _%_, _≤_, _<_}
-use mathlib.Core.Path.{_≡_, refl, sym, ap, _∙_}
+-- Laws of what is written where there is room: nothing, one part behind another, a record, what a loop writes.
+use Prim.Native.Nat.{ℕ, zero, suc, _+_, _-_, _*_, _/_, _%_, _≤_, _<_}
+use mathlib.Core.Path.{_≡_, refl, sym, ap, ap₂, _∙_}
+use mathlib.Core.Logic.{⊎-elim}
 use mathlib.Core.List.{List, [], _∷_, _++_, append-assoc, append-nil}
 use native.Mathlib.Nat.{sub-zero}
 use native.Mathlib.Omega.{arith}
 use borrow.Rule.Slice.PartMut.{mid-len, post-is}
-use lib.ListN.{length, take, drop, length-append, drop-of-length-le}
-use lib.Seq.{sets, length-sets, sets-eq}
+use lib.ListN.{length, take, drop, length-append, length-take, drop-of-length-le}
+use lib.Seq.{sets, length-sets, sets-eq, length-take-le, take-all, take-nil, take-append-le, take-append-add}
 use Rattle.limits.specs.Limits.{recordBytes}
 use Rattle.laws.specs.Places.{gather}
+use Rattle.laws.proofs.Tests.{lt-or-ge}
 use Rattle.laws.proofs.Sets.{sets-append}
-use Rattle.laws.proofs.Gathers.{Writes, writes-next, writes-count, writes-all, writes-room}
+use Rattle.laws.proofs.Gathers.{gather-done, gather-more}
 use Rattle.bits.specs.Low.{lowBytes}
 use Rattle.bits.proofs.Lows.{length-low}
-use Rattle.laws.specs.Put.{Put}
-use Rattle.program.specs.Written.{fieldBytes, headOf}
+use Rattle.program.specs.Written.{fieldBytes, headOf, fitting, Fills}
+
+-- ---- rows of whole records
+abbrev pub Whole : List ℕ → Type 0
+Whole x = length x % recordBytes ≡ 0
+
+whole-append : (x y : List ℕ) → Whole x → Whole y → Whole (x ++ y)
+whole-append x y p q = omega (arith, length-append x y)
+
+pub whole-gather : (f : ℕ → List ℕ) → ((i : ℕ) → Whole (f i)) → (k i : ℕ) → Whole (gather f k i)
+unfolding gather
+whole-gather f h zero i = omega arith
+whole-gather f h (suc k) i = whole-append (f i) (gather f k (suc i)) (h i) (whole-gather f h k (suc i))
+
+-- of a row and one behind it as much fits as of the first, and behind that of the other
+fitting-append : (room : ℕ) (x y : List ℕ) → Whole x → fitting room (x ++ y) ≡ fitting room x ++ fitting (room - length (fitting room x)) y
+fitting-append room x y h = ⊎-elim (λ (l : n < length x). part l) (λ (l : length x ≤ n). whole l) (lt-or-ge n (length x))
+  where
+    -- so many bytes have room
+    n : ℕ
+    n = recordBytes * (room / recordBytes)
+
+    -- not even all of the first
+    part : n < length x → fitting room (x ++ y) ≡ fitting room x ++ fitting (room - length (fitting room x)) y
+    part l =
+        let m : length (take n x) ≡ n = length-take-le n x (omega arith) in
+        let none : recordBytes * ((room - length (take n x)) / recordBytes) ≡ 0 = omega (arith, m) in
+        take-append-le n x y (omega arith) ∙ rw none (sym (append-nil (take n x)))
+
+    -- all of it
+    whole : length x ≤ n → fitting room (x ++ y) ≡ fitting room x ++ fitting (room - length (fitting room x)) y
+    whole l =
+        let e : n ≡ length x + recordBytes * ((room - length x) / recordBytes) = omega arith in
+        rw (take-all n x l) (ap (λ (k : ℕ). take k (x ++ y)) e ∙ take-append-add x y _)
+
+-- ---- what fills the bytes from a place on
 
 -- where there is nothing to write, nothing is
-pub put-none : {what : List ℕ} (w : ℕ) (buf : List ℕ) → what ≡ [] → Put what w w buf buf
-put-none w buf e = record { behind = rw e (omega arith); written = rw e }
+pub fill-none : {what : List ℕ} (w : ℕ) (buf : List ℕ) → what ≡ [] → Fills what w w buf buf
+fill-none w buf e =
+    let none = take-nil {A = ℕ} (recordBytes * ((length buf - w) / recordBytes)) in
+    record { behind = rw (e, none) (omega arith); written = rw (e, none) }
 
--- what is put under another name
-pub put-as : {x y : List ℕ} {w r : ℕ} {b b₁ : List ℕ} → x ≡ y → Put y w r b b₁ → Put x w r b b₁
-put-as e p = rw e p
+-- what is written under another name
+pub fill-as : {x y : List ℕ} {w r : ℕ} {b b₁ : List ℕ} → x ≡ y → Fills y w r b b₁ → Fills x w r b b₁
+fill-as e p = rw e p
 
--- one part and then another, where the first ended
-module _ {x : List ℕ} {w m : ℕ} {b b₁ : List ℕ} (p : Put x w m b b₁) where
-  pub put-both : {y : List ℕ} {r : ℕ} {b₂ : List ℕ} → Put y m r b₁ b₂ → Put (x ++ y) w r b b₂
-  put-both {y} q =
-      record { behind = omega (arith, p .behind, q .behind, length-append x y); written = q .written ∙ rw (p .written, p .behind, sets-append b w x y) }
+module _ {x : List ℕ} {w m : ℕ} {b b₁ : List ℕ} (p : Fills x w m b b₁) where
+  -- there are as many bytes as before, and the place behind is one of theirs or their end
+  pub fill-long : length b₁ ≡ length b
+  fill-long = ap length (p .written) ∙ length-sets b w (fitting (length b - w) x)
 
-  -- there is room for the other
-  pub room-behind : (y : List ℕ) → w + length (x ++ y) ≤ length b → m + length y ≤ length b₁
-  room-behind y h = omega (arith, p .behind, length-append x y, ap length (p .written), length-sets b w x)
+  pub fill-within : w ≤ length b → m ≤ length b₁
+  fill-within h =
+      let n = recordBytes * ((length b - w) / recordBytes) in
+      omega (arith, p .behind, length-take n x, fill-long)
+
+  -- one behind another
+  pub fill-both : {y : List ℕ} {r : ℕ} {b₂ : List ℕ} → Whole x → Fills y m r b₁ b₂ → Fills (x ++ y) w r b b₂
+  fill-both {y} {r} {b₂} h q =
+      let front = fitting (length b - w) x in
+      let rest = fitting ((length b - w) - length front) y in
+      let left : length b₁ - m ≡ (length b - w) - length front = omega (arith, p .behind, fill-long) in
+      let behind : r ≡ m + length rest = rw left at (q .behind) in
+      let written : b₂ ≡ sets b₁ m rest = rw left at (q .written) in
+      let all = fitting-append (length b - w) x y h in
+      record {
+        behind = rw all (omega (arith, p .behind, behind, length-append front rest));
+        written =
+            rw all (written ∙ ap₂ (λ (l : List ℕ) (k : ℕ). sets l k rest) (p .written) (p .behind) ∙ sym (sets-append b w front rest));
+      }
 
 -- ---- a record
 
 -- it has sixteen bytes
 pub length-record : (k s l v : ℕ) → length (fieldBytes k s l v) ≡ recordBytes
 length-record k s l v = simp (length-append, length-low)
-
--- where there is room for what is a record, there is room for so many
-pub room-record : (k s l v w n : ℕ) {x : List ℕ} → x ≡ fieldBytes k s l v → w + length x ≤ n → w + recordBytes ≤ n
-room-record k s l v w n e h = omega (arith, ap length e, length-record k s l v)
-
--- one of its fields
-put-low : (n v w r : ℕ) (b b₁ : List ℕ) → r ≡ w + n → b₁ ≡ sets b w (lowBytes n v) → Put (lowBytes n v) w r b b₁
-put-low n v w r b b₁ e p = record { behind = omega (arith, length-low n v); written = p }
 
 -- a number and one larger by a multiple of 256: the same lowest byte, and what is above it
 same-low : (x y k : ℕ) → y ≡ x + 256 * k → x % 256 ≡ y % 256
@@ -101,10 +146,11 @@ head-bytes k s l h =
 pub fields-put : (k s l v : ℕ) {n : ℕ} (b b₁ b₂ : List ℕ) → k < 256 → n ≡ headOf k s l → b₁ ≡ sets b 0 (lowBytes 8 n) → b₂ ≡ sets b₁ 8 (lowBytes 8 v)
     → b₂ ≡ sets b 0 (fieldBytes k s l v)
 fields-put k s l v b b₁ b₂ h e p q =
-    let head : Put (k ∷ 0 ∷ (lowBytes 2 s ++ lowBytes 4 l)) 0 8 b b₁ =
-    rw (head-bytes k s l h) at (put-low 8 (headOf k s l) 0 8 b b₁ refl (p ∙ ap (λ (x : ℕ). sets b 0 (lowBytes 8 x)) e)) in
+    let front = k ∷ 0 ∷ (lowBytes 2 s ++ lowBytes 4 l) in
+    let head : b₁ ≡ sets b 0 front = p ∙ ap (λ (x : ℕ). sets b 0 (lowBytes 8 x)) e ∙ ap (sets b 0) (head-bytes k s l h) in
+    let eight : 8 ≡ 0 + length front = omega (arith, length-append (lowBytes 2 s) (lowBytes 4 l), length-low 2 s, length-low 4 l) in
     let same = ap (λ (r : List ℕ). k ∷ 0 ∷ r) (append-assoc (lowBytes 2 s) (lowBytes 4 l) (lowBytes 8 v)) in
-    put-both head (put-low 8 v 8 16 b₁ b₂ refl q) .written ∙ ap (sets b 0) same
+    q ∙ ap₂ (λ (x : List ℕ) (n : ℕ). sets x n (lowBytes 8 v)) head eight ∙ sym (sets-append b 0 front (lowBytes 8 v)) ∙ ap (sets b 0) same
 
 -- a row that is written over from its front to its end
 sets-all : (l vs : List ℕ) → length l ≡ length vs → sets l 0 vs ≡ vs
@@ -112,46 +158,64 @@ sets-all l vs e =
     let h : length l ≤ 0 + length vs = omega arith in
     rw (sets-eq vs l 0 (omega arith), drop-of-length-le l h) (append-nil vs)
 
--- what is written over a part of the bytes is put there
-pub put-part : (vs b part : List ℕ) (w e : ℕ) → e ≡ w + length vs → e ≤ length b → part ≡ sets (take (e - w) (drop w b)) 0 vs
-    → Put vs w e b (take w b ++ (part ++ drop (e - w) (drop w b)))
-put-part vs b part w e p h q =
+-- a record for which there is room is written over a part of the bytes
+pub fill-part : (vs b part : List ℕ) (w e : ℕ) → length vs ≡ recordBytes → e ≡ w + recordBytes → e ≤ length b → part ≡ sets (take (e - w) (drop w b)) 0 vs
+    → Fills vs w e b (take w b ++ (part ++ drop (e - w) (drop w b)))
+fill-part vs b part w e l p h q =
+    let n = recordBytes * ((length b - w) / recordBytes) in
     let whole : part ≡ vs = q ∙ sets-all (take (e - w) (drop w b)) vs (mid-len w e b h ∙ omega arith) in
-    record { behind = p; written = rw (whole, post-is w e b (omega arith), p, ← append-assoc) (sym (sets-eq vs b w (omega arith))) }
+    let end : e ≡ w + length vs = omega arith in
+    let all : take n vs ≡ vs = take-all n vs (omega arith) in
+    record {
+      behind = rw all end;
+      written = rw (all, whole, post-is w e b (omega arith), end, ← append-assoc) (sym (sets-eq vs b w (omega arith)));
+    }
 
--- ---- a loop that writes
-module _ {f : ℕ → List ℕ} {n i w₀ w : ℕ} {buf₀ buf : List ℕ} where
+-- one for which there is none is not
+pub fill-no-room : (vs b : List ℕ) (w : ℕ) → length b - w < recordBytes → Fills vs w w b b
+fill-no-room vs b w h =
+    let none : recordBytes * ((length b - w) / recordBytes) ≡ 0 = omega arith in
+    record { behind = rw none (omega arith); written = rw none }
+
+-- ---- a loop that writes what f gives at each place from a on, before n, stands at place i
+pub record Filling (f : ℕ → List ℕ) (n a i w₀ w : ℕ) (buf₀ buf : List ℕ) : Type 0 where
+  pub beyond : a ≤ i
+  pub upto : i - a ≤ n - a
+  pub within : w ≤ length buf
+  pub long : length buf ≡ length buf₀
+  pub whole : (j : ℕ) → Whole (f j)
+  pub so : Fills (gather f (i - a) a) w₀ w buf₀ buf
+
+pub filling-first : (f : ℕ → List ℕ) (n a w : ℕ) (buf : List ℕ) → ((j : ℕ) → Whole (f j)) → w ≤ length buf → Filling f n a a w w buf buf
+filling-first f n a w buf t h =
+    record {
+      beyond = omega arith;
+      upto = omega arith;
+      within = h;
+      long = refl;
+      whole = t;
+      so = fill-none w buf (gather-done f a a (omega arith));
+    }
+
+module _ {f : ℕ → List ℕ} {n a i w₀ w : ℕ} {buf₀ buf : List ℕ} (v : Filling f n a i w₀ w buf₀ buf) where
   -- what one place gives
-  pub put-next : {a r : ℕ} {last : List ℕ} → Writes f n a i w₀ w buf₀ buf → i < n → Put (f i) w r buf last → Writes f n a (i + 1) w₀ r buf₀ last
-  put-next {r = r} {last = last} v h p = writes-next v h r last (p .behind) (p .written)
+  pub filling-next : {r : ℕ} {last : List ℕ} → i < n → Fills (f i) w r buf last → Filling f n a (i + 1) w₀ r buf₀ last
+  filling-next h p =
+      record {
+        beyond = omega (arith, v .beyond);
+        upto = omega (arith, v .beyond);
+        within = fill-within p (v .within);
+        long = fill-long p ∙ v .long;
+        whole = v .whole;
+        so = fill-as (gather-more f a i (v .beyond)) (fill-both (v .so) (whole-gather f (v .whole) (i - a) a) p);
+      }
 
   -- what all give
-  pub put-all : {a : ℕ} → Writes f n a i w₀ w buf₀ buf → n ≤ i → Put (gather f (n - a) a) w₀ w buf₀ buf
-  put-all v h = record { behind = writes-count v h; written = writes-all v h }
+  pub filling-all : n ≤ i → Fills (gather f (n - a) a) w₀ w buf₀ buf
+  filling-all h =
+      let e : n - a ≡ i - a = omega (arith, v .upto) in
+      rw e (v .so)
 
-  -- the same from place 0 on
-  pub put-whole : Writes f n 0 i w₀ w buf₀ buf → n ≤ i → Put (gather f n 0) w₀ w buf₀ buf
-  put-whole v h = rw (sub-zero n) at (put-all v h)
-
-  -- and the room for what one gives
-  pub whole-room : Writes f n 0 i w₀ w buf₀ buf → i < n → w₀ + length (gather f n 0) ≤ length buf₀ → w + length (f i) ≤ length buf
-  whole-room v h m = writes-room v h (rw (sub-zero n) m)
-
--- ---- three parts from the front on, for which there is room
-module _ (x y z buf : List ℕ) (h : length (x ++ (y ++ z)) ≤ length buf) where
-  -- room for the first
-  pub room-first : 0 + length x ≤ length buf
-  room-first = omega (arith, length-append x (y ++ z))
-
-  -- for the second behind it
-  pub room-second : {a : ℕ} {b₁ : List ℕ} → Put x 0 a buf b₁ → a + length y ≤ length b₁
-  room-second p = omega (arith, room-behind p (y ++ z) (omega arith), length-append y z)
-
-  -- for the third behind both
-  pub room-third : {a b : ℕ} {b₁ b₂ : List ℕ} → Put x 0 a buf b₁ → Put y a b b₁ b₂ → b + length z ≤ length b₂
-  room-third p q = room-behind q z (room-behind p (y ++ z) (omega arith))
-
-  -- all three
-  pub put-three : {a b r : ℕ} {b₁ b₂ b₃ : List ℕ} → Put x 0 a buf b₁ → Put y a b b₁ b₂ → Put z b r b₂ b₃
-      → (r ≡ length (x ++ (y ++ z))) × (b₃ ≡ sets buf 0 (x ++ (y ++ z)))
-  put-three p q t = let all = put-both p (put-both q t) in (omega (arith, all .behind), all .written)
+-- the same from place 0 on
+pub filling-whole : {f : ℕ → List ℕ} {n i w₀ w : ℕ} {buf₀ buf : List ℕ} → Filling f n 0 i w₀ w buf₀ buf → n ≤ i → Fills (gather f n 0) w₀ w buf₀ buf
+filling-whole {n = n} v h = rw (sub-zero n) at (filling-all v h)

@@ -1,9 +1,12 @@
 -- The program as code writes it: by place, over the arrays of a sheet whose names are resolved. Every read past an end gives 0.
-use Prim.Native.Nat.{ℕ, suc, _+_, _-_, _*_, _%_, min}
+use Prim.Native.Nat.{ℕ, suc, _+_, _-_, _*_, _/_, _%_, min}
+use mathlib.Core.Path.{_≡_}
 use mathlib.Core.Bool.{Bool, cond, _&&_, _||_}
 use mathlib.Core.List.{List, [], _∷_, _++_}
 use lib.Dec.{eqb, leb}
-use lib.ListN.{length, getD}
+use lib.ListN.{length, getD, take}
+use lib.Seq.{sets}
+use Rattle.limits.specs.Limits.{recordBytes}
 use Rattle.laws.specs.Places.{gather}
 use Rattle.bits.specs.Low.{lowBytes}
 use Rattle.model.specs.Places.{homeOf, begins, ends, inStatement}
@@ -67,3 +70,14 @@ unfoldable pub writtenProgram : List ℕ → List ℕ → List ℕ → List ℕ 
 writtenProgram places rows lines bounds kinds slots order =
     gather (settingsOf 1 places lines bounds kinds slots) (length lines) 0
     ++ (gather (settingsOf 2 places lines bounds kinds slots) (length lines) 0 ++ orderedSteps rows lines bounds kinds slots order)
+
+-- ---- what a function that writes says of the bytes that it is lent
+
+-- of the bytes of records, those of the whole records for which there is room
+abbrev pub fitting : ℕ → List ℕ → List ℕ
+fitting room what = take (recordBytes * (room / recordBytes)) what
+
+-- these stand from place w on, and r is the place behind them
+pub record Fills (what : List ℕ) (w r : ℕ) (old new : List ℕ) : Type 0 where
+  pub behind : r ≡ w + length (fitting (length old - w) what)
+  pub written : new ≡ sets old w (fitting (length old - w) what)

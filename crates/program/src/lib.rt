@@ -1,15 +1,13 @@
 // The program of a text, written from the arrays of its sheet, and the count of its records.
 ghost use mathlib.Core.Path.{_≡_};
-ghost use Prim.Native.Nat.{_+_, _-_, _≤_, _<_};
+ghost use Prim.Native.Nat.{_-_, _≤_, _<_};
 ghost use lib.ListN.{length, getD};
 ghost use lib.Seq.{sets};
-ghost use Rattle.limits.specs.Limits.{recordBytes};
 ghost use Rattle.laws.specs.Counts.{once};
 ghost use Rattle.laws.specs.Places.{gather};
 ghost use Rattle.model.specs.Places.{homeOf};
-ghost use Rattle.laws.specs.Put.{Put};
 ghost use Rattle.program.specs.Written.{fieldBytes, headOf, writes, recordCount, valueAt, settingAt, reach, settingsOf};
-ghost use Rattle.program.specs.Written.{stepBytes, stepsOf, orderedSteps, writtenProgram};
+ghost use Rattle.program.specs.Written.{stepBytes, stepsOf, orderedSteps, writtenProgram, fitting, Fills};
 use bits::put_eight;
 use limits::RECORD_BYTES;
 
@@ -70,20 +68,22 @@ fn head_of(kind: u8, slot: u64, line: u64) -> u64
     kind as u64 + 65536 * (slot % 65536) + 4294967296 * (line % 4294967296)
 }
 
-// Writes a record to its sixteen bytes, eight at a time.
+// Writes a record to the front of a part, eight bytes at a time, those for which there is a place.
 fn put_fields(kind: u8, slot: u64, line: u64, bits: u64, part: &mut [u8])
-    requires { ⌜ length (now part) ≡ recordBytes ⌝ }
     ensures { λ _. ⌜ now (part .exit) ≡ sets (now (part .entry)) 0 (fieldBytes kind slot line bits) ⌝ }
 {
     put_eight(&mut *part, 0, head_of(kind, slot, line));
     put_eight(part, 8, bits);
 }
 
-// Writes a record from a place on; the place behind it.
+// Writes a record from a place on, if there is room; the place behind it.
 fn put_record(kind: u8, slot: u64, line: u64, bits: u64, out: &mut [u8], w: usize) -> usize
-    requires { ⌜ w + recordBytes ≤ length (now out) ⌝ }
-    ensures { λ r. ⌜ Put (fieldBytes kind slot line bits) w r (now (out .entry)) (now (out .exit)) ⌝ }
+    requires { ⌜ w ≤ length (now out) ⌝ }
+    ensures { λ r. ⌜ Fills (fieldBytes kind slot line bits) w r (now (out .entry)) (now (out .exit)) ⌝ }
 {
+    if out.len() - w < RECORD_BYTES {
+        return w;
+    }
     let end = w + RECORD_BYTES;
     put_fields(kind, slot, line, bits, &mut out[w..end]);
     end
@@ -122,8 +122,8 @@ fn put_setting(
     out: &mut [u8],
     w: usize,
 ) -> usize
-    requires { ⌜ (i < 65536) × (w + length (settingAt phase (now places) (now kinds) (now slots) line i) ≤ length (now out)) ⌝ }
-    ensures { λ r. ⌜ Put (settingAt phase (now (places .entry)) (now (kinds .entry)) (now (slots .entry)) line i) w r (now (out .entry)) (now (out .exit)) ⌝ }
+    requires { ⌜ (i < 65536) × (w ≤ length (now out)) ⌝ }
+    ensures { λ r. ⌜ Fills (settingAt phase (now (places .entry)) (now (kinds .entry)) (now (slots .entry)) line i) w r (now (out .entry)) (now (out .exit)) ⌝ }
 {
     if byte_at(kinds, i) == phase {
         let slot = word_at(slots, i);
@@ -158,11 +158,9 @@ fn put_settings(
     out: &mut [u8],
     at: usize,
 ) -> usize
-    requires { ⌜
-        (j < length (now lines))
-        × (at + length (settingsOf phase (now places) (now lines) (now bounds) (now kinds) (now slots) j) ≤ length (now out)) ⌝ }
+    requires { ⌜ (j < length (now lines)) × (at ≤ length (now out)) ⌝ }
     ensures { λ r. ⌜
-        Put (settingsOf phase (now (places .entry)) (now (lines .entry)) (now (bounds .entry)) (now (kinds .entry)) (now (slots .entry)) j)
+        Fills (settingsOf phase (now (places .entry)) (now (lines .entry)) (now (bounds .entry)) (now (kinds .entry)) (now (slots .entry)) j)
         at r (now (out .entry)) (now (out .exit)) ⌝ }
 {
     let mut i = half_at(bounds, j);
@@ -190,11 +188,9 @@ fn put_all_settings(
     out: &mut [u8],
     at: usize,
 ) -> usize
-    requires { ⌜
-        at + length (gather (settingsOf phase (now places) (now lines) (now bounds) (now kinds) (now slots)) (length (now lines)) 0)
-        ≤ length (now out) ⌝ }
+    requires { ⌜ at ≤ length (now out) ⌝ }
     ensures { λ r. ⌜
-        Put (gather
+        Fills (gather
         (settingsOf phase (now (places .entry)) (now (lines .entry)) (now (bounds .entry)) (now (kinds .entry)) (now (slots .entry)))
         (length (now (lines .entry))) 0)
         at r (now (out .entry)) (now (out .exit)) ⌝ }
@@ -210,8 +206,8 @@ fn put_all_settings(
 
 // Writes the record of a draft of an expression, or of a store or derivative.
 fn put_step(kind: u8, arg: u64, line: u64, out: &mut [u8], w: usize) -> usize
-    requires { ⌜ w + length (stepBytes kind arg line) ≤ length (now out) ⌝ }
-    ensures { λ r. ⌜ Put (stepBytes kind arg line) w r (now (out .entry)) (now (out .exit)) ⌝ }
+    requires { ⌜ w ≤ length (now out) ⌝ }
+    ensures { λ r. ⌜ Fills (stepBytes kind arg line) w r (now (out .entry)) (now (out .exit)) ⌝ }
 {
     if kind == 3 {
         return put_record(3, 0, line, arg, out, w);
@@ -238,9 +234,9 @@ fn put_steps(
     out: &mut [u8],
     at: usize,
 ) -> usize
-    requires { ⌜ (j < 65536) × (at + length (stepsOf (now lines) (now bounds) (now kinds) (now slots) j) ≤ length (now out)) ⌝ }
+    requires { ⌜ (j < 65536) × (at ≤ length (now out)) ⌝ }
     ensures { λ r. ⌜
-        Put (stepsOf (now (lines .entry)) (now (bounds .entry)) (now (kinds .entry)) (now (slots .entry)) j)
+        Fills (stepsOf (now (lines .entry)) (now (bounds .entry)) (now (kinds .entry)) (now (slots .entry)) j)
         at r (now (out .entry)) (now (out .exit)) ⌝ }
 {
     let line = half_at(lines, j) as u64;
@@ -265,9 +261,9 @@ fn put_ordered(
     out: &mut [u8],
     at: usize,
 ) -> usize
-    requires { ⌜ at + length (orderedSteps (now rows) (now lines) (now bounds) (now kinds) (now slots) (now order)) ≤ length (now out) ⌝ }
+    requires { ⌜ at ≤ length (now out) ⌝ }
     ensures { λ r. ⌜
-        Put (orderedSteps (now (rows .entry)) (now (lines .entry)) (now (bounds .entry)) (now (kinds .entry)) (now (slots .entry)) (now (order .entry)))
+        Fills (orderedSteps (now (rows .entry)) (now (lines .entry)) (now (bounds .entry)) (now (kinds .entry)) (now (slots .entry)) (now (order .entry)))
         at r (now (out .entry)) (now (out .exit)) ⌝ }
 {
     let mut w = at;
@@ -280,7 +276,7 @@ fn put_ordered(
     w
 }
 
-// Writes the program to the front of the lent bytes; how many bytes that is.
+// Writes the program to the front of the lent bytes, as many records as there is room for; how many bytes that is.
 pub fn put_program(
     places: &[u16],
     rows: &[u16],
@@ -291,11 +287,11 @@ pub fn put_program(
     order: &[u16],
     out: &mut [u8],
 ) -> usize
-    requires { ⌜ length (writtenProgram (now places) (now rows) (now lines) (now bounds) (now kinds) (now slots) (now order)) ≤ length (now out) ⌝ }
     ensures { λ r. ⌜
         (let p = writtenProgram (now (places .entry)) (now (rows .entry)) (now (lines .entry)) (now (bounds .entry)) (now (kinds .entry))
         (now (slots .entry)) (now (order .entry)) in
-        (r ≡ length p) × (now (out .exit) ≡ sets (now (out .entry)) 0 p)) ⌝ }
+        let q = fitting (length (now (out .entry))) p in
+        (r ≡ length q) × (now (out .exit) ≡ sets (now (out .entry)) 0 q)) ⌝ }
 {
     let a = put_all_settings(1, places, lines, bounds, kinds, slots, &mut *out, 0);
     let b = put_all_settings(2, places, lines, bounds, kinds, slots, &mut *out, a);

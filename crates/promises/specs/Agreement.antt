@@ -29,7 +29,7 @@ use Rattle.records.specs.declared.Instr.{Instr}
 use Rattle.records.specs.Decode.{readAt, decodedAt}
 use Rattle.model.specs.declared.answer.Plan.{Plan}
 use Rattle.model.specs.Plan.{Lent, Plans}
-use Rattle.program.specs.Written.{recordCount, writtenProgram}
+use Rattle.program.specs.Written.{recordCount, writtenProgram, fitting}
 use Rattle.evaluator.specs.declared.Answer.{Answer}
 use Rattle.evaluator.specs.Contract.{Evaluated, Started, Stepped}
 use Rattle.tally.specs.declared.Tally.{Tally}
@@ -106,8 +106,8 @@ pub record Program : Type 0 where
   pub count-records : (kinds : List ℕ) → Agree (λ (r : ℕ). r ≡ recordCount kinds)
   pub put-program : (places rows lines bounds kinds slots order out : List ℕ)
       → Agree2 (λ (r : ℕ) (o : List ℕ).
-      (r ≡ length (writtenProgram places rows lines bounds kinds slots order))
-      × (o ≡ sets out 0 (writtenProgram places rows lines bounds kinds slots order)))
+      (r ≡ length (fitting (length out) (writtenProgram places rows lines bounds kinds slots order)))
+      × (o ≡ sets out 0 (fitting (length out) (writtenProgram places rows lines bounds kinds slots order))))
 
 -- evaluate, start, step
 pub record Evaluator : Type 0 where

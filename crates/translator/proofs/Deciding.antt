@@ -1,29 +1,29 @@
 -- From a plan to the verdict: what each answer of the code stands for.
-use Prim.Native.Nat.{ℕ, suc, _+_, _*_, _/_, _<_, _≤_}
-use mathlib.Core.Path.{_≡_, refl, sym, ap, ap₂, _∙_}
-use mathlib.Core.Bool.{Bool, true, false, cond, _||_}
-use mathlib.Core.List.{List, [], _∷_, _++_, map}
+use Prim.Native.Nat.{ℕ, _*_, _/_, _<_, _≤_}
+use mathlib.Core.Path.{_≡_, refl, sym, ap, _∙_}
+use mathlib.Core.Bool.{false}
+use mathlib.Core.List.{List, [], _∷_}
 use native.Mathlib.Omega.{arith}
 use borrow.Author.Tests.{lt-ltb, le-ltb}
 use lib.Dec.{ltb}
-use lib.ListN.{length, length-append}
+use lib.ListN.{length}
 use lib.Seq.{sets}
 use Rattle.limits.specs.Limits.{mostDefinitions, mostRecords, recordBytes}
 use Rattle.laws.specs.Lists.{concat-map}
 use Rattle.bits.specs.Low.{lowBytes}
-use Rattle.sheet.specs.Sheet.{Numbered, Fault}
+use Rattle.sheet.specs.Sheet.{Numbered}
 use Rattle.sheet.specs.Layout.{Laid}
-use Rattle.model.specs.Definitions.{Def, definitions, equationAt}
+use Rattle.model.specs.Definitions.{Def, definitions}
 use Rattle.model.specs.Faults.{modelFaults, orderOf}
 use Rattle.model.specs.Places.{keysIn, placesIn, resolved, equationRows}
-use Rattle.model.specs.Plan.{Outcome, outcome}
+use Rattle.model.specs.Plan.{Outcome}
 use Rattle.records.specs.Record.{Rec, recBytes, programBytes}
 use Rattle.program.specs.Program.{program}
 use Rattle.program.specs.Written.{recordCount, writtenProgram}
 use Rattle.program.proofs.Meant.{count-meant, program-meant}
 use Rattle.translator.specs.declared.Verdict.{Verdict}
 use Rattle.translator.specs.declared.Verdict.the-variants.{Refused, Faulty, Translated}
-use Rattle.translator.specs.Verdict.{refused, faulty, translated, ifFaults, fitted, programmed, modelled}
+use Rattle.translator.specs.Verdict.{programmed, modelled}
 use Rattle.translator.specs.Contract.{reply, replyOf}
 use Rattle.translator.proofs.Concluding.{whole, Conclusion, many, flawed, sound}
 
@@ -110,8 +110,3 @@ module _ (ss : List Numbered) (kinds args lines bounds : List ℕ) (laid : Laid 
     -- it has so many bytes
     pub program-long : length written ≡ recordCount kinds * recordBytes
     program-long = rw (program-meant ss kinds args lines bounds laid clean, length-program recs) (omega (arith, count))
-
-    -- there is room for it
-    pub program-room : recordCount kinds ≤ length prog / recordBytes → length written ≤ length prog
-    program-room k =
-        rw (program-meant ss kinds args lines bounds laid clean, length-program recs) (omega (arith, count))

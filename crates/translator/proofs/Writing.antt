@@ -1,5 +1,5 @@
 -- From a plan to the program: what the plan's arrays hold, and the answer of each path.
-use Prim.Native.Nat.{ℕ, _/_, _≤_}
+use Prim.Native.Nat.{ℕ, _*_, _/_, _≤_}
 use mathlib.Core.Path.{_≡_, refl, sym, ap, _∙_}
 use mathlib.Core.Bool.{Bool, true, false, _||_}
 use mathlib.Core.List.{List, []}
@@ -8,7 +8,7 @@ use native.Mathlib.Nat.{zero-add}
 use borrow.Author.Tests.{ltb-true, ltb-false}
 use lib.Dec.{ltb}
 use lib.ListN.{length, take, length-replicate}
-use lib.Seq.{sets, length-sets, length-take-le}
+use lib.Seq.{sets, length-sets, length-take-le, take-all}
 use Rattle.limits.specs.Limits.{mostDefinitions, mostStatements, mostRecords, recordBytes}
 use Rattle.laws.proofs.Bools.{or-false}
 use Rattle.sheet.specs.Sheet.{Numbered}
@@ -20,7 +20,7 @@ use Rattle.model.specs.Plan.{lent, Outcome, outcome, Plans}
 use Rattle.model.specs.declared.answer.Plan.{Plan}
 use Rattle.model.proofs.Clean.{no-faults}
 use Rattle.model.proofs.Meant.{places-meant, rows-meant}
-use Rattle.program.specs.Written.{recordCount, writtenProgram}
+use Rattle.program.specs.Written.{recordCount, writtenProgram, fitting}
 use Rattle.translator.specs.declared.Verdict.{Verdict}
 use Rattle.translator.specs.declared.Verdict.the-variants.{Refused, Faulty, Translated}
 use Rattle.translator.specs.Working.{zeros, blank, held, Ready, Planned, Concludes}
@@ -28,7 +28,7 @@ use Rattle.translator.proofs.Counted.{equations-few}
 use Rattle.translator.proofs.Progress.{take-sets}
 use Rattle.translator.proofs.Concluding.{Conclusion, concluded, whole, all-placed}
 use Rattle.translator.proofs.Deciding.{written, decides-six, decides-seven, decides-sound, decides-eight, decides-eight′, decides-zero}
-use Rattle.translator.proofs.Deciding.{program-room, program-long}
+use Rattle.translator.proofs.Deciding.{program-long}
 
 -- a row that an array holds stands at its front
 pub take-held : (l : List ℕ) (n : ℕ) → n ≡ length l → length l ≤ mostStatements → take n (held l) ≡ l
@@ -120,21 +120,25 @@ module _ {p : Plan} {places rows order lines bounds kinds args : List ℕ} (s : 
           let both = or-false (ltb mostRecords (recordCount kinds)) (ltb (length out / recordBytes) (recordCount kinds)) (sym tested ∙ z) in
           (ltb-false mostRecords (recordCount kinds) (both .0), ltb-false (length out / recordBytes) (recordCount kinds) (both .1))
 
-      pub program-fits : length (writtenProgram r₁ r₂ lines bounds kinds args r₃) ≤ length out
-      program-fits =
-          rw (written-cut e₁ e₂ e₃) (program-room (s .statements) kinds (s .named) lines bounds (s .laid) [] [] out (s .few) (s .clean) (under .1))
-
       -- its bytes tell how many records it has
       counted : {n : ℕ} → n ≡ length (writtenProgram r₁ r₂ lines bounds kinds args r₃) → n / recordBytes ≡ recordCount kinds
       counted e =
           let many = program-long (s .statements) kinds (s .named) lines bounds (s .laid) [] [] out (s .few) (s .clean) in
           rw (e, written-cut e₁ e₂ e₃) (omega (arith, many))
 
-      pub says-zero : {n : ℕ} {out′ : List ℕ} → (n ≡ length (writtenProgram r₁ r₂ lines bounds kinds args r₃))
-          × (out′ ≡ sets out 0 (writtenProgram r₁ r₂ lines bounds kinds args r₃)) → (f : List ℕ)
+      -- there is room for all of them
+      all-fits : fitting (length out) (writtenProgram r₁ r₂ lines bounds kinds args r₃) ≡ writtenProgram r₁ r₂ lines bounds kinds args r₃
+      all-fits =
+          let many = program-long (s .statements) kinds (s .named) lines bounds (s .laid) [] [] out (s .few) (s .clean) in
+          rw (written-cut e₁ e₂ e₃)
+          (take-all (recordBytes * (length out / recordBytes)) (written (s .statements) kinds (s .named) lines bounds (s .laid) [] [] [])
+          (omega (arith, many, under .1)))
+
+      pub says-zero : {n : ℕ} {out′ : List ℕ} → (n ≡ length (fitting (length out) (writtenProgram r₁ r₂ lines bounds kinds args r₃)))
+          × (out′ ≡ sets out 0 (fitting (length out) (writtenProgram r₁ r₂ lines bounds kinds args r₃))) → (f : List ℕ)
           → Concludes (s .statements) f out (Translated (n / recordBytes)) f out′
       says-zero e f =
-          rw (counted (e .0), e .1, written-cut e₁ e₂ e₃)
+          rw (counted (e .0 ∙ ap length all-fits), e .1 ∙ ap (sets out 0) all-fits, written-cut e₁ e₂ e₃)
           (decides-zero (s .statements) kinds (s .named) lines bounds (s .laid) [] f out (s .few) (s .clean) (under .0) (under .1))
 
 -- ---- what is planned of statements that are laid out

@@ -1,4 +1,4 @@
-// Plans arrays that are those of no text, as model/specs/Plan says.
+// Plans arrays that are those of no text, as model/specs/Plan says, and writes a program where there is too little room.
 use limits::STATEMENTS;
 use model::answer::Plan;
 use tally::Tally;
@@ -127,9 +127,40 @@ fn unused(t0: Tally) -> Tally {
     shorts(t, &order, 0, 170, 170)
 }
 
+// Of two constants one has room, and four bytes are left.
+fn little_room(t0: Tally) -> Tally {
+    let places = [0u16, 2];
+    let rows = [0u16; 1];
+    let lines = [1u16; 1];
+    let bounds = [0u16, 4];
+    let kinds = [1u8, 0, 1, 0];
+    let slots = [1u64, 0x4000_0000_0000_0000, 2, 7];
+    let order = [0u16; 1];
+    let mut out = [170u8; 20];
+    let n = program::put_program(
+        &places,
+        &rows[..0],
+        &lines,
+        &bounds,
+        &kinds,
+        &slots,
+        &order[..0],
+        &mut out,
+    );
+    let t = tally::number(t0, n, 16);
+    tally::right(
+        t,
+        check::same(
+            &out,
+            b"\x01\x00\x01\x00\x01\x00\x00\x00\x00\x00\x00\x00\x00\x00\x00\x40\xaa\xaa\xaa\xaa",
+        ),
+    )
+}
+
 // All of these.
 pub fn all(t0: Tally) -> Tally {
     let mut t = amid(t0);
     t = amid_twice(t);
-    unused(t)
+    t = unused(t);
+    little_room(t)
 }

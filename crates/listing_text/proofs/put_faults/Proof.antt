@@ -3,7 +3,7 @@ use Prim.Native.Nat.{_-_}
 use native.Mathlib.Omega.{arith}
 use borrow.Author.Needs.{needs}
 use Rattle.laws.proofs.Gathers.{Writes, writes-first}
-use Rattle.program.proofs.Puts.{put-next, put-whole}
+use Rattle.listing_text.proofs.Puts.{put-next, put-whole}
 use Rattle.listing_text.specs.Written.{faultAt}
 use Rattle.listing_text.proofs.Rooms.{room-turn}
 use Rattle.listing_text.proofs.put_faults.Statement.{statement}

@@ -5,7 +5,7 @@ use native.Mathlib.Omega.{arith}
 use borrow.Author.Tests.{eq-eqb, ne-eqb}
 use borrow.Author.Needs.{needs}
 use Rattle.laws.specs.Places.{gather}
-use Rattle.program.proofs.Puts.{put-both}
+use Rattle.listing_text.proofs.Puts.{put-both}
 use Rattle.listing_text.specs.Written.{faultAt, endedAt, head, written, Room}
 use Rattle.listing_text.proofs.Rooms.{room-first, room-second}
 use Rattle.listing_text.proofs.Shorts.{order-room, faults-room}

@@ -2,22 +2,24 @@
 use Prim.Native.Nat.{_-_}
 use borrow.Author.Needs.{needs}
 use lib.ListN.{length, getD}
-use Rattle.laws.proofs.Gathers.{Writes, writes-first}
 use Rattle.program.specs.Written.{stepsOf}
-use Rattle.program.proofs.Puts.{put-as, put-next, put-whole, whole-room}
-use Rattle.program.proofs.Parts.{ordered-gather}
+use Rattle.program.proofs.Puts.{fill-as, Filling, filling-first, filling-next, filling-whole}
+use Rattle.program.proofs.Parts.{whole-steps, ordered-gather}
 use Rattle.program.proofs.put_ordered.Statement.{statement}
 use Rattle.program.proofs.put_ordered.Tie as tie
 
 abbrev Inv-loop : tie.InvT-loop
 Inv-loop rows lines bounds kinds slots order out₀ at w₀ q₀ out w q =
-    Writes (λ p. stepsOf lines bounds kinds slots (getD rows (getD order p 0) 0)) (length order) 0 q at w out₀ out
+    Filling (λ p. stepsOf lines bounds kinds slots (getD rows (getD order p 0) 0)) (length order) 0 q at w out₀ out
 
 abbrev μ-loop : tie.MeasureT-loop
 μ-loop rows lines bounds kinds slots order out₀ at w₀ q₀ out w q = length order - q
 
 loop-holds : tie.Need-loop-holds Inv-loop μ-loop
-loop-holds c = writes-first _ _ _ _ _
+loop-holds c =
+    let s = c .before .before .before .before .before .before .before in
+    let a = s .args in
+    filling-first _ _ _ _ _ (λ p. whole-steps (a .lines .now) (a .bounds .now) (a .kinds .now) (a .slots .now) _) (s .pre)
 
 half-at-requires : tie.Need-half-at-requires Inv-loop μ-loop
 half-at-requires c κs = search needs
@@ -26,15 +28,7 @@ half-at-requires-2 : tie.Need-half-at-requires-2 Inv-loop μ-loop
 half-at-requires-2 c κs = search needs
 
 put-steps-requires : tie.Need-put-steps-requires Inv-loop μ-loop
-put-steps-requires c κs =
-    let t = c .before .before .before in
-    let s = t .before .before .before .before .before .before .before .before .before in
-    let a = s .args in
-    let e = ordered-gather (a .rows .now) (a .lines .now) (a .bounds .now) (a .kinds .now) (a .slots .now) (a .order .now) in (
-      search needs,
-      rw (c .before .half-at2 .ensures .0, c .before .before .half-at .ensures .0)
-          (whole-room (t .before .loop .inv) (t .loop-test .taken) (rw (← e) (s .pre))),
-    )
+put-steps-requires c κs = (search needs, c .before .before .before .before .loop .inv .within)
 
 add-q : tie.Need-add-q Inv-loop μ-loop
 add-q c = search needs
@@ -46,7 +40,7 @@ loop-again : tie.Need-loop-again Inv-loop μ-loop
 loop-again c =
     let h = c .before .before .before .before in
     let t = h .before .before in
-    put-next (t .before .loop .inv) (t .loop-test .taken)
+    filling-next (t .before .loop .inv) (t .loop-test .taken)
     (rw (← (h .before .half-at .ensures .0), ← (h .half-at2 .ensures .0)) (c .before .before .put-steps .ensures))
 
 same-length : tie.Need-same-length Inv-loop μ-loop
@@ -55,8 +49,8 @@ same-length c = c .before .loop .inv .long
 returns : tie.Need-returns Inv-loop μ-loop
 returns c =
     let a = c .before .before .before .before .before .before .before .before .before .args in
-    put-as (ordered-gather (a .rows .now) (a .lines .now) (a .bounds .now) (a .kinds .now) (a .slots .now) (a .order .now))
-    (put-whole (c .before .loop .inv) (c .loop-test .left))
+    fill-as (ordered-gather (a .rows .now) (a .lines .now) (a .bounds .now) (a .kinds .now) (a .slots .now) (a .order .now))
+    (filling-whole (c .before .loop .inv) (c .loop-test .left))
 
 pub put-ordered-spec : {M : Type 1} → statement M
 put-ordered-spec =

@@ -1,46 +1,25 @@
 -- Three parts, one behind the other.
-use Prim.Native.Nat.{ℕ}
-use mathlib.Core.List.{List}
+use mathlib.Core.Path.{_∙_}
+use native.Mathlib.Nat.{sub-zero}
+use native.Mathlib.Omega.{arith}
 use borrow.Author.Needs.{needs}
 use lib.ListN.{length}
-use Rattle.laws.specs.Places.{gather}
-use Rattle.program.specs.Written.{settingsOf, orderedSteps, writtenProgram}
-use Rattle.program.proofs.Puts.{room-first, room-second, room-third, put-three}
+use Rattle.program.specs.Written.{writtenProgram}
+use Rattle.program.proofs.Puts.{fill-within, fill-both}
+use Rattle.program.proofs.Parts.{whole-all-settings}
 use Rattle.program.proofs.put_program.Statement.{statement}
 use Rattle.program.proofs.put_program.Tie as tie
 
--- all constants, or all initials; and the ordered statements
-abbrev settings : tie.Start → ℕ → List ℕ
-settings s phase =
-    let a = s .args in
-    gather (settingsOf phase (a .places .now) (a .lines .now) (a .bounds .now) (a .kinds .now) (a .slots .now)) (length (a .lines .now)) 0
-
-abbrev steps : tie.Start → List ℕ
-steps s =
-    let a = s .args in
-    orderedSteps (a .rows .now) (a .lines .now) (a .bounds .now) (a .kinds .now) (a .slots .now) (a .order .now)
-
 put-all-settings-requires : tie.Need-put-all-settings-requires
-unfolding writtenProgram
-put-all-settings-requires c κs =
-    let s = c .before .before .before .before .before .before .before .before .before in
-    room-first (settings s 1) (settings s 2) (steps s) (s .args .out .now) (s .pre)
+put-all-settings-requires c κs = omega arith
 
 put-all-settings-requires-2 : tie.Need-put-all-settings-requires-2
-unfolding writtenProgram
-put-all-settings-requires-2 c κs =
-    let p = c .before .before .before in
-    let s = p .before .before .before .before .before .before .before .before .before .before in
-    room-second (settings s 1) (settings s 2) (steps s) (s .args .out .now) (s .pre) (p .put-all-settings .ensures)
+put-all-settings-requires-2 c κs = fill-within (c .before .before .before .put-all-settings .ensures) (omega arith)
 
 put-ordered-requires : tie.Need-put-ordered-requires
-unfolding writtenProgram
 put-ordered-requires c κs =
     let q = c .before .before .before in
-    let p = q .before .before .before .before in
-    let s = p .before .before .before .before .before .before .before .before .before .before in
-    room-third (settings s 1) (settings s 2) (steps s) (s .args .out .now) (s .pre)
-    (p .put-all-settings .ensures) (q .put-all-settings2 .ensures)
+    fill-within (q .put-all-settings2 .ensures) (fill-within (q .before .before .before .before .put-all-settings .ensures) (omega arith))
 
 same-length : tie.Need-same-length
 same-length c = search needs
@@ -51,9 +30,12 @@ returns c =
     let t = c .before .before in
     let q = t .before .before .before .before in
     let p = q .before .before .before .before in
-    let s = p .before .before .before .before .before .before .before .before .before .before in
-    put-three (settings s 1) (settings s 2) (steps s) (s .args .out .now) (s .pre)
-    (p .put-all-settings .ensures) (q .put-all-settings2 .ensures) (t .put-ordered .ensures)
+    let a = p .before .before .before .before .before .before .before .before .before .before .args in
+    let constants = whole-all-settings 1 (a .places .now) (a .lines .now) (a .bounds .now) (a .kinds .now) (a .slots .now) in
+    let initials = whole-all-settings 2 (a .places .now) (a .lines .now) (a .bounds .now) (a .kinds .now) (a .slots .now) in
+    let all = fill-both (p .put-all-settings .ensures) constants (fill-both (q .put-all-settings2 .ensures) initials (t .put-ordered .ensures)) in
+    let z = sub-zero (length (a .out .now)) in
+    (rw z at (all .behind) ∙ omega arith, rw z at (all .written))
 
 pub put-program-spec : {M : Type 1} → statement M
 put-program-spec =

@@ -3,7 +3,7 @@ use borrow.Author.Tests.{eq-eqb, ne-eqb}
 use borrow.Author.Needs.{needs}
 use lib.ListN.{getD}
 use Rattle.program.specs.Written.{fieldBytes, valueAt, settingAt}
-use Rattle.program.proofs.Puts.{put-as, put-none, room-record}
+use Rattle.program.proofs.Puts.{fill-as, fill-none}
 use Rattle.program.proofs.put_setting.Statement.{statement}
 use Rattle.program.proofs.put_setting.Tie as tie
 
@@ -23,11 +23,7 @@ here : (c : tie.Then1) → let a = c .before .before .before .before .before .be
 here c = rw (eq-eqb _ _ (sym (c .before .byte-at .ensures) ∙ c .if1 .taken))
 
 put-record-requires : tie.Need-put-record-requires
-put-record-requires c κs =
-    let t = c .before .before .before in
-    let s = t .before .before .before .before .before .before in
-    let a = s .args in
-    room-record (a .phase) _ (a .line) _ _ _ (here t) (s .pre .1)
+put-record-requires c κs = search needs
 
 same-length : tie.Need-same-length
 same-length c = search needs
@@ -36,12 +32,12 @@ returns : tie.Need-returns
 returns c =
     let v = c .before .before .before .before in
     let t = v .before .before in
-    put-as (here t) (rw (← (v .value-at .ensures), ← (v .before .word-at .ensures)) (c .before .before .put-record .ensures))
+    fill-as (here t) (rw (← (v .value-at .ensures), ← (v .before .word-at .ensures)) (c .before .before .put-record .ensures))
 
 returns-2 : tie.Need-returns-2
 returns-2 c =
-    let a = c .before .before .before .before .before .before .args in
-    put-none (a .w) (a .out .now) (rw (ne-eqb _ _ (λ e. c .if1 .left (c .before .byte-at .ensures ∙ e))))
+    let s = c .before .before .before .before .before .before in
+    fill-none (s .args .w) (s .args .out .now) (rw (ne-eqb _ _ (λ e. c .if1 .left (c .before .byte-at .ensures ∙ e))))
 
 pub put-setting-spec : {M : Type 1} → statement M
 put-setting-spec =

@@ -4,16 +4,15 @@ use mathlib.Core.Path.{_≡_, sym, _∙_}
 use native.Mathlib.Omega.{arith}
 use borrow.Author.Needs.{needs}
 use Rattle.laws.specs.Places.{gather}
-use Rattle.laws.proofs.Gathers.{Writes, writes-first, writes-room}
 use Rattle.program.specs.Written.{settingAt, settingsOf}
-use Rattle.program.proofs.Puts.{put-as, put-none, put-next, put-all}
-use Rattle.program.proofs.Parts.{settings-none, settings-some}
+use Rattle.program.proofs.Puts.{fill-as, fill-none, Filling, filling-first, filling-next, filling-all}
+use Rattle.program.proofs.Parts.{whole-setting, settings-none, settings-some}
 use Rattle.program.proofs.put_settings.Statement.{statement}
 use Rattle.program.proofs.put_settings.Tie as tie
 
 abbrev Inv-loop : tie.InvT-loop
 Inv-loop phase places lines bounds kinds slots j out₀ at i₀ line end w₀ out i w =
-    Writes (settingAt phase places kinds slots line) end i₀ i at w out₀ out
+    Filling (settingAt phase places kinds slots line) end i₀ i at w out₀ out
 
 abbrev μ-loop : tie.MeasureT-loop
 μ-loop phase places lines bounds kinds slots j out₀ at i₀ line end w₀ out i w = end - i
@@ -28,7 +27,7 @@ returns : tie.Need-returns Inv-loop μ-loop
 returns c =
     let h = c .before .before in
     let a = h .before .before .before .before .before .before .before .args in
-    put-none (a .at) (a .out .now)
+    fill-none (a .at) (a .out .now)
     (settings-none (a .phase) (a .places .now) (a .lines .now) (a .bounds .now) (a .kinds .now) (a .slots .now) (a .j)
     (h .half-at .ensures .0) (λ e. c .if1 .taken (c .before .byte-at .ensures ∙ e)))
 
@@ -44,12 +43,15 @@ half-at-requires-3 c κs = search needs
 setting-end-requires : tie.Need-setting-end-requires Inv-loop μ-loop
 setting-end-requires c κs = search needs
 
-loop-holds : tie.Need-loop-holds Inv-loop μ-loop
-loop-holds c = writes-first _ _ _ _ _
-
 -- where the function begins
 abbrev Start-of : tie.After-setting-end Inv-loop μ-loop → tie.Start Inv-loop μ-loop
 Start-of h = h .before .before .before .before .before .before .before .before .before .before .before .before
+
+loop-holds : tie.Need-loop-holds Inv-loop μ-loop
+loop-holds c =
+    let s = Start-of c in
+    let a = s .args in
+    filling-first _ _ _ _ _ (whole-setting (a .phase) (a .places .now) (a .kinds .now) (a .slots .now) (c .before .before .half-at2 .result)) (s .pre .1)
 
 -- the statement begins with a setting: it has what its places give, up to the last that can be one
 here : (h : tie.After-setting-end Inv-loop μ-loop) → let a = Start-of h .args in
@@ -66,11 +68,7 @@ here h =
     (h .setting-end .ensures .0) (sym (t .before .byte-at .ensures) ∙ t .if1 .left)
 
 put-setting-requires : tie.Need-put-setting-requires Inv-loop μ-loop
-put-setting-requires c κs =
-    let h = c .before .before .before in (
-      omega arith,
-      writes-room (c .before .before .loop .inv) (c .before .loop-test .taken) (rw (← (here h)) (Start-of h .pre .1)),
-    )
+put-setting-requires c κs = (omega arith, c .before .before .loop .inv .within)
 
 add-i : tie.Need-add-i Inv-loop μ-loop
 add-i c = search needs
@@ -81,13 +79,13 @@ loop-less c = search needs
 loop-again : tie.Need-loop-again Inv-loop μ-loop
 loop-again c =
     let t = c .before .before .before .before in
-    put-next (t .before .loop .inv) (t .loop-test .taken) (c .before .before .put-setting .ensures)
+    filling-next (t .before .loop .inv) (t .loop-test .taken) (c .before .before .put-setting .ensures)
 
 same-length : tie.Need-same-length Inv-loop μ-loop
 same-length c = c .before .loop .inv .long
 
 returns-2 : tie.Need-returns-2 Inv-loop μ-loop
-returns-2 c = put-as (here (c .before .before)) (put-all (c .before .loop .inv) (c .loop-test .left))
+returns-2 c = fill-as (here (c .before .before)) (filling-all (c .before .loop .inv) (c .loop-test .left))
 
 pub put-settings-spec : {M : Type 1} → statement M
 put-settings-spec =

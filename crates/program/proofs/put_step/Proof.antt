@@ -1,16 +1,13 @@
 use mathlib.Core.Path.{_≡_}
 use borrow.Author.Needs.{needs}
 use Rattle.program.specs.Written.{fieldBytes, stepBytes}
-use Rattle.program.proofs.Puts.{put-as, put-none, room-record}
+use Rattle.program.proofs.Puts.{fill-as, fill-none}
 use Rattle.program.proofs.Parts.{step-value, step-clock, step-below, step-above, step-plain}
 use Rattle.program.proofs.put_step.Statement.{statement}
 use Rattle.program.proofs.put_step.Tie as tie
 
 put-record-requires : tie.Need-put-record-requires
-put-record-requires c κs =
-    let s = c .before .before .before in
-    let a = s .args in
-    room-record 3 0 (a .line) (a .arg) _ _ (step-value (a .kind) (a .arg) (a .line) (c .before .if1 .taken)) (s .pre)
+put-record-requires c κs = search needs
 
 same-length : tie.Need-same-length
 same-length c = search needs
@@ -19,14 +16,10 @@ returns : tie.Need-returns
 returns c =
     let t = c .before .before .before .before in
     let a = t .before .before .args in
-    put-as (step-value (a .kind) (a .arg) (a .line) (t .if1 .taken)) (c .before .before .put-record .ensures)
+    fill-as (step-value (a .kind) (a .arg) (a .line) (t .if1 .taken)) (c .before .before .put-record .ensures)
 
 put-record-requires-2 : tie.Need-put-record-requires-2
-put-record-requires-2 c κs =
-    let t = c .before in
-    let s = t .before .before .before in
-    let a = s .args in
-    room-record 4 0 (a .line) 0 _ _ (step-clock (a .kind) (a .arg) (a .line) (t .before .if1 .left) (t .if2 .taken)) (s .pre)
+put-record-requires-2 c κs = search needs
 
 same-length-2 : tie.Need-same-length-2
 same-length-2 c = search needs
@@ -35,18 +28,18 @@ returns-2 : tie.Need-returns-2
 returns-2 c =
     let t = c .before .before .before .before in
     let a = t .before .before .before .args in
-    put-as (step-clock (a .kind) (a .arg) (a .line) (t .before .if1 .left) (t .if2 .taken)) (c .before .before .put-record2 .ensures)
+    fill-as (step-clock (a .kind) (a .arg) (a .line) (t .before .if1 .left) (t .if2 .taken)) (c .before .before .put-record2 .ensures)
 
 returns-3 : tie.Need-returns-3
 returns-3 c =
     let a = c .before .before .before .before .args in
-    put-none (a .w) (a .out .now) (step-below (a .kind) (a .arg) (a .line) (c .before .before .if1 .left) (c .before .if2 .left) (c .if3 .taken))
+    fill-none (a .w) (a .out .now) (step-below (a .kind) (a .arg) (a .line) (c .before .before .if1 .left) (c .before .if2 .left) (c .if3 .taken))
 
 returns-4 : tie.Need-returns-4
 returns-4 c =
     let t = c .before .before in
     let a = t .before .before .before .args in
-    put-none (a .w) (a .out .now) (step-above (a .kind) (a .arg) (a .line) (t .before .if1 .left) (t .if2 .left) (c .if4 .taken))
+    fill-none (a .w) (a .out .now) (step-above (a .kind) (a .arg) (a .line) (t .before .if1 .left) (t .if2 .left) (c .if4 .taken))
 
 -- behind all tests the kind is one that is written as it is
 plain : (c : tie.Else4) → let a = c .before .before .before .before .before .args in
@@ -57,16 +50,13 @@ plain c =
     step-plain (a .kind) (a .arg) (a .line) (t .before .if1 .left) (t .if2 .left) (c .before .if3 .left) (c .if4 .left)
 
 put-record-requires-3 : tie.Need-put-record-requires-3
-put-record-requires-3 c κs =
-    let s = c .before .before .before .before .before .before in
-    let a = s .args in
-    room-record (a .kind) (a .arg) (a .line) 0 _ _ (plain (c .before)) (s .pre)
+put-record-requires-3 c κs = search needs
 
 same-length-3 : tie.Need-same-length-3
 same-length-3 c = search needs
 
 returns-5 : tie.Need-returns-5
-returns-5 c = put-as (plain (c .before .before .before .before)) (c .before .before .put-record3 .ensures)
+returns-5 c = fill-as (plain (c .before .before .before .before)) (c .before .before .put-record3 .ensures)
 
 pub put-step-spec : {M : Type 1} → statement M
 put-step-spec =

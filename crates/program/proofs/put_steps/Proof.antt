@@ -1,14 +1,14 @@
 -- The loop goes over the places of the statement.
 use Prim.Native.Nat.{_-_}
 use borrow.Author.Needs.{needs}
-use Rattle.laws.proofs.Gathers.{Writes, writes-first, writes-room}
 use Rattle.program.specs.Written.{stepAt}
-use Rattle.program.proofs.Puts.{put-next, put-all}
+use Rattle.program.proofs.Puts.{Filling, filling-first, filling-next, filling-all}
+use Rattle.program.proofs.Parts.{whole-step-at}
 use Rattle.program.proofs.put_steps.Statement.{statement}
 use Rattle.program.proofs.put_steps.Tie as tie
 
 abbrev Inv-loop : tie.InvT-loop
-Inv-loop lines bounds kinds slots j out₀ at line end i₀ w₀ out i w = Writes (stepAt kinds slots line) end i₀ i at w out₀ out
+Inv-loop lines bounds kinds slots j out₀ at line end i₀ w₀ out i w = Filling (stepAt kinds slots line) end i₀ i at w out₀ out
 
 abbrev μ-loop : tie.MeasureT-loop
 μ-loop lines bounds kinds slots j out₀ at line end i₀ w₀ out i w = end - i
@@ -26,7 +26,9 @@ half-at-requires-3 : tie.Need-half-at-requires-3 Inv-loop μ-loop
 half-at-requires-3 c κs = search needs
 
 loop-holds : tie.Need-loop-holds Inv-loop μ-loop
-loop-holds c = writes-first _ _ _ _ _
+loop-holds c =
+    let s = c .before .before .before .before .before .before .before .before in
+    filling-first _ _ _ _ _ (whole-step-at (s .args .kinds .now) (s .args .slots .now) (c .before .before .half-at .result)) (s .pre .1)
 
 byte-at-requires : tie.Need-byte-at-requires Inv-loop μ-loop
 byte-at-requires c κs = search needs
@@ -35,13 +37,7 @@ word-at-requires : tie.Need-word-at-requires Inv-loop μ-loop
 word-at-requires c κs = search needs
 
 put-step-requires : tie.Need-put-step-requires Inv-loop μ-loop
-put-step-requires c κs =
-    let t = c .before .before .before in
-    let h = t .before .before in
-    let s = h .before .before .before .before .before .before .before .before in
-    rw (c .before .word-at .ensures, c .before .before .byte-at .ensures)
-    (writes-room (t .before .loop .inv) (t .loop-test .taken)
-    (rw (h .half-at3 .ensures .0, h .before .half-at2 .ensures .0, h .before .before .half-at .ensures .0) (s .pre .1)))
+put-step-requires c κs = c .before .before .before .before .loop .inv .within
 
 add-i : tie.Need-add-i Inv-loop μ-loop
 add-i c = search needs
@@ -53,7 +49,7 @@ loop-again : tie.Need-loop-again Inv-loop μ-loop
 loop-again c =
     let d = c .before .before .before .before in
     let t = d .before .before in
-    put-next (t .before .loop .inv) (t .loop-test .taken)
+    filling-next (t .before .loop .inv) (t .loop-test .taken)
     (rw (← (d .word-at .ensures), ← (d .before .byte-at .ensures)) (c .before .before .put-step .ensures))
 
 same-length : tie.Need-same-length Inv-loop μ-loop
@@ -63,7 +59,7 @@ returns : tie.Need-returns Inv-loop μ-loop
 returns c =
     let h = c .before .before in
     rw (← (h .half-at3 .ensures .0), ← (h .before .half-at2 .ensures .0), ← (h .before .before .half-at .ensures .0))
-    (put-all (c .before .loop .inv) (c .loop-test .left))
+    (filling-all (c .before .loop .inv) (c .loop-test .left))
 
 pub put-steps-spec : {M : Type 1} → statement M
 put-steps-spec =

@@ -1,7 +1,7 @@
 -- The records are too many, or too many for the room; or the program is written.
 use mathlib.Core.Path.{refl}
 use borrow.Author.Needs.{needs}
-use Rattle.translator.proofs.Writing.{front, places-room, rows-room, order-room, program-fits, says-eight, says-zero}
+use Rattle.translator.proofs.Writing.{front, places-room, rows-room, order-room, says-eight, says-zero}
 use Rattle.translator.proofs.finish.write_program.Statement.{statement}
 use Rattle.translator.proofs.finish.write_program.Tie as tie
 
@@ -28,11 +28,7 @@ slice-aggregate-put-program-3 c =
     front (s .args .plan .equations) (s .args .order .now) (order-room (s .pre))
 
 put-program-requires : tie.Need-put-program-requires
-put-program-requires c κs =
-    let test = c .before .before .before .before in
-    let k = test .before in
-    let s = S k in
-    program-fits (s .pre) (s .args .out .now) (k .is-over .ensures) refl refl refl (test .if1 .left)
+put-program-requires c κs = search needs
 
 same-length : tie.Need-same-length
 same-length c = search needs

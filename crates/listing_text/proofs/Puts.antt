@@ -1,0 +1,38 @@
+-- Laws of what is put: nothing, one part behind another, what a loop writes.
+use Prim.Native.Nat.{ℕ, _+_, _-_, _≤_, _<_}
+use mathlib.Core.Path.{_≡_, _∙_}
+use mathlib.Core.List.{List, [], _++_}
+use native.Mathlib.Nat.{sub-zero}
+use native.Mathlib.Omega.{arith}
+use lib.ListN.{length-append}
+use Rattle.laws.specs.Places.{gather}
+use Rattle.laws.specs.Put.{Put}
+use Rattle.laws.proofs.Sets.{sets-append}
+use Rattle.laws.proofs.Gathers.{Writes, writes-next, writes-count, writes-all}
+
+-- where there is nothing to write, nothing is
+pub put-none : {what : List ℕ} (w : ℕ) (buf : List ℕ) → what ≡ [] → Put what w w buf buf
+put-none w buf e = record { behind = rw e (omega arith); written = rw e }
+
+-- what is put under another name
+pub put-as : {x y : List ℕ} {w r : ℕ} {b b₁ : List ℕ} → x ≡ y → Put y w r b b₁ → Put x w r b b₁
+put-as e p = rw e p
+
+-- one part and then another, where the first ended
+pub put-both : {x y : List ℕ} {w m r : ℕ} {b b₁ b₂ : List ℕ} → Put x w m b b₁ → Put y m r b₁ b₂ → Put (x ++ y) w r b b₂
+put-both {x} {y} {w} {b = b} p q =
+    record { behind = omega (arith, p .behind, q .behind, length-append x y); written = q .written ∙ rw (p .written, p .behind, sets-append b w x y) }
+
+-- ---- a loop that writes
+module _ {f : ℕ → List ℕ} {n i w₀ w : ℕ} {buf₀ buf : List ℕ} where
+  -- what one place gives
+  pub put-next : {a r : ℕ} {last : List ℕ} → Writes f n a i w₀ w buf₀ buf → i < n → Put (f i) w r buf last → Writes f n a (i + 1) w₀ r buf₀ last
+  put-next {r = r} {last = last} v h p = writes-next v h r last (p .behind) (p .written)
+
+  -- what all give
+  put-all : {a : ℕ} → Writes f n a i w₀ w buf₀ buf → n ≤ i → Put (gather f (n - a) a) w₀ w buf₀ buf
+  put-all v h = record { behind = writes-count v h; written = writes-all v h }
+
+  -- the same from place 0 on
+  pub put-whole : Writes f n 0 i w₀ w buf₀ buf → n ≤ i → Put (gather f n 0) w₀ w buf₀ buf
+  put-whole v h = rw (sub-zero n) at (put-all v h)
