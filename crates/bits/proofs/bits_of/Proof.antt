@@ -12,8 +12,5 @@ returns : tie.Need-returns
 unfolding Ieee.toBits
 returns c = rw (differs-from-itself (c .before .args .x) (rw (c .if1 .taken) tt))
 
-returns-2 : tie.Need-returns-2
-returns-2 c = search needs
-
 pub bits-of-spec : {M : Type 1} → statement M
-bits-of-spec = tie.close (tie.spec float-to-bits-result returns returns-2)
+bits-of-spec = tie.close (tie.spec float-to-bits-result returns (λ c. search needs))

@@ -17,8 +17,5 @@ returns c =
     is-nan (Ieee.ofBits Ieee.binary64 b)
     (sym (nanBits-is Ieee.binary64 b) ∙ nanBits-above Ieee.binary64 b ∙ lt-ltb 0x7ff0_0000_0000_0000 _ (c .if1 .taken))
 
-returns-2 : tie.Need-returns-2
-returns-2 c = search needs
-
 pub float-of-spec : {M : Type 1} → statement M
-float-of-spec = tie.close (tie.spec float-from-bits-result returns returns-2)
+float-of-spec = tie.close (tie.spec float-from-bits-result returns (λ c. search needs))

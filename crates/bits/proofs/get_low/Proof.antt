@@ -12,25 +12,13 @@ Inv-loop part n word₀ i₀ word i = Reading part (min n 8) i word
 abbrev μ-loop : tie.MeasureT-loop
 μ-loop part n word₀ i₀ word i = i
 
-least-requires : tie.Need-least-requires Inv-loop μ-loop
-least-requires c κs = search needs
-
-least-requires-2 : tie.Need-least-requires-2 Inv-loop μ-loop
-least-requires-2 c κs = search needs
-
 loop-holds : tie.Need-loop-holds Inv-loop μ-loop
 loop-holds c =
     let s = c .before .before .before in
     reading-first (s .args .part .now) (min (s .args .n) 8) (c .least2 .result) (omega (arith, c .least2 .ensures, c .before .least .ensures))
 
-sub-i : tie.Need-sub-i Inv-loop μ-loop
-sub-i c = search needs
-
 shared-slice-read-wide : tie.Need-shared-slice-read-wide Inv-loop μ-loop
 shared-slice-read-wide c = omega arith
-
-wide-requires : tie.Need-wide-requires Inv-loop μ-loop
-wide-requires c κs = search needs
 
 -- the number read so far has a byte's room left
 small : (c : tie.After-wide Inv-loop μ-loop) → c .before .before .before .loop .word < 256 ^ 7
@@ -45,9 +33,6 @@ mul-word c = omega (arith, small c)
 
 add-word : tie.Need-add-word Inv-loop μ-loop
 add-word c = omega (arith, small c)
-
-loop-less : tie.Need-loop-less Inv-loop μ-loop
-loop-less c = search needs
 
 loop-again : tie.Need-loop-again Inv-loop μ-loop
 loop-again c =
@@ -68,14 +53,14 @@ get-low-spec =
     (tie.spec
     Inv-loop
     μ-loop
-    least-requires
-    least-requires-2
+    (λ c κs. search needs)
+    (λ c κs. search needs)
     loop-holds
-    sub-i
+    (λ c. search needs)
     shared-slice-read-wide
-    wide-requires
+    (λ c κs. search needs)
     mul-word
     add-word
-    loop-less
+    (λ c. search needs)
     loop-again
     returns)

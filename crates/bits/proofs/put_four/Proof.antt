@@ -10,20 +10,8 @@ use Rattle.bits.proofs.put_four.Tie as tie
 room : (c : tie.Then1) → c .before .before .before .args .at + 4 ≤ length (c .before .before .before .args .buf .now)
 room c = room-is _ _ (c .before .has-room .ensures) (c .if1 .taken)
 
-has-room-requires : tie.Need-has-room-requires
-has-room-requires c κs = search needs
-
-put-two-requires : tie.Need-put-two-requires
-put-two-requires c κs = search needs
-
 add-put-two : tie.Need-add-put-two
 add-put-two c = omega (arith, room (c .before .before .before .before .before))
-
-put-two-requires-2 : tie.Need-put-two-requires-2
-put-two-requires-2 c κs = search needs
-
-same-length : tie.Need-same-length
-same-length c = search needs
 
 returns : tie.Need-returns
 returns c =
@@ -32,25 +20,16 @@ returns c =
     let s = p .before .before .before .before .before in
     low-both _ _ _ (s .args .at) 2 2 (s .args .v) (p .put-two .ensures) (q .put-two2 .ensures)
 
-put-low-requires : tie.Need-put-low-requires
-put-low-requires c κs = search needs
-
-same-length-2 : tie.Need-same-length-2
-same-length-2 c = search needs
-
-returns-2 : tie.Need-returns-2
-returns-2 c = search needs
-
 pub put-four-spec : {M : Type 1} → statement M
 put-four-spec =
     tie.close
     (tie.spec
-    has-room-requires
-    put-two-requires
+    (λ c κs. search needs)
+    (λ c κs. search needs)
     add-put-two
-    put-two-requires-2
-    same-length
+    (λ c κs. search needs)
+    (λ c. search needs)
     returns
-    put-low-requires
-    same-length-2
-    returns-2)
+    (λ c κs. search needs)
+    (λ c. search needs)
+    (λ c. search needs))

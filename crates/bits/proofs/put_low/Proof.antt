@@ -14,9 +14,6 @@ Inv-loop buf₀ at n v count rest₀ i₀ buf rest i = (count ≡ min (length bu
 abbrev μ-loop : tie.MeasureT-loop
 μ-loop buf₀ at n v count rest₀ i₀ buf rest i = count - i
 
-room-requires : tie.Need-room-requires Inv-loop μ-loop
-room-requires c κs = search needs
-
 loop-holds : tie.Need-loop-holds Inv-loop μ-loop
 loop-holds c =
     let s = c .before .before in
@@ -45,9 +42,6 @@ loop-again c =
       writing-next (s .args .buf .now) (a .loop .buf) (s .args .at) (s .args .n) (s .args .v) (a .loop .rest) (a .loop .i) (omega arith) (a .loop .inv .1),
     )
 
-same-length : tie.Need-same-length Inv-loop μ-loop
-same-length c = search needs
-
 returns : tie.Need-returns Inv-loop μ-loop
 returns c =
     let a = c .before in
@@ -60,7 +54,7 @@ put-low-spec =
     (tie.spec
     Inv-loop
     μ-loop
-    room-requires
+    (λ c κs. search needs)
     loop-holds
     cast-buf
     add-buf
@@ -68,5 +62,5 @@ put-low-spec =
     add-i
     loop-less
     loop-again
-    same-length
+    (λ c. search needs)
     returns)

@@ -12,17 +12,8 @@ use Rattle.bits.proofs.put_two.Tie as tie
 room : (c : tie.Then1) → c .before .before .before .args .at + 2 ≤ length (c .before .before .before .args .buf .now)
 room c = room-is _ _ (c .before .has-room .ensures) (c .if1 .taken)
 
-has-room-requires : tie.Need-has-room-requires
-has-room-requires c κs = search needs
-
-cast-buf : tie.Need-cast-buf
-cast-buf c = search needs
-
 slice-write-buf : tie.Need-slice-write-buf
 slice-write-buf c = omega (arith, room c)
-
-cast-buf-2 : tie.Need-cast-buf-2
-cast-buf-2 c = search needs
 
 add-buf : tie.Need-add-buf
 add-buf c = omega (arith, room c)
@@ -30,34 +21,22 @@ add-buf c = omega (arith, room c)
 slice-write-buf-2 : tie.Need-slice-write-buf-2
 slice-write-buf-2 c = simp length-set (omega (arith, room c))
 
-same-length : tie.Need-same-length
-same-length c = search needs
-
 returns : tie.Need-returns
 unfolding lowBytes
 returns c = rw add-one
-
-put-low-requires : tie.Need-put-low-requires
-put-low-requires c κs = search needs
-
-same-length-2 : tie.Need-same-length-2
-same-length-2 c = search needs
-
-returns-2 : tie.Need-returns-2
-returns-2 c = search needs
 
 pub put-two-spec : {M : Type 1} → statement M
 put-two-spec =
     tie.close
     (tie.spec
-    has-room-requires
-    cast-buf
+    (λ c κs. search needs)
+    (λ c. search needs)
     slice-write-buf
-    cast-buf-2
+    (λ c. search needs)
     add-buf
     slice-write-buf-2
-    same-length
+    (λ c. search needs)
     returns
-    put-low-requires
-    same-length-2
-    returns-2)
+    (λ c κs. search needs)
+    (λ c. search needs)
+    (λ c. search needs))

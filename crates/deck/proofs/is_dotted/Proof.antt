@@ -5,15 +5,9 @@ use Rattle.deck.specs.Lines.{dotsAt, dotted}
 use Rattle.deck.proofs.is_dotted.Statement.{statement}
 use Rattle.deck.proofs.is_dotted.Tie as tie
 
-trim-requires : tie.Need-trim-requires
-trim-requires c κs = search needs
-
-dots-at-requires : tie.Need-dots-at-requires
-dots-at-requires c κs = search needs
-
 returns : tie.Need-returns
 unfolding dotted
 returns c = c .dots-at .ensures ∙ ap (dotsAt (c .before .before .before .args .line .now)) (c .before .trim .ensures .0)
 
 pub is-dotted-spec : {M : Type 1} → statement M
-is-dotted-spec = tie.close (tie.spec trim-requires dots-at-requires returns)
+is-dotted-spec = tie.close (tie.spec (λ c κs. search needs) (λ c κs. search needs) returns)

@@ -7,17 +7,11 @@ use Rattle.deck.specs.Lines.{starred, passed}
 use Rattle.deck.proofs.is_passed.Statement.{statement}
 use Rattle.deck.proofs.is_passed.Tie as tie
 
-trim-requires : tie.Need-trim-requires
-trim-requires c κs = search needs
-
 returns : tie.Need-returns
 unfolding passed
 returns c =
     let l = c .before .before .before .args .line .now in
     rw (← (c .before .trim .ensures .0), eq-eqb _ _ (c .if1 .taken)) (sym (or-true (starred l)))
-
-shared-slice-read-result : tie.Need-shared-slice-read-result
-shared-slice-read-result c = search needs
 
 returns-2 : tie.Need-returns-2
 unfolding passed
@@ -26,4 +20,4 @@ returns-2 c =
     rw (← (c .before .before .trim .ensures .0), ne-eqb _ _ (c .before .if1 .left)) (sym (or-false (starred l)))
 
 pub is-passed-spec : {M : Type 1} → statement M
-is-passed-spec = tie.close (tie.spec trim-requires returns shared-slice-read-result returns-2)
+is-passed-spec = tie.close (tie.spec (λ c κs. search needs) returns (λ c. search needs) returns-2)

@@ -18,27 +18,6 @@ returns-2 c =
     let a = c .before .before .before .before .args in
     join-none (a .text .now) (a .start) (a .cards) (a .out .now) (cards-end (a .text .now) (a .start) (a .cards) (c .if2 .taken))
 
-line-end-requires : tie.Need-line-end-requires
-line-end-requires c κs = search needs
-
-sub-put-part : tie.Need-sub-put-part
-sub-put-part c = search needs
-
-part-put-part-start : tie.Need-part-put-part-start
-part-put-part-start c = search needs
-
-part-put-part-end : tie.Need-part-put-part-end
-part-put-part-end c = search needs
-
-put-part-requires : tie.Need-put-part-requires
-put-part-requires c κs = search needs
-
-add-join-spaced : tie.Need-add-join-spaced
-add-join-spaced c = search needs
-
-sub-join-spaced : tie.Need-sub-join-spaced
-sub-join-spaced c = search needs
-
 -- the first line
 line : (c : tie.After-line-end) → let a = c .before .before .before .before .before .args in LineAt (a .text .now) (a .start) (c .line-end .result)
 line c =
@@ -52,9 +31,6 @@ join-spaced-requires c κs =
     let a = e .before .before .before .before .before .args in
     let l = line e in
     omega (arith, p .put-part .ensures .0, l .long, l .from, part-le (lineOf (a .text .now) (a .start) (e .line-end .result)))
-
-same-length : tie.Need-same-length
-same-length c = search needs
 
 returns-3 : tie.Need-returns-3
 returns-3 c =
@@ -72,13 +48,13 @@ join-spec =
     (tie.spec
     returns
     returns-2
-    line-end-requires
-    sub-put-part
-    part-put-part-start
-    part-put-part-end
-    put-part-requires
-    add-join-spaced
-    sub-join-spaced
+    (λ c κs. search needs)
+    (λ c. search needs)
+    (λ c. search needs)
+    (λ c. search needs)
+    (λ c κs. search needs)
+    (λ c. search needs)
+    (λ c. search needs)
     join-spaced-requires
-    same-length
+    (λ c. search needs)
     returns-3)

@@ -28,18 +28,6 @@ returns c =
     let z = cards-end (a .text .now) (b .loop .at) (b .loop .left) (c .if1 .taken) in
     joining-last (a .text .now) (a .start) (a .cards) (a .to) (a .out .now) (b .loop .out) (b .loop .at) (b .loop .left) (b .loop .w) (b .loop .inv) z
 
-line-end-requires : tie.Need-line-end-requires Inv-loop μ-loop
-line-end-requires c κs = search needs
-
-sub-put-spaced : tie.Need-sub-put-spaced Inv-loop μ-loop
-sub-put-spaced c = search needs
-
-part-put-spaced-start : tie.Need-part-put-spaced-start Inv-loop μ-loop
-part-put-spaced-start c = search needs
-
-part-put-spaced-end : tie.Need-part-put-spaced-end Inv-loop μ-loop
-part-put-spaced-end c = search needs
-
 -- the line that the loop has reached
 line : (c : tie.After-line-end Inv-loop μ-loop) →
     LineAt (c .before .before .before .before .before .before .args .text .now) (c .before .before .before .loop .at) (c .line-end .result)
@@ -49,15 +37,6 @@ put-spaced-requires : tie.Need-put-spaced-requires Inv-loop μ-loop
 put-spaced-requires c κs =
     let e = c .before .before in
     omega (arith, line e .long)
-
-add-at : tie.Need-add-at Inv-loop μ-loop
-add-at c = search needs
-
-sub-left : tie.Need-sub-left Inv-loop μ-loop
-sub-left c = search needs
-
-loop-less : tie.Need-loop-less Inv-loop μ-loop
-loop-less c = search needs
 
 loop-again : tie.Need-loop-again Inv-loop μ-loop
 loop-again c =
@@ -87,14 +66,14 @@ join-spaced-spec =
     loop-holds
     same-length
     returns
-    line-end-requires
-    sub-put-spaced
-    part-put-spaced-start
-    part-put-spaced-end
+    (λ c κs. search needs)
+    (λ c. search needs)
+    (λ c. search needs)
+    (λ c. search needs)
     put-spaced-requires
-    add-at
-    sub-left
-    loop-less
+    (λ c. search needs)
+    (λ c. search needs)
+    (λ c. search needs)
     loop-again
     same-length-2
     returns-2)

@@ -18,21 +18,12 @@ abbrev μ-loop : tie.MeasureT-loop
 loop-holds : tie.Need-loop-holds Inv-loop μ-loop
 loop-holds c = passes-both (c .before .pass .ensures) (c .pass2 .ensures)
 
-shared-slice-read-if1 : tie.Need-shared-slice-read-if1 Inv-loop μ-loop
-shared-slice-read-if1 c = search needs
-
 returns : tie.Need-returns Inv-loop μ-loop
 returns c =
     let b = c .before .before .before in
     let w = b .loop .inv in
     let m = width-ten (b .before .before .before .before .args .text .now) (b .loop .i) (c .before .before .loop-test .taken) (c .if1 .taken) in
     omega (arith, w .same, w .from, w .upto, m)
-
-add-i : tie.Need-add-i Inv-loop μ-loop
-add-i c = search needs
-
-loop-less : tie.Need-loop-less Inv-loop μ-loop
-loop-less c = search needs
 
 loop-again : tie.Need-loop-again Inv-loop μ-loop
 loop-again c =
@@ -57,9 +48,9 @@ line-end-spec =
     (λ c κs. search needs)
     (λ c κs. (c .pass .ensures .upto, search needs))
     loop-holds
-    shared-slice-read-if1
+    (λ c. search needs)
     returns
-    add-i
-    loop-less
+    (λ c. search needs)
+    (λ c. search needs)
     loop-again
     returns-2)

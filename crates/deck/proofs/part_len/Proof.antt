@@ -8,12 +8,6 @@ use Rattle.deck.proofs.Parts.{dots-three, part-dotted, part-plain}
 use Rattle.deck.proofs.part_len.Statement.{statement}
 use Rattle.deck.proofs.part_len.Tie as tie
 
-trim-requires : tie.Need-trim-requires
-trim-requires c κs = search needs
-
-dots-at-requires : tie.Need-dots-at-requires
-dots-at-requires c κs = search needs
-
 -- what the test says of the line
 told : {b : Bool} (c : tie.After-dots-at) → c .dots-at .result ≡ b → dotted (c .before .before .before .args .line .now) ≡ b
 unfolding dotted
@@ -33,4 +27,4 @@ returns-2 : tie.Need-returns-2
 returns-2 c = sym (part-plain (c .before .before .before .before .args .line .now) (told (c .before) (c .if1 .left)))
 
 pub part-len-spec : {M : Type 1} → statement M
-part-len-spec = tie.close (tie.spec trim-requires dots-at-requires sub-result returns returns-2)
+part-len-spec = tie.close (tie.spec (λ c κs. search needs) (λ c κs. search needs) sub-result returns returns-2)

@@ -10,9 +10,6 @@ use Rattle.deck.proofs.Parts.{part-le, part-take}
 use Rattle.deck.proofs.put_part.Statement.{statement}
 use Rattle.deck.proofs.put_part.Tie as tie
 
-part-len-requires : tie.Need-part-len-requires
-part-len-requires c κs = search needs
-
 -- the length is within the line
 within : (c : tie.After-part-len) → c .part-len .result ≤ length (c .before .before .before .args .line .now)
 within c = omega (arith, part-le (c .before .before .before .args .line .now), c .part-len .ensures)
@@ -24,14 +21,8 @@ whole c = rw (c .part-len .ensures) (part-take (c .before .before .before .args 
 slice-aggregate-copy : tie.Need-slice-aggregate-copy
 slice-aggregate-copy c = sym (length-take-le (c .before .part-len .result) (c .before .before .before .before .args .line .now) (within (c .before)))
 
-copy-requires : tie.Need-copy-requires
-copy-requires c κs = search needs
-
 add-result : tie.Need-add-result
 add-result c = omega (arith, within (c .before .before .before .before .before))
-
-same-length : tie.Need-same-length
-same-length c = search needs
 
 returns : tie.Need-returns
 returns c =
@@ -42,4 +33,4 @@ returns c =
 pub put-part-spec : {M : Type 1} → statement M
 put-part-spec =
     tie.close
-    (tie.spec part-len-requires slice-aggregate-copy copy-requires add-result same-length returns)
+    (tie.spec (λ c κs. search needs) slice-aggregate-copy (λ c κs. search needs) add-result (λ c. search needs) returns)

@@ -5,21 +5,6 @@ use borrow.Author.Needs.{needs}
 use Rattle.deck.proofs.put_spaced.Statement.{statement}
 use Rattle.deck.proofs.put_spaced.Tie as tie
 
-slice-aggregate-copy : tie.Need-slice-aggregate-copy
-slice-aggregate-copy c = search needs
-
-copy-requires : tie.Need-copy-requires
-copy-requires c κs = search needs
-
-add-put-part : tie.Need-add-put-part
-add-put-part c = search needs
-
-put-part-requires : tie.Need-put-part-requires
-put-part-requires c κs = search needs
-
-same-length : tie.Need-same-length
-same-length c = search needs
-
 returns : tie.Need-returns
 returns c =
     let p = c .before .before in
@@ -28,4 +13,4 @@ returns c =
 pub put-spaced-spec : {M : Type 1} → statement M
 put-spaced-spec =
     tie.close
-    (tie.spec slice-aggregate-copy copy-requires add-put-part put-part-requires same-length returns)
+    (tie.spec (λ c. search needs) (λ c κs. search needs) (λ c. search needs) (λ c κs. search needs) (λ c. search needs) returns)

@@ -22,30 +22,6 @@ loop-holds c =
     let s = c .before in
     running-first (s .args .text .now) (s .args .first) (s .args .start) (s .args .end) (s .pre .0) (s .pre .2)
 
-sub-card : tie.Need-sub-card Inv-loop μ-loop
-sub-card c = search needs
-
-part-card-start : tie.Need-part-card-start Inv-loop μ-loop
-part-card-start c = search needs
-
-part-card-end : tie.Need-part-card-end Inv-loop μ-loop
-part-card-end c = search needs
-
-sub-long : tie.Need-sub-long Inv-loop μ-loop
-sub-long c = search needs
-
-add-cards : tie.Need-add-cards Inv-loop μ-loop
-add-cards c = search needs
-
-add-at : tie.Need-add-at Inv-loop μ-loop
-add-at c = search needs
-
-is-dotted-requires : tie.Need-is-dotted-requires Inv-loop μ-loop
-is-dotted-requires c κs = search needs
-
-answer-requires : tie.Need-answer-requires Inv-loop μ-loop
-answer-requires c κs = search needs
-
 returns : tie.Need-returns Inv-loop μ-loop
 returns c =
     let b = c .before .before .before .before in
@@ -59,21 +35,12 @@ more : (c : tie.Else1 Inv-loop μ-loop) →
     let b = c .before .before .before in dotted (lineOf (b .before .before .args .text .now) (b .loop .at) (b .loop .e)) ≡ true
 more c = sym (c .before .is-dotted .ensures) ∙ not-false _ (c .if1 .left)
 
-answer-requires-2 : tie.Need-answer-requires-2 Inv-loop μ-loop
-answer-requires-2 c κs = search needs
-
 returns-2 : tie.Need-returns-2 Inv-loop μ-loop
 returns-2 c =
     let b = c .before .before .before .before .before in
     let a = b .before .before .args in
     running-end (a .text .now) (a .first) (a .start) (b .loop .at) (b .loop .e) (b .loop .cards) (b .loop .long) (b .loop .inv)
     (c .answer2 .result) (more (c .before .before)) (c .before .if2 .taken) (c .answer2 .ensures)
-
-line-end-requires : tie.Need-line-end-requires Inv-loop μ-loop
-line-end-requires c κs = search needs
-
-loop-less : tie.Need-loop-less Inv-loop μ-loop
-loop-less c = search needs
 
 loop-again : tie.Need-loop-again Inv-loop μ-loop
 loop-again c =
@@ -89,17 +56,17 @@ run-spec =
     Inv-loop
     μ-loop
     loop-holds
-    sub-card
-    part-card-start
-    part-card-end
-    sub-long
-    add-cards
-    add-at
-    is-dotted-requires
-    answer-requires
+    (λ c. search needs)
+    (λ c. search needs)
+    (λ c. search needs)
+    (λ c. search needs)
+    (λ c. search needs)
+    (λ c. search needs)
+    (λ c κs. search needs)
+    (λ c κs. search needs)
     returns
-    answer-requires-2
+    (λ c κs. search needs)
     returns-2
-    line-end-requires
-    loop-less
+    (λ c κs. search needs)
+    (λ c. search needs)
     loop-again)

@@ -16,27 +16,6 @@ abbrev μ-loop : tie.MeasureT-loop
 loop-holds : tie.Need-loop-holds Inv-loop μ-loop
 loop-holds c = counting-first (c .before .args .text .now)
 
-line-end-requires : tie.Need-line-end-requires Inv-loop μ-loop
-line-end-requires c κs = search needs
-
-sub-counted : tie.Need-sub-counted Inv-loop μ-loop
-sub-counted c = search needs
-
-part-counted-start : tie.Need-part-counted-start Inv-loop μ-loop
-part-counted-start c = search needs
-
-part-counted-end : tie.Need-part-counted-end Inv-loop μ-loop
-part-counted-end c = search needs
-
-counted-requires : tie.Need-counted-requires Inv-loop μ-loop
-counted-requires c κs = search needs
-
-add-at : tie.Need-add-at Inv-loop μ-loop
-add-at c = search needs
-
-loop-less : tie.Need-loop-less Inv-loop μ-loop
-loop-less c = search needs
-
 loop-again : tie.Need-loop-again Inv-loop μ-loop
 loop-again c =
     let e = c .before .before in
@@ -57,12 +36,12 @@ survey-spec =
     Inv-loop
     μ-loop
     loop-holds
-    line-end-requires
-    sub-counted
-    part-counted-start
-    part-counted-end
-    counted-requires
-    add-at
-    loop-less
+    (λ c κs. search needs)
+    (λ c. search needs)
+    (λ c. search needs)
+    (λ c. search needs)
+    (λ c κs. search needs)
+    (λ c. search needs)
+    (λ c. search needs)
     loop-again
     returns)

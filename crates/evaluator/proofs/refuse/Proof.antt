@@ -4,25 +4,16 @@ use Rattle.evaluator.proofs.Entries.{short-values, short-derivs, ragged
 use Rattle.evaluator.proofs.refuse.Statement.{statement}
 use Rattle.evaluator.proofs.refuse.Tie as tie
 
-tell-requires : tie.Need-tell-requires
-tell-requires c κs = search needs
-
 returns : tie.Need-returns
 returns c =
     let a = c .before .before .before .before .before .args in
     c .tell .ensures ∙ short-values (a .program .now) (a .values .now) (a .derivs .now) (c .before .if1 .taken)
-
-tell-requires-2 : tie.Need-tell-requires-2
-tell-requires-2 c κs = search needs
 
 returns-2 : tie.Need-returns-2
 returns-2 c =
     let v = c .before .before in
     let a = v .before .before .before .before .args in
     c .tell2 .ensures ∙ short-derivs (a .program .now) (a .values .now) (a .derivs .now) (v .if1 .left) (c .before .if2 .taken)
-
-tell-requires-3 : tie.Need-tell-requires-3
-tell-requires-3 c κs = search needs
 
 returns-3 : tie.Need-returns-3
 returns-3 c =
@@ -31,9 +22,6 @@ returns-3 c =
     let a = v .before .before .before .before .args in
     c .tell3 .ensures ∙ ragged (a .program .now) (a .values .now) (a .derivs .now) (v .if1 .left) (d .if2 .left) (c .before .if3 .taken)
 
-tell-requires-4 : tie.Need-tell-requires-4
-tell-requires-4 c κs = search needs
-
 returns-4 : tie.Need-returns-4
 returns-4 c =
     let p = c .before .before in
@@ -41,9 +29,6 @@ returns-4 c =
     let v = d .before in
     let a = v .before .before .before .before .args in
     c .tell4 .ensures ∙ too-long (a .program .now) (a .values .now) (a .derivs .now) (v .if1 .left) (d .if2 .left) (p .if3 .left) (c .before .if4 .taken)
-
-judge-requires : tie.Need-judge-requires
-judge-requires c κs = search needs
 
 returns-5 : tie.Need-returns-5
 returns-5 c =
@@ -57,13 +42,13 @@ pub refuse-spec : {M : Type 1} → statement M
 refuse-spec =
     tie.close
     (tie.spec
-    tell-requires
+    (λ c κs. search needs)
     returns
-    tell-requires-2
+    (λ c κs. search needs)
     returns-2
-    tell-requires-3
+    (λ c κs. search needs)
     returns-3
-    tell-requires-4
+    (λ c κs. search needs)
     returns-4
-    judge-requires
+    (λ c κs. search needs)
     returns-5)

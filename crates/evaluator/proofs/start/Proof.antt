@@ -23,15 +23,6 @@ derivs c = c .before .before .before .before .before .before .before .before .ar
 grant : (c : tie.Else1) → Granted (program c) (values c) (derivs c)
 grant c = let r = c .before .before in granted (program c) (values c) (derivs c) (r .refuse .result) (r .refuse .ensures) (c .if1 .left)
 
-refuse-requires : tie.Need-refuse-requires
-refuse-requires c κs = search needs
-
-same-length : tie.Need-same-length
-same-length c = search needs
-
-same-length-2 : tie.Need-same-length-2
-same-length-2 c = search needs
-
 returns : tie.Need-returns
 returns c = start-refused (c .before .before .refuse .ensures) (c .if1 .taken)
 
@@ -44,9 +35,6 @@ start-all-requires c κs = let g = grant (c .before) in (g .sound, simp length-s
 same-length-3 : tie.Need-same-length-3
 same-length-3 c = c .before .before .start-all .kept .1 .0 ∙ simp length-set
 
-same-length-4 : tie.Need-same-length-4
-same-length-4 c = search needs
-
 returns-2 : tie.Need-returns-2
 returns-2 c =
     let a = c .before .before in
@@ -57,12 +45,12 @@ pub start-spec : {M : Type 1} → statement M
 start-spec =
     tie.close
     (tie.spec
-    refuse-requires
-    same-length
-    same-length-2
+    (λ c κs. search needs)
+    (λ c. search needs)
+    (λ c. search needs)
     returns
     slice-write-values
     start-all-requires
     same-length-3
-    same-length-4
+    (λ c. search needs)
     returns-2)

@@ -23,15 +23,6 @@ derivs c = c .before .before .before .before .before .before .before .before .ar
 grant : (c : tie.Else1) → Granted (program c) (values c) (derivs c)
 grant c = let r = c .before .before in granted (program c) (values c) (derivs c) (r .refuse .result) (r .refuse .ensures) (c .if1 .left)
 
-refuse-requires : tie.Need-refuse-requires
-refuse-requires c κs = search needs
-
-same-length : tie.Need-same-length
-same-length c = search needs
-
-same-length-2 : tie.Need-same-length-2
-same-length-2 c = search needs
-
 returns : tie.Need-returns
 returns c = step-refused (c .before .before .refuse .ensures) (c .before .before .before .before .before .before .before .before .args .h) (c .if1 .taken)
 
@@ -62,9 +53,6 @@ same-length-3 c =
     let a = m .before .before .before .before .before .before .before in
     simp length-set (m .move-all .kept .1 .1 .1 .0 ∙ a .run-all .kept .1 .0)
 
-same-length-4 : tie.Need-same-length-4
-same-length-4 c = search needs
-
 returns-2 : tie.Need-returns-2
 returns-2 c =
     let m = c .before .before .before in
@@ -77,14 +65,14 @@ pub step-spec : {M : Type 1} → statement M
 step-spec =
     tie.close
     (tie.spec
-    refuse-requires
-    same-length
-    same-length-2
+    (λ c κs. search needs)
+    (λ c. search needs)
+    (λ c. search needs)
     returns
     run-all-requires
     move-all-requires
     slice-read-values
     slice-write-values
     same-length-3
-    same-length-4
+    (λ c. search needs)
     returns-2)

@@ -8,20 +8,11 @@ use Rattle.floesedge.proofs.floesedge_translate.Tie as tie
 abbrev S : tie.After-translate → tie.Start
 S k = k .before .before .before .before .before .before
 
-translate-requires : tie.Need-translate-requires
-translate-requires c κs = search needs
-
 given-requires : tie.Need-given-requires
 given-requires c κs =
     let k = c .before .before .before .before in
     let s = S k .args in
     count-small (s .text .now) (s .faults .now) (s .program .now) _ _ (k .translate .result) (k .translate .ensures)
-
-same-length : tie.Need-same-length
-same-length c = search needs
-
-same-length-2 : tie.Need-same-length-2
-same-length-2 c = search needs
 
 returns : tie.Need-returns
 returns c =
@@ -31,4 +22,4 @@ returns c =
     (c .given .ensures .0) (c .given .ensures .1)
 
 pub floesedge-translate-spec : {M : Type 1} → statement M
-floesedge-translate-spec = tie.close (tie.spec translate-requires given-requires same-length same-length-2 returns)
+floesedge-translate-spec = tie.close (tie.spec (λ c κs. search needs) given-requires (λ c. search needs) (λ c. search needs) returns)

@@ -6,12 +6,6 @@ use lib.Ieee.{Float, binary64, toBits}
 use Rattle.grammar.proofs.leaf_arg.Statement.{statement}
 use Rattle.grammar.proofs.leaf_arg.Tie as tie
 
-float-of-requires : tie.Need-float-of-requires
-float-of-requires c κs = search needs
-
-bits-of-requires : tie.Need-bits-of-requires
-bits-of-requires c κs = search needs
-
 returns : tie.Need-returns
 returns c = rw (c .before .before .match .keys1) (c .bits-of .ensures ∙ ap (λ (x : Float). toBits binary64 x) (c .before .float-of .ensures))
 
@@ -22,4 +16,4 @@ returns-3 : tie.Need-returns-3
 returns-3 c = simp (ne-eqb _ _ (c .match .rest .0 .1), ne-eqb _ _ (c .match .rest .1))
 
 pub leaf-arg-spec : {M : Type 1} → statement M
-leaf-arg-spec = tie.close (tie.spec float-of-requires bits-of-requires returns returns-2 returns-3)
+leaf-arg-spec = tie.close (tie.spec (λ c κs. search needs) (λ c κs. search needs) returns returns-2 returns-3)

@@ -24,12 +24,6 @@ put-fault-requires c κs =
     let s = t .before .before .before .before in
     (omega (arith, t .loop-test .taken, s .pre .0), room-turn (t .before .loop .inv) (t .loop-test .taken) (s .pre .1))
 
-add-i : tie.Need-add-i Inv-loop μ-loop
-add-i c = search needs
-
-loop-less : tie.Need-loop-less Inv-loop μ-loop
-loop-less c = search needs
-
 loop-again : tie.Need-loop-again Inv-loop μ-loop
 loop-again c =
     let p = c .before .before in
@@ -43,4 +37,4 @@ returns : tie.Need-returns Inv-loop μ-loop
 returns c = put-whole (c .before .loop .inv) (c .loop-test .left)
 
 pub put-faults-spec : {M : Type 1} → statement M
-put-faults-spec = tie.close (tie.spec Inv-loop μ-loop loop-holds put-fault-requires add-i loop-less loop-again same-length returns)
+put-faults-spec = tie.close (tie.spec Inv-loop μ-loop loop-holds put-fault-requires (λ c. search needs) (λ c. search needs) loop-again same-length returns)

@@ -13,11 +13,8 @@ put-figures-requires c κs = let s = c .before .before in room-first (figures (s
 put-byte-requires : tie.Need-put-byte-requires
 put-byte-requires c κs = let p = c .before .before .before in room-second (p .put-figures .ensures) (10 ∷ []) (p .before .before .before .pre)
 
-same-length : tie.Need-same-length
-same-length c = search needs
-
 returns : tie.Need-returns
 returns c = put-both (c .before .before .before .before .before .before .put-figures .ensures) (c .before .before .put-byte .ensures)
 
 pub put-line-spec : {M : Type 1} → statement M
-put-line-spec = tie.close (tie.spec put-figures-requires put-byte-requires same-length returns)
+put-line-spec = tie.close (tie.spec put-figures-requires put-byte-requires (λ c. search needs) returns)

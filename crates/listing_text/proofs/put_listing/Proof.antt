@@ -42,9 +42,6 @@ put-order-requires c κs =
     let s = k .before .before in
     (s .pre, room-second (h .put-head .ensures) (statements s) (room-order k))
 
-same-length : tie.Need-same-length
-same-length c = search needs
-
 returns : tie.Need-returns
 unfolding written
 returns c =
@@ -65,9 +62,6 @@ put-faults-requires c κs =
     let s = k .before .before in
     (s .pre, room-second (h .put-head2 .ensures) (flaws s) (room-flaws k))
 
-same-length-2 : tie.Need-same-length-2
-same-length-2 c = search needs
-
 returns-2 : tie.Need-returns-2
 unfolding written
 returns-2 c =
@@ -78,4 +72,4 @@ returns-2 c =
 pub put-listing-spec : {M : Type 1} → statement M
 put-listing-spec =
     tie.close
-    (tie.spec put-head-requires put-order-requires same-length returns put-head-requires-2 put-faults-requires same-length-2 returns-2)
+    (tie.spec put-head-requires put-order-requires (λ c. search needs) returns put-head-requires-2 put-faults-requires (λ c. search needs) returns-2)

@@ -23,9 +23,6 @@ put-line-requires c κs =
     let s = p .before .before .before in
     room-second (b .put-byte .ensures) (line (s .args .n)) (room-second (p .put-figures .ensures) (32 ∷ line (s .args .n)) (s .pre))
 
-same-length : tie.Need-same-length
-same-length c = search needs
-
 returns : tie.Need-returns
 returns c =
     let l = c .before .before in
@@ -33,4 +30,4 @@ returns c =
     put-both (b .before .before .before .before .put-figures .ensures) (put-both (b .put-byte .ensures) (l .put-line .ensures))
 
 pub put-pair-spec : {M : Type 1} → statement M
-put-pair-spec = tie.close (tie.spec put-figures-requires put-byte-requires put-line-requires same-length returns)
+put-pair-spec = tie.close (tie.spec put-figures-requires put-byte-requires put-line-requires (λ c. search needs) returns)

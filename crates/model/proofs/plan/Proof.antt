@@ -11,9 +11,6 @@ use Rattle.model.proofs.plan.Tie as tie
 abbrev S : tie.After-fits2 → tie.Start
 S k = k .before .before .before .before .before .before .before .before .before .before
 
-fits-requires : tie.Need-fits-requires
-fits-requires c κs = search needs
-
 define-requires : tie.Need-define-requires
 define-requires c κs =
     let test = c .before .before .before .before .before .before in
@@ -22,24 +19,6 @@ define-requires c κs =
     let told = sym (k .fits2 .ensures) ∙ test .if1 .taken in
     fit-sound (a .lines .now) (a .bounds .now) (a .kinds .now) (a .used .now) (a .rows .now) (a .order .now) (length (a .args .now)) (length (a .faults .now))
     (length (a .places .now)) told
-
-same-length : tie.Need-same-length
-same-length c = search needs
-
-same-length-2 : tie.Need-same-length-2
-same-length-2 c = search needs
-
-same-length-3 : tie.Need-same-length-3
-same-length-3 c = search needs
-
-same-length-4 : tie.Need-same-length-4
-same-length-4 c = search needs
-
-same-length-5 : tie.Need-same-length-5
-same-length-5 c = search needs
-
-same-length-6 : tie.Need-same-length-6
-same-length-6 c = search needs
 
 returns : tie.Need-returns
 returns c =
@@ -50,9 +29,6 @@ returns c =
     let told = sym (k .fits2 .ensures) ∙ test .if1 .taken in
     planned-fit (a .lines .now) (a .bounds .now) (a .kinds .now) (a .args .now) (a .used .now) (a .faults .now)
     (lent (a .places .now) (a .rows .now) (a .order .now)) told (done .define .ensures)
-
-refusal-requires : tie.Need-refusal-requires
-refusal-requires c κs = search needs
 
 returns-2 : tie.Need-returns-2
 returns-2 c =
@@ -65,14 +41,14 @@ pub plan-spec : {M : Type 1} → statement M
 plan-spec =
     tie.close
     (tie.spec
-    fits-requires
+    (λ c κs. search needs)
     define-requires
-    same-length
-    same-length-2
-    same-length-3
-    same-length-4
-    same-length-5
-    same-length-6
+    (λ c. search needs)
+    (λ c. search needs)
+    (λ c. search needs)
+    (λ c. search needs)
+    (λ c. search needs)
+    (λ c. search needs)
     returns
-    refusal-requires
+    (λ c κs. search needs)
     returns-2)

@@ -18,12 +18,6 @@ returns-3 : tie.Need-returns-3
 unfolding fits
 returns-3 c = rw (le-leb _ _ (c .before .before .if1 .left), lt-ltb _ _ (c .before .if2 .left), lt-leb _ _ (c .if3 .taken))
 
-rows-end-requires : tie.Need-rows-end-requires
-rows-end-requires c κs = search needs
-
-used-below-requires : tie.Need-used-below-requires
-used-below-requires c κs = search needs
-
 returns-4 : tie.Need-returns-4
 unfolding fits
 returns-4 c =
@@ -45,7 +39,7 @@ fit-spec =
     returns
     returns-2
     returns-3
-    rows-end-requires
-    used-below-requires
+    (λ c κs. search needs)
+    (λ c κs. search needs)
     returns-4
     returns-5)

@@ -7,16 +7,10 @@ use Rattle.order.proofs.Answers.{sorts-placed, sorts-unfit}
 use Rattle.order.proofs.sort.Statement.{statement}
 use Rattle.order.proofs.sort.Tie as tie
 
-fit-requires : tie.Need-fit-requires
-fit-requires c κs = search needs
-
 place-requires : tie.Need-place-requires
 place-requires c κs =
     let s = c .before .before .before .before .before .before .args in
     fits-iff (s .n) (s .starts .now) (s .used .now) (length (s .out .now)) .0 (sym (c .before .before .fit .ensures) ∙ c .before .if1 .taken)
-
-same-length : tie.Need-same-length
-same-length c = search needs
 
 returns : tie.Need-returns
 returns c =
@@ -31,4 +25,4 @@ returns-2 c =
     sorts-unfit (s .n) (s .starts .now) (s .used .now) (s .out .now) (sym (c .before .fit .ensures) ∙ c .if1 .left)
 
 pub sort-spec : {M : Type 1} → statement M
-sort-spec = tie.close (tie.spec fit-requires place-requires same-length returns returns-2)
+sort-spec = tie.close (tie.spec (λ c κs. search needs) place-requires (λ c. search needs) returns returns-2)

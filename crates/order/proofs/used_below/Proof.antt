@@ -17,21 +17,6 @@ Inv-loop n used k₀ k = (k ≤ length used) × (all (length used) (belowAt n us
 abbrev μ-loop : tie.MeasureT-loop
 μ-loop n used k₀ k = k
 
-loop-holds : tie.Need-loop-holds Inv-loop μ-loop
-loop-holds c = search needs
-
-sub-k : tie.Need-sub-k Inv-loop μ-loop
-sub-k c = search needs
-
-mul-wide : tie.Need-mul-wide Inv-loop μ-loop
-mul-wide c = search needs
-
-shared-slice-read-wide : tie.Need-shared-slice-read-wide Inv-loop μ-loop
-shared-slice-read-wide c = search needs
-
-wide-requires : tie.Need-wide-requires Inv-loop μ-loop
-wide-requires c κs = search needs
-
 returns : tie.Need-returns Inv-loop μ-loop
 returns c =
     let l = c .before .before .before .before .loop in
@@ -39,9 +24,6 @@ returns c =
     let j = getD (s .used .now) (l .k - 1) 0 in
     let w = c .before .wide .ensures .0 in
     sym (l .inv .1 ∙ all-stop (belowAt (s .n) (s .used .now)) (l .k) (omega arith) (le-ltb j (s .n) (omega arith)))
-
-loop-less : tie.Need-loop-less Inv-loop μ-loop
-loop-less c = search needs
 
 loop-again : tie.Need-loop-again Inv-loop μ-loop
 loop-again c =
@@ -62,12 +44,12 @@ used-below-spec =
     (tie.spec
     Inv-loop
     μ-loop
-    loop-holds
-    sub-k
-    mul-wide
-    shared-slice-read-wide
-    wide-requires
+    (λ c. search needs)
+    (λ c. search needs)
+    (λ c. search needs)
+    (λ c. search needs)
+    (λ c κs. search needs)
     returns
-    loop-less
+    (λ c. search needs)
     loop-again
     returns-2)

@@ -18,21 +18,6 @@ abbrev μ-loop : tie.MeasureT-loop
 loop-holds : tie.Need-loop-holds Inv-loop μ-loop
 loop-holds c = (search needs, search needs, omega arith)
 
-shared-slice-read-records-of : tie.Need-shared-slice-read-records-of Inv-loop μ-loop
-shared-slice-read-records-of c = search needs
-
-records-of-requires : tie.Need-records-of-requires Inv-loop μ-loop
-records-of-requires c κs = search needs
-
-add-n : tie.Need-add-n Inv-loop μ-loop
-add-n c = search needs
-
-add-i : tie.Need-add-i Inv-loop μ-loop
-add-i c = search needs
-
-loop-less : tie.Need-loop-less Inv-loop μ-loop
-loop-less c = search needs
-
 loop-again : tie.Need-loop-again Inv-loop μ-loop
 loop-again c =
     let a = c .before .before .before in
@@ -54,10 +39,10 @@ count-records-spec =
     Inv-loop
     μ-loop
     loop-holds
-    shared-slice-read-records-of
-    records-of-requires
-    add-n
-    add-i
-    loop-less
+    (λ c. search needs)
+    (λ c κs. search needs)
+    (λ c. search needs)
+    (λ c. search needs)
+    (λ c. search needs)
     loop-again
     returns)

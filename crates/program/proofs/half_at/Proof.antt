@@ -6,12 +6,6 @@ use lib.ListN.{getD, List·getD-eq-default}
 use Rattle.program.proofs.half_at.Statement.{statement}
 use Rattle.program.proofs.half_at.Tie as tie
 
-mul-result : tie.Need-mul-result
-mul-result c = search needs
-
-shared-slice-read-result : tie.Need-shared-slice-read-result
-shared-slice-read-result c = search needs
-
 -- what stands at the place has two bytes
 small : (c : tie.After-shared-slice-known) → getD (c .before .before .args .s .now) (c .before .before .args .i) 0 < 65536
 small c = omega (arith, c .shared-slice-known .given (c .before .before .args .i))
@@ -26,4 +20,4 @@ returns-2 : tie.Need-returns-2
 returns-2 c = (sym (List·getD-eq-default (c .before .args .s .now) 0 (c .if1 .left)), search needs)
 
 pub half-at-spec : {M : Type 1} → statement M
-half-at-spec = tie.close (tie.spec mul-result shared-slice-read-result cast-result returns returns-2)
+half-at-spec = tie.close (tie.spec (λ c. search needs) (λ c. search needs) cast-result returns returns-2)

@@ -24,12 +24,6 @@ loop-holds c =
 put-settings-requires : tie.Need-put-settings-requires Inv-loop μ-loop
 put-settings-requires c κs = (c .before .loop-test .taken, c .before .before .loop .inv .within)
 
-add-j : tie.Need-add-j Inv-loop μ-loop
-add-j c = search needs
-
-loop-less : tie.Need-loop-less Inv-loop μ-loop
-loop-less c = search needs
-
 loop-again : tie.Need-loop-again Inv-loop μ-loop
 loop-again c =
     let t = c .before .before .before .before in
@@ -49,8 +43,8 @@ put-all-settings-spec =
     μ-loop
     loop-holds
     put-settings-requires
-    add-j
-    loop-less
+    (λ c. search needs)
+    (λ c. search needs)
     loop-again
     same-length
     returns)

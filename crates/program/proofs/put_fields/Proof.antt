@@ -4,18 +4,6 @@ use Rattle.program.proofs.Puts.{fields-put}
 use Rattle.program.proofs.put_fields.Statement.{statement}
 use Rattle.program.proofs.put_fields.Tie as tie
 
-head-of-requires : tie.Need-head-of-requires
-head-of-requires c κs = search needs
-
-put-eight-requires : tie.Need-put-eight-requires
-put-eight-requires c κs = search needs
-
-put-eight-requires-2 : tie.Need-put-eight-requires-2
-put-eight-requires-2 c κs = search needs
-
-same-length : tie.Need-same-length
-same-length c = search needs
-
 returns : tie.Need-returns
 returns c =
     let value = c .before .before in
@@ -26,4 +14,4 @@ returns c =
     (value .put-eight2 .ensures)
 
 pub put-fields-spec : {M : Type 1} → statement M
-put-fields-spec = tie.close (tie.spec head-of-requires put-eight-requires put-eight-requires-2 same-length returns)
+put-fields-spec = tie.close (tie.spec (λ c κs. search needs) (λ c κs. search needs) (λ c κs. search needs) (λ c. search needs) returns)

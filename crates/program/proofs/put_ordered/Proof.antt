@@ -21,20 +21,8 @@ loop-holds c =
     let a = s .args in
     filling-first _ _ _ _ _ (λ p. whole-steps (a .lines .now) (a .bounds .now) (a .kinds .now) (a .slots .now) _) (s .pre)
 
-half-at-requires : tie.Need-half-at-requires Inv-loop μ-loop
-half-at-requires c κs = search needs
-
-half-at-requires-2 : tie.Need-half-at-requires-2 Inv-loop μ-loop
-half-at-requires-2 c κs = search needs
-
 put-steps-requires : tie.Need-put-steps-requires Inv-loop μ-loop
 put-steps-requires c κs = (search needs, c .before .before .before .before .loop .inv .within)
-
-add-q : tie.Need-add-q Inv-loop μ-loop
-add-q c = search needs
-
-loop-less : tie.Need-loop-less Inv-loop μ-loop
-loop-less c = search needs
 
 loop-again : tie.Need-loop-again Inv-loop μ-loop
 loop-again c =
@@ -59,11 +47,11 @@ put-ordered-spec =
     Inv-loop
     μ-loop
     loop-holds
-    half-at-requires
-    half-at-requires-2
+    (λ c κs. search needs)
+    (λ c κs. search needs)
     put-steps-requires
-    add-q
-    loop-less
+    (λ c. search needs)
+    (λ c. search needs)
     loop-again
     same-length
     returns)

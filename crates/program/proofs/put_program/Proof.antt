@@ -21,9 +21,6 @@ put-ordered-requires c κs =
     let q = c .before .before .before in
     fill-within (q .put-all-settings2 .ensures) (fill-within (q .before .before .before .before .put-all-settings .ensures) (omega arith))
 
-same-length : tie.Need-same-length
-same-length c = search needs
-
 returns : tie.Need-returns
 unfolding writtenProgram
 returns c =
@@ -44,5 +41,5 @@ put-program-spec =
     put-all-settings-requires
     put-all-settings-requires-2
     put-ordered-requires
-    same-length
+    (λ c. search needs)
     returns)

@@ -17,12 +17,6 @@ Inv-loop phase places lines bounds kinds slots j out₀ at i₀ line end w₀ ou
 abbrev μ-loop : tie.MeasureT-loop
 μ-loop phase places lines bounds kinds slots j out₀ at i₀ line end w₀ out i w = end - i
 
-half-at-requires : tie.Need-half-at-requires Inv-loop μ-loop
-half-at-requires c κs = search needs
-
-byte-at-requires : tie.Need-byte-at-requires Inv-loop μ-loop
-byte-at-requires c κs = search needs
-
 returns : tie.Need-returns Inv-loop μ-loop
 returns c =
     let h = c .before .before in
@@ -30,18 +24,6 @@ returns c =
     fill-none (a .at) (a .out .now)
     (settings-none (a .phase) (a .places .now) (a .lines .now) (a .bounds .now) (a .kinds .now) (a .slots .now) (a .j)
     (h .half-at .ensures .0) (λ e. c .if1 .taken (c .before .byte-at .ensures ∙ e)))
-
-half-at-requires-2 : tie.Need-half-at-requires-2 Inv-loop μ-loop
-half-at-requires-2 c κs = search needs
-
-add-half-at : tie.Need-add-half-at Inv-loop μ-loop
-add-half-at c = search needs
-
-half-at-requires-3 : tie.Need-half-at-requires-3 Inv-loop μ-loop
-half-at-requires-3 c κs = search needs
-
-setting-end-requires : tie.Need-setting-end-requires Inv-loop μ-loop
-setting-end-requires c κs = search needs
 
 -- where the function begins
 abbrev Start-of : tie.After-setting-end Inv-loop μ-loop → tie.Start Inv-loop μ-loop
@@ -70,12 +52,6 @@ here h =
 put-setting-requires : tie.Need-put-setting-requires Inv-loop μ-loop
 put-setting-requires c κs = (omega arith, c .before .before .loop .inv .within)
 
-add-i : tie.Need-add-i Inv-loop μ-loop
-add-i c = search needs
-
-loop-less : tie.Need-loop-less Inv-loop μ-loop
-loop-less c = search needs
-
 loop-again : tie.Need-loop-again Inv-loop μ-loop
 loop-again c =
     let t = c .before .before .before .before in
@@ -93,17 +69,17 @@ put-settings-spec =
     (tie.spec
     Inv-loop
     μ-loop
-    half-at-requires
-    byte-at-requires
+    (λ c κs. search needs)
+    (λ c κs. search needs)
     returns
-    half-at-requires-2
-    add-half-at
-    half-at-requires-3
-    setting-end-requires
+    (λ c κs. search needs)
+    (λ c. search needs)
+    (λ c κs. search needs)
+    (λ c κs. search needs)
     loop-holds
     put-setting-requires
-    add-i
-    loop-less
+    (λ c. search needs)
+    (λ c. search needs)
     loop-again
     same-length
     returns-2)

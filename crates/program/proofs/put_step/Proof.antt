@@ -6,23 +6,11 @@ use Rattle.program.proofs.Parts.{step-value, step-clock, step-below, st
 use Rattle.program.proofs.put_step.Statement.{statement}
 use Rattle.program.proofs.put_step.Tie as tie
 
-put-record-requires : tie.Need-put-record-requires
-put-record-requires c κs = search needs
-
-same-length : tie.Need-same-length
-same-length c = search needs
-
 returns : tie.Need-returns
 returns c =
     let t = c .before .before .before .before in
     let a = t .before .before .args in
     fill-as (step-value (a .kind) (a .arg) (a .line) (t .if1 .taken)) (c .before .before .put-record .ensures)
-
-put-record-requires-2 : tie.Need-put-record-requires-2
-put-record-requires-2 c κs = search needs
-
-same-length-2 : tie.Need-same-length-2
-same-length-2 c = search needs
 
 returns-2 : tie.Need-returns-2
 returns-2 c =
@@ -49,12 +37,6 @@ plain c =
     let a = t .before .before .before .args in
     step-plain (a .kind) (a .arg) (a .line) (t .before .if1 .left) (t .if2 .left) (c .before .if3 .left) (c .if4 .left)
 
-put-record-requires-3 : tie.Need-put-record-requires-3
-put-record-requires-3 c κs = search needs
-
-same-length-3 : tie.Need-same-length-3
-same-length-3 c = search needs
-
 returns-5 : tie.Need-returns-5
 returns-5 c = fill-as (plain (c .before .before .before .before)) (c .before .before .put-record3 .ensures)
 
@@ -62,14 +44,14 @@ pub put-step-spec : {M : Type 1} → statement M
 put-step-spec =
     tie.close
     (tie.spec
-    put-record-requires
-    same-length
+    (λ c κs. search needs)
+    (λ c. search needs)
     returns
-    put-record-requires-2
-    same-length-2
+    (λ c κs. search needs)
+    (λ c. search needs)
     returns-2
     returns-3
     returns-4
-    put-record-requires-3
-    same-length-3
+    (λ c κs. search needs)
+    (λ c. search needs)
     returns-5)

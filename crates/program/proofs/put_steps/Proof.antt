@@ -13,37 +13,13 @@ Inv-loop lines bounds kinds slots j out₀ at line end i₀ w₀ out i w = Filli
 abbrev μ-loop : tie.MeasureT-loop
 μ-loop lines bounds kinds slots j out₀ at line end i₀ w₀ out i w = end - i
 
-half-at-requires : tie.Need-half-at-requires Inv-loop μ-loop
-half-at-requires c κs = search needs
-
-add-half-at : tie.Need-add-half-at Inv-loop μ-loop
-add-half-at c = search needs
-
-half-at-requires-2 : tie.Need-half-at-requires-2 Inv-loop μ-loop
-half-at-requires-2 c κs = search needs
-
-half-at-requires-3 : tie.Need-half-at-requires-3 Inv-loop μ-loop
-half-at-requires-3 c κs = search needs
-
 loop-holds : tie.Need-loop-holds Inv-loop μ-loop
 loop-holds c =
     let s = c .before .before .before .before .before .before .before .before in
     filling-first _ _ _ _ _ (whole-step-at (s .args .kinds .now) (s .args .slots .now) (c .before .before .half-at .result)) (s .pre .1)
 
-byte-at-requires : tie.Need-byte-at-requires Inv-loop μ-loop
-byte-at-requires c κs = search needs
-
-word-at-requires : tie.Need-word-at-requires Inv-loop μ-loop
-word-at-requires c κs = search needs
-
 put-step-requires : tie.Need-put-step-requires Inv-loop μ-loop
 put-step-requires c κs = c .before .before .before .before .loop .inv .within
-
-add-i : tie.Need-add-i Inv-loop μ-loop
-add-i c = search needs
-
-loop-less : tie.Need-loop-less Inv-loop μ-loop
-loop-less c = search needs
 
 loop-again : tie.Need-loop-again Inv-loop μ-loop
 loop-again c =
@@ -67,16 +43,16 @@ put-steps-spec =
     (tie.spec
     Inv-loop
     μ-loop
-    half-at-requires
-    add-half-at
-    half-at-requires-2
-    half-at-requires-3
+    (λ c κs. search needs)
+    (λ c. search needs)
+    (λ c κs. search needs)
+    (λ c κs. search needs)
     loop-holds
-    byte-at-requires
-    word-at-requires
+    (λ c κs. search needs)
+    (λ c κs. search needs)
     put-step-requires
-    add-i
-    loop-less
+    (λ c. search needs)
+    (λ c. search needs)
     loop-again
     same-length
     returns)

@@ -8,9 +8,6 @@ use Rattle.program.proofs.setting_end.Tie as tie
 returns : tie.Need-returns
 returns c = (rw (ne-eqb (c .before .args .phase) 2 (c .if1 .taken)), omega arith)
 
-add-result : tie.Need-add-result
-add-result c = search needs
-
 returns-2 : tie.Need-returns-2
 returns-2 c = (rw (eq-eqb _ 2 (c .before .if1 .left)) (omega arith), omega arith)
 
@@ -18,4 +15,4 @@ returns-3 : tie.Need-returns-3
 returns-3 c = (rw (eq-eqb _ 2 (c .before .if1 .left)) (omega arith), omega arith)
 
 pub setting-end-spec : {M : Type 1} → statement M
-setting-end-spec = tie.close (tie.spec returns add-result returns-2 returns-3)
+setting-end-spec = tie.close (tie.spec returns (λ c. search needs) returns-2 returns-3)

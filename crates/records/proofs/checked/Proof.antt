@@ -20,9 +20,6 @@ returns-2 c =
       lt-ltb (mostBits (a .kind)) (a .bits) (rw (c .before .most-bits .ensures) at (c .if2 .taken)),
     )
 
-cast-by-kind : tie.Need-cast-by-kind
-cast-by-kind c = search needs
-
 returns-3 : tie.Need-returns-3
 returns-3 c =
     let g = c .before .before in
@@ -43,7 +40,7 @@ checked-spec =
     returns
     (λ c κs. search needs)
     returns-2
-    cast-by-kind
+    (λ c. search needs)
     (λ c κs. search needs)
     (λ c κs. search needs)
     returns-3)

@@ -14,24 +14,6 @@ returns c =
     let a = c .before .before .args in
     rw (le-ltb (a .n) (length (a .program .now) / recordBytes) (c .if1 .taken))
 
-mul-o : tie.Need-mul-o
-mul-o c = search needs
-
-pair-requires : tie.Need-pair-requires
-pair-requires c κs = search needs
-
-add-pair : tie.Need-add-pair
-add-pair c = search needs
-
-pair-requires-2 : tie.Need-pair-requires-2
-pair-requires-2 c κs = search needs
-
-add-word : tie.Need-add-word
-add-word c = search needs
-
-word-requires : tie.Need-word-requires
-word-requires c κs = search needs
-
 -- what was read
 fields : (c : tie.After-word)
     → Fields (c .before .before .before .before .before .args .program .now) (c .before .before .before .before .before .args .n)
@@ -50,12 +32,12 @@ decode-spec =
     tie.close
     (tie.spec
     returns
-    mul-o
-    pair-requires
-    add-pair
-    pair-requires-2
-    add-word
-    word-requires
+    (λ c. search needs)
+    (λ c κs. search needs)
+    (λ c. search needs)
+    (λ c κs. search needs)
+    (λ c. search needs)
+    (λ c κs. search needs)
     (λ c κs. search needs)
     (λ c κs. search needs)
     (λ c κs. search needs)

@@ -13,34 +13,10 @@ returns-2 c =
     let t = c .before .before .args .t in
     rw (le-ltb most (t .tried) (c .before .if1 .left), lt-ltb most (t .differ) (c .if2 .taken))
 
-add-t8 : tie.Need-add-t8
-add-t8 c = search needs
-
 returns-3 : tie.Need-returns-3
 returns-3 c =
     let t = c .before .before .before .args .t in
     rw (le-ltb most (t .tried) (c .before .before .if1 .left), le-ltb most (t .differ) (c .before .if2 .left), c .if3 .taken)
-
-slice-aggregate-write-all : tie.Need-slice-aggregate-write-all
-slice-aggregate-write-all c = search needs
-
-write-all-requires : tie.Need-write-all-requires
-write-all-requires c κs = search needs
-
-print-decimal-requires : tie.Need-print-decimal-requires
-print-decimal-requires c κs = search needs
-
-slice-aggregate-write-all-2 : tie.Need-slice-aggregate-write-all-2
-slice-aggregate-write-all-2 c = search needs
-
-write-all-requires-2 : tie.Need-write-all-requires-2
-write-all-requires-2 c κs = search needs
-
-add-t14 : tie.Need-add-t14
-add-t14 c = search needs
-
-add-t15 : tie.Need-add-t15
-add-t15 c = search needs
 
 returns-4 : tie.Need-returns-4
 returns-4 c =
@@ -54,13 +30,13 @@ right-spec =
     (tie.spec
     returns
     returns-2
-    add-t8
+    (λ c. search needs)
     returns-3
-    slice-aggregate-write-all
-    write-all-requires
-    print-decimal-requires
-    slice-aggregate-write-all-2
-    write-all-requires-2
-    add-t14
-    add-t15
+    (λ c. search needs)
+    (λ c κs. search needs)
+    (λ c κs. search needs)
+    (λ c. search needs)
+    (λ c κs. search needs)
+    (λ c. search needs)
+    (λ c. search needs)
     returns-4)

@@ -40,9 +40,6 @@ within c = inside isDigit (S (c .before .before)) _ refl (told (c .before) (c .i
 loop-holds : tie.Need-loop-holds Inv-loop μ-loop
 loop-holds c = (refl, refl, c .before .before .pre, c .byte-at .ensures)
 
-with-digit-requires : tie.Need-with-digit-requires Inv-loop μ-loop
-with-digit-requires c κs = search needs
-
 add-i : tie.Need-add-i Inv-loop μ-loop
 add-i c = omega (arith, within (c .before))
 
@@ -80,7 +77,7 @@ digits-spec =
     (λ c κs. search needs)
     loop-holds
     (λ c κs. search needs)
-    with-digit-requires
+    (λ c κs. search needs)
     add-i
     (λ c κs. search needs)
     loop-less

@@ -4,18 +4,6 @@ use Rattle.tokens.proofs.Spelling.{front-next, front-small}
 use Rattle.tokens.proofs.five_of.Statement.{statement}
 use Rattle.tokens.proofs.five_of.Tie as tie
 
-four-of-requires : tie.Need-four-of-requires
-four-of-requires c κs = search needs
-
-shared-slice-read-wide : tie.Need-shared-slice-read-wide
-shared-slice-read-wide c = search needs
-
-wide-requires : tie.Need-wide-requires
-wide-requires c κs = search needs
-
-mul-result : tie.Need-mul-result
-mul-result c = search needs
-
 add-result : tie.Need-add-result
 add-result c = search (needs, front-small (c .before .before .four-of .ensures))
 
@@ -23,4 +11,4 @@ returns : tie.Need-returns
 returns c = front-next (c .before .before .four-of .ensures) (c .wide .result) (c .wide .ensures .0) (c .wide .ensures .1)
 
 pub five-of-spec : {M : Type 1} → statement M
-five-of-spec = tie.close (tie.spec four-of-requires shared-slice-read-wide wide-requires mul-result add-result returns)
+five-of-spec = tie.close (tie.spec (λ c κs. search needs) (λ c. search needs) (λ c κs. search needs) (λ c. search needs) add-result returns)

@@ -18,15 +18,6 @@ C1 b = b .before .before .before
 abbrev S : tie.After-spells-five → tie.Start
 S a = a .before .before .before
 
-slice-aggregate-spells-five : tie.Need-slice-aggregate-spells-five
-slice-aggregate-spells-five c = search needs
-
-spells-five-requires : tie.Need-spells-five-requires
-spells-five-requires c κs = search needs
-
-word-requires : tie.Need-word-requires
-word-requires c κs = search needs
-
 returns : tie.Need-returns
 returns c =
     let p = c .before .before in
@@ -35,15 +26,6 @@ returns c =
       named-five (S p .args .name .now) (S p .pre),
       sym (p .spells-five .ensures) ∙ c .before .if1 .taken,
     )
-
-slice-aggregate-spells-five-2 : tie.Need-slice-aggregate-spells-five-2
-slice-aggregate-spells-five-2 c = search needs
-
-spells-five-requires-2 : tie.Need-spells-five-requires-2
-spells-five-requires-2 c κs = search needs
-
-word-requires-2 : tie.Need-word-requires-2
-word-requires-2 c κs = search needs
 
 returns-2 : tie.Need-returns-2
 returns-2 c =
@@ -55,15 +37,6 @@ returns-2 c =
       sym (p .spells-five .ensures) ∙ q .before .before .if1 .left,
       sym (q .spells-five2 .ensures) ∙ c .before .if2 .taken,
     )
-
-slice-aggregate-spells-five-3 : tie.Need-slice-aggregate-spells-five-3
-slice-aggregate-spells-five-3 c = search needs
-
-spells-five-requires-3 : tie.Need-spells-five-requires-3
-spells-five-requires-3 c κs = search needs
-
-word-requires-3 : tie.Need-word-requires-3
-word-requires-3 c κs = search needs
 
 returns-3 : tie.Need-returns-3
 returns-3 c =
@@ -77,15 +50,6 @@ returns-3 c =
       sym (q .spells-five2 .ensures) ∙ u .before .before .if2 .left,
       sym (u .spells-five3 .ensures) ∙ c .before .if3 .taken,
     )
-
-slice-aggregate-spells-five-4 : tie.Need-slice-aggregate-spells-five-4
-slice-aggregate-spells-five-4 c = search needs
-
-spells-five-requires-4 : tie.Need-spells-five-requires-4
-spells-five-requires-4 c κs = search needs
-
-word-requires-4 : tie.Need-word-requires-4
-word-requires-4 c κs = search needs
 
 returns-4 : tie.Need-returns-4
 returns-4 c =
@@ -101,9 +65,6 @@ returns-4 c =
       sym (u .spells-five3 .ensures) ∙ v .before .before .if3 .left,
       sym (v .spells-five4 .ensures) ∙ c .before .if4 .taken,
     )
-
-five-of-requires : tie.Need-five-of-requires
-five-of-requires c κs = search needs
 
 returns-5 : tie.Need-returns-5
 returns-5 c =
@@ -124,21 +85,21 @@ pub held-five-spec : {M : Type 1} → statement M
 held-five-spec =
     tie.close
     (tie.spec
-    slice-aggregate-spells-five
-    spells-five-requires
-    word-requires
+    (λ c. search needs)
+    (λ c κs. search needs)
+    (λ c κs. search needs)
     returns
-    slice-aggregate-spells-five-2
-    spells-five-requires-2
-    word-requires-2
+    (λ c. search needs)
+    (λ c κs. search needs)
+    (λ c κs. search needs)
     returns-2
-    slice-aggregate-spells-five-3
-    spells-five-requires-3
-    word-requires-3
+    (λ c. search needs)
+    (λ c κs. search needs)
+    (λ c κs. search needs)
     returns-3
-    slice-aggregate-spells-five-4
-    spells-five-requires-4
-    word-requires-4
+    (λ c. search needs)
+    (λ c κs. search needs)
+    (λ c κs. search needs)
     returns-4
-    five-of-requires
+    (λ c κs. search needs)
     returns-5)

@@ -12,15 +12,6 @@ C1 b = b .before .before .before
 abbrev S : tie.After-spells-four → tie.Start
 S a = a .before .before .before
 
-slice-aggregate-spells-four : tie.Need-slice-aggregate-spells-four
-slice-aggregate-spells-four c = search needs
-
-spells-four-requires : tie.Need-spells-four-requires
-spells-four-requires c κs = search needs
-
-word-requires : tie.Need-word-requires
-word-requires c κs = search needs
-
 returns : tie.Need-returns
 returns c =
     let p = c .before .before in
@@ -29,15 +20,6 @@ returns c =
       named-four (S p .args .name .now) (S p .pre),
       sym (p .spells-four .ensures) ∙ c .before .if1 .taken,
     )
-
-slice-aggregate-spells-four-2 : tie.Need-slice-aggregate-spells-four-2
-slice-aggregate-spells-four-2 c = search needs
-
-spells-four-requires-2 : tie.Need-spells-four-requires-2
-spells-four-requires-2 c κs = search needs
-
-word-requires-2 : tie.Need-word-requires-2
-word-requires-2 c κs = search needs
 
 returns-2 : tie.Need-returns-2
 returns-2 c =
@@ -49,9 +31,6 @@ returns-2 c =
       sym (p .spells-four .ensures) ∙ q .before .before .if1 .left,
       sym (q .spells-four2 .ensures) ∙ c .before .if2 .taken,
     )
-
-four-of-requires : tie.Need-four-of-requires
-four-of-requires c κs = search needs
 
 returns-3 : tie.Need-returns-3
 returns-3 c =
@@ -68,13 +47,13 @@ pub held-four-spec : {M : Type 1} → statement M
 held-four-spec =
     tie.close
     (tie.spec
-    slice-aggregate-spells-four
-    spells-four-requires
-    word-requires
+    (λ c. search needs)
+    (λ c κs. search needs)
+    (λ c κs. search needs)
     returns
-    slice-aggregate-spells-four-2
-    spells-four-requires-2
-    word-requires-2
+    (λ c. search needs)
+    (λ c κs. search needs)
+    (λ c κs. search needs)
     returns-2
-    four-of-requires
+    (λ c κs. search needs)
     returns-3)

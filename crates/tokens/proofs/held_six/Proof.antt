@@ -12,15 +12,6 @@ C1 b = b .before .before .before
 abbrev S : tie.After-spells-six → tie.Start
 S a = a .before .before .before
 
-slice-aggregate-spells-six : tie.Need-slice-aggregate-spells-six
-slice-aggregate-spells-six c = search needs
-
-spells-six-requires : tie.Need-spells-six-requires
-spells-six-requires c κs = search needs
-
-word-requires : tie.Need-word-requires
-word-requires c κs = search needs
-
 returns : tie.Need-returns
 returns c =
     let p = c .before .before in
@@ -29,15 +20,6 @@ returns c =
       named-six (S p .args .name .now) (S p .pre),
       sym (p .spells-six .ensures) ∙ c .before .if1 .taken,
     )
-
-slice-aggregate-spells-six-2 : tie.Need-slice-aggregate-spells-six-2
-slice-aggregate-spells-six-2 c = search needs
-
-spells-six-requires-2 : tie.Need-spells-six-requires-2
-spells-six-requires-2 c κs = search needs
-
-word-requires-2 : tie.Need-word-requires-2
-word-requires-2 c κs = search needs
 
 returns-2 : tie.Need-returns-2
 returns-2 c =
@@ -49,9 +31,6 @@ returns-2 c =
       sym (p .spells-six .ensures) ∙ q .before .before .if1 .left,
       sym (q .spells-six2 .ensures) ∙ c .before .if2 .taken,
     )
-
-six-of-requires : tie.Need-six-of-requires
-six-of-requires c κs = search needs
 
 returns-3 : tie.Need-returns-3
 returns-3 c =
@@ -68,13 +47,13 @@ pub held-six-spec : {M : Type 1} → statement M
 held-six-spec =
     tie.close
     (tie.spec
-    slice-aggregate-spells-six
-    spells-six-requires
-    word-requires
+    (λ c. search needs)
+    (λ c κs. search needs)
+    (λ c κs. search needs)
     returns
-    slice-aggregate-spells-six-2
-    spells-six-requires-2
-    word-requires-2
+    (λ c. search needs)
+    (λ c κs. search needs)
+    (λ c κs. search needs)
     returns-2
-    six-of-requires
+    (λ c κs. search needs)
     returns-3)

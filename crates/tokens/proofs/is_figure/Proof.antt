@@ -2,9 +2,6 @@ use borrow.Author.Needs.{needs}
 use Rattle.tokens.proofs.is_figure.Statement.{statement}
 use Rattle.tokens.proofs.is_figure.Tie as tie
 
-is-digit-requires : tie.Need-is-digit-requires
-is-digit-requires c κs = search needs
-
 returns : tie.Need-returns
 returns c = rw (← c .before .is-digit .ensures, c .if1 .taken)
 
@@ -12,4 +9,4 @@ returns-2 : tie.Need-returns-2
 returns-2 c = rw (← c .before .is-digit .ensures, c .if1 .left)
 
 pub is-figure-spec : {M : Type 1} → statement M
-is-figure-spec = tie.close (tie.spec is-digit-requires returns returns-2)
+is-figure-spec = tie.close (tie.spec (λ c κs. search needs) returns returns-2)

@@ -12,9 +12,6 @@ last : (a : Bool) → a ≡ (a || false)
 last true = refl
 last false = refl
 
-is-block-mark-requires : tie.Need-is-block-mark-requires
-is-block-mark-requires c κs = search needs
-
 returns : tie.Need-returns
 returns c =
     let b = c .before .before .args .b in
@@ -29,4 +26,4 @@ returns-3 c =
     rw (ne-eqb _ 47 (c .if2 .left), sym (m .is-block-mark .ensures) ∙ c .before .if1 .left) (last _)
 
 pub is-mark-spec : {M : Type 1} → statement M
-is-mark-spec = tie.close (tie.spec is-block-mark-requires returns returns-2 returns-3)
+is-mark-spec = tie.close (tie.spec (λ c κs. search needs) returns returns-2 returns-3)

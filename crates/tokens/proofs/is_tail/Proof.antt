@@ -2,9 +2,6 @@ use borrow.Author.Needs.{needs}
 use Rattle.tokens.proofs.is_tail.Statement.{statement}
 use Rattle.tokens.proofs.is_tail.Tie as tie
 
-is-word-requires : tie.Need-is-word-requires
-is-word-requires c κs = search needs
-
 returns : tie.Need-returns
 returns c = rw (← c .before .is-word .ensures, c .if1 .taken)
 
@@ -12,4 +9,4 @@ returns-2 : tie.Need-returns-2
 returns-2 c = rw (← c .before .is-word .ensures, c .if1 .left)
 
 pub is-tail-spec : {M : Type 1} → statement M
-is-tail-spec = tie.close (tie.spec is-word-requires returns returns-2)
+is-tail-spec = tie.close (tie.spec (λ c κs. search needs) returns returns-2)

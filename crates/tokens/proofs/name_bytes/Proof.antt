@@ -43,9 +43,6 @@ loop-holds c =
     let e : a .at + 0 ≡ a .at = omega arith in
     (omega arith, omega (arith, c .before .pre), rw e (omega arith))
 
-add-byte-at : tie.Need-add-byte-at Inv-loop μ-loop
-add-byte-at c = search needs
-
 loop-again : tie.Need-loop-again Inv-loop μ-loop
 loop-again c =
     let a = c .before .before .before .before in
@@ -69,7 +66,7 @@ name-bytes-spec =
     Inv-loop
     μ-loop
     loop-holds
-    add-byte-at
+    (λ c. search needs)
     (λ c κs. search needs)
     (λ c κs. search needs)
     (λ c. search needs)

@@ -34,9 +34,6 @@ add-sign-end c = omega (arith, within c)
 sign-end-requires : tie.Need-sign-end-requires
 sign-end-requires c κs = omega (arith, within c)
 
-digits-requires : tie.Need-digits-requires
-digits-requires c κs = search needs
-
 sub-n : tie.Need-sub-n
 sub-n c = omega (arith, ends (c .before .digits .ensures))
 
@@ -54,9 +51,6 @@ returns-3 c =
 
 add-byte-at : tie.Need-add-byte-at
 add-byte-at c = omega (arith, within (L (c .before .before .before)))
-
-byte-at-requires : tie.Need-byte-at-requires
-byte-at-requires c κs = search needs
 
 returns-4 : tie.Need-returns-4
 returns-4 c =
@@ -79,11 +73,11 @@ read-exponent-spec =
     returns
     add-sign-end
     sign-end-requires
-    digits-requires
+    (λ c κs. search needs)
     sub-n
     returns-2
     returns-3
     add-byte-at
-    byte-at-requires
+    (λ c κs. search needs)
     returns-4
     returns-5)

@@ -26,9 +26,6 @@ within t =
     let d = D t in
     held 46 (S d) (d .digits .result .end) refl (sym (behinds (S d) (A d) 0 (d .digits .result) (d .digits .ensures)) ∙ t .if1 .taken)
 
-digits-requires : tie.Need-digits-requires
-digits-requires c κs = search needs
-
 add-digits : tie.Need-add-digits
 add-digits c = omega (arith, within c)
 
@@ -64,4 +61,4 @@ returns-2 c = let d = c .before .before in no-point (S d) (A d) (d .digits .resu
 
 pub read-mantissa-spec : {M : Type 1} → statement M
 read-mantissa-spec =
-    tie.close (tie.spec digits-requires add-digits digits-requires-2 add-after sub-after add-t9 sub-t10 returns sub-t11 returns-2)
+    tie.close (tie.spec (λ c κs. search needs) add-digits digits-requires-2 add-after sub-after add-t9 sub-t10 returns sub-t11 returns-2)

@@ -7,18 +7,6 @@ use Rattle.tokens.proofs.Cuts.{name-read}
 use Rattle.tokens.proofs.read_name.Statement.{statement}
 use Rattle.tokens.proofs.read_name.Tie as tie
 
-name-bytes-requires : tie.Need-name-bytes-requires
-name-bytes-requires c κs = search needs
-
-name-token-requires : tie.Need-name-token-requires
-name-token-requires c κs = search needs
-
-add-name-next : tie.Need-add-name-next
-add-name-next c = search needs
-
-name-next-requires : tie.Need-name-next-requires
-name-next-requires c κs = search needs
-
 returns : tie.Need-returns
 returns c =
     let b = c .before .before in
@@ -27,4 +15,4 @@ returns c =
     ∙ name-read (a .body .now) (a .at) (b .name-bytes .result) (b .name-bytes .ensures)
 
 pub read-name-spec : {M : Type 1} → statement M
-read-name-spec = tie.close (tie.spec name-bytes-requires name-token-requires add-name-next name-next-requires returns)
+read-name-spec = tie.close (tie.spec (λ c κs. search needs) (λ c κs. search needs) (λ c. search needs) (λ c κs. search needs) returns)

@@ -58,32 +58,11 @@ K w = w .before .before
 told : {b : Bool} (w : tie.After-is-tail) → w .is-tail .result ≡ b → (isWord (tail-of (K w)) || isPoint (tail-of (K w))) ≡ b
 told w t = sym (w .is-tail .ensures) ∙ t
 
-read-mantissa-requires : tie.Need-read-mantissa-requires
-read-mantissa-requires c κs = search needs
-
-bad-requires : tie.Need-bad-requires
-bad-requires c κs = search needs
-
 returns : tie.Need-returns
 returns c = let m = c .before .before in c .bad .ensures ∙ empty (S m) (A m) (D m) (m .read-mantissa .ensures) (c .before .if1 .taken)
 
 read-exponent-requires : tie.Need-read-exponent-requires
 read-exponent-requires c κs = let m = c .before in behind-digits (S m) (A m) (D m) (m .read-mantissa .ensures)
-
-enum-told : tie.Need-enum-told
-enum-told c = search needs
-
-bad-requires-2 : tie.Need-bad-requires-2
-bad-requires-2 c κs = search needs
-
-enum-known-e : tie.Need-enum-known-e
-enum-known-e c = search needs
-
-is-tail-requires : tie.Need-is-tail-requires
-is-tail-requires c κs = search needs
-
-bad-requires-3 : tie.Need-bad-requires-3
-bad-requires-3 c κs = search needs
 
 returns-2 : tie.Need-returns-2
 returns-2 c =
@@ -106,9 +85,6 @@ add-scaled c =
       m .before .before .good,
     )
 
-scaled-requires : tie.Need-scaled-requires
-scaled-requires c κs = search needs
-
 returns-3 : tie.Need-returns-3
 returns-3 c = c .bad2 .ensures ∙ found (c .before .before .before) Wrong (c .before .enum-told .given .1)
 
@@ -125,17 +101,17 @@ pub read-number-spec : {M : Type 1} → statement M
 read-number-spec =
     tie.close
     (tie.spec
-    read-mantissa-requires
-    bad-requires
+    (λ c κs. search needs)
+    (λ c κs. search needs)
     returns
     read-exponent-requires
-    enum-told
-    bad-requires-2
-    enum-known-e
-    is-tail-requires
-    bad-requires-3
+    (λ c. search needs)
+    (λ c κs. search needs)
+    (λ c. search needs)
+    (λ c κs. search needs)
+    (λ c κs. search needs)
     returns-2
     add-scaled
-    scaled-requires
+    (λ c κs. search needs)
     returns-3
     returns-4)

@@ -66,12 +66,6 @@ loop-holds c =
     let a = c .before .before .before .before .before .args in
     turn-first (a .body .now) (a .kinds .now) (a .args .now) (c .before .if1 .left) (c .if2 .left)
 
-take-step-requires : tie.Need-take-step-requires Inv-loop μ-loop
-take-step-requires c κs = search needs
-
-enum-told : tie.Need-enum-told Inv-loop μ-loop
-enum-told c = search needs
-
 same-length : tie.Need-same-length Inv-loop μ-loop
 same-length c = c .before .before .before .loop .inv .long .0
 
@@ -84,9 +78,6 @@ returns-3 c =
     let l = k .before in
     turn-over (B l) (K l) (U l) (l .loop .kinds) (l .loop .args) (l .loop .from) (l .loop .n) (l .loop .inv)
     (sym (c .enum-told .given .1) ∙ k .take-step .ensures)
-
-enum-known-s : tie.Need-enum-known-s Inv-loop μ-loop
-enum-known-s c = search needs
 
 same-length-3 : tie.Need-same-length-3 Inv-loop μ-loop
 same-length-3 c = c .before .before .before .before .loop .inv .long .0
@@ -101,9 +92,6 @@ returns-4 c =
     let l = k .before in
     turn-refused (B l) (K l) (U l) (l .loop .kinds) (l .loop .args) (l .loop .from) (l .loop .n) (l .loop .inv) (e .0 .0) (e .0 .1 .0)
     (sym (e .1) ∙ k .take-step .ensures)
-
-enum-known-s-2 : tie.Need-enum-known-s-2 Inv-loop μ-loop
-enum-known-s-2 c = search needs
 
 slice-write-kinds : tie.Need-slice-write-kinds Inv-loop μ-loop
 slice-write-kinds c = let t = L (c .before) .loop .inv in omega (arith, onward (c .before), t .room .0, t .long .0, t .count)
@@ -135,16 +123,16 @@ row-spec =
     returns
     returns-2
     loop-holds
-    take-step-requires
-    enum-told
+    (λ c κs. search needs)
+    (λ c. search needs)
     same-length
     same-length-2
     returns-3
-    enum-known-s
+    (λ c. search needs)
     same-length-3
     same-length-4
     returns-4
-    enum-known-s-2
+    (λ c. search needs)
     slice-write-kinds
     mul-args
     slice-write-args

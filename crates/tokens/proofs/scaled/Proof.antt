@@ -10,17 +10,11 @@ use Rattle.tokens.proofs.scaled.Tie as tie
 returns : tie.Need-returns
 returns c = let a = c .before .args in out-of-range (a .m) (a .up) (a .down) (too-large (a .m) (a .up) (a .down) (c .if1 .taken))
 
-apart-requires : tie.Need-apart-requires
-apart-requires c κs = search needs
-
 returns-2 : tie.Need-returns-2
 returns-2 c =
     let i = c .before .before in
     let a = i .before .args in
     out-of-range (a .m) (a .up) (a .down) (too-far (a .m) (a .up) (a .down) (i .if1 .left) (omega (arith, c .before .apart .ensures)))
-
-ten-requires : tie.Need-ten-requires
-ten-requires c κs = search needs
 
 int-to-float-t7 : tie.Need-int-to-float-t7
 unfolding Ieee.inFloat
@@ -48,4 +42,4 @@ returns-4 c =
 
 pub scaled-spec : {M : Type 1} → statement M
 scaled-spec =
-    tie.close (tie.spec returns apart-requires returns-2 ten-requires int-to-float-t7 returns-3 int-to-float-t9 returns-4)
+    tie.close (tie.spec returns (λ c κs. search needs) returns-2 (λ c κs. search needs) int-to-float-t7 returns-3 int-to-float-t9 returns-4)

@@ -4,17 +4,8 @@ use borrow.Author.Tests.{eq-eqb, ne-eqb}
 use Rattle.tokens.proofs.sign_end.Statement.{statement}
 use Rattle.tokens.proofs.sign_end.Tie as tie
 
-byte-at-requires : tie.Need-byte-at-requires
-byte-at-requires c κs = search needs
-
-add-result : tie.Need-add-result
-add-result c = search needs
-
 returns : tie.Need-returns
 returns c = simp (eq-eqb _ 43 (sym (c .before .byte-at .ensures) ∙ c .if1 .taken))
-
-add-result-2 : tie.Need-add-result-2
-add-result-2 c = search needs
 
 returns-2 : tie.Need-returns-2
 returns-2 c =
@@ -27,4 +18,4 @@ returns-3 c =
     simp (ne-eqb _ 43 (λ e. c .before .if1 .left (b .ensures ∙ e)), ne-eqb _ 45 (λ e. c .if2 .left (b .ensures ∙ e)))
 
 pub sign-end-spec : {M : Type 1} → statement M
-sign-end-spec = tie.close (tie.spec byte-at-requires add-result returns add-result-2 returns-2 returns-3)
+sign-end-spec = tie.close (tie.spec (λ c κs. search needs) (λ c. search needs) returns (λ c. search needs) returns-2 returns-3)

@@ -4,12 +4,6 @@ use Rattle.tokens.proofs.Spelling.{front-same}
 use Rattle.tokens.proofs.spells_four.Statement.{statement}
 use Rattle.tokens.proofs.spells_four.Tie as tie
 
-four-of-requires : tie.Need-four-of-requires
-four-of-requires c κs = search needs
-
-four-of-requires-2 : tie.Need-four-of-requires-2
-four-of-requires-2 c κs = search needs
-
 returns : tie.Need-returns
 returns c =
     let n = c .before in
@@ -17,4 +11,4 @@ returns c =
     front-same (n .four-of .ensures) (c .four-of2 .ensures) (s .pre .0) (s .pre .1)
 
 pub spells-four-spec : {M : Type 1} → statement M
-spells-four-spec = tie.close (tie.spec four-of-requires four-of-requires-2 returns)
+spells-four-spec = tie.close (tie.spec (λ c κs. search needs) (λ c κs. search needs) returns)

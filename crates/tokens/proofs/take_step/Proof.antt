@@ -36,41 +36,14 @@ N k = k .t .given .0 .1 .0
 named-in : (k : tie.After-t) → Sound (S (k .before .before)) (F (k .before .before)) (Name (P k) (N k)) (k .before .before .take-cut .result .next)
 named-in k = let c = k .before .before in told-sound (S c) (F c) (c .take-cut .result) (c .take-cut .ensures) (Name (P k) (N k)) (k .t .given .1)
 
-take-cut-requires : tie.Need-take-cut-requires
-take-cut-requires c κs = search needs
-
-enum-known-t : tie.Need-enum-known-t
-enum-known-t c = search needs
-
 add-e : tie.Need-add-e
 add-e c = let x = named-in (c .before) in omega (arith, x .0, x .1)
-
-sub-held-name : tie.Need-sub-held-name
-sub-held-name c = search needs
-
-part-held-name-start : tie.Need-part-held-name-start
-part-held-name-start c = search needs
 
 part-held-name-end : tie.Need-part-held-name-end
 part-held-name-end c = let x = named-in (c .before) in omega (arith, x .0, x .1)
 
 held-name-requires : tie.Need-held-name-requires
 held-name-requires c κs = let x = named-in (c .before .before) in simp (length-take, length-drop) (omega (arith, x .0, x .1))
-
-enum-known-t-2 : tie.Need-enum-known-t-2
-enum-known-t-2 c = search needs
-
-enum-known-t-3 : tie.Need-enum-known-t-3
-enum-known-t-3 c = search needs
-
-bits-of-requires : tie.Need-bits-of-requires
-bits-of-requires c κs = search needs
-
-enum-told : tie.Need-enum-told
-enum-told c = search needs
-
-enum-known-t-4 : tie.Need-enum-known-t-4
-enum-known-t-4 c = search needs
 
 returns : tie.Need-returns
 returns c =
@@ -98,18 +71,18 @@ pub take-step-spec : {M : Type 1} → statement M
 take-step-spec =
     tie.close
     (tie.spec
-    take-cut-requires
-    enum-known-t
+    (λ c κs. search needs)
+    (λ c. search needs)
     add-e
-    sub-held-name
-    part-held-name-start
+    (λ c. search needs)
+    (λ c. search needs)
     part-held-name-end
     held-name-requires
-    enum-known-t-2
-    enum-known-t-3
-    bits-of-requires
-    enum-told
-    enum-known-t-4
+    (λ c. search needs)
+    (λ c. search needs)
+    (λ c κs. search needs)
+    (λ c. search needs)
+    (λ c. search needs)
     returns
     returns-2
     returns-3

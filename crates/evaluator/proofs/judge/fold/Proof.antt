@@ -3,15 +3,6 @@ use borrow.Author.Needs.{needs}
 use Rattle.evaluator.proofs.judge.fold.Statement.{statement}
 use Rattle.evaluator.proofs.judge.fold.Tie as tie
 
-add-fine : tie.Need-add-fine
-add-fine c = search needs
-
-fine-requires : tie.Need-fine-requires
-fine-requires c κs = search needs
-
-bad-requires : tie.Need-bad-requires
-bad-requires c κs = search needs
-
 returns : tie.Need-returns
 returns c =
     let a = c .before .before .before .before .args in
@@ -23,4 +14,4 @@ returns-2 c =
     rw (lt-leb (a .k) (a .t .height) (c .before .if1 .left)) (c .bad .ensures)
 
 pub fold-spec : {M : Type 1} → statement M
-fold-spec = tie.close (tie.spec add-fine fine-requires bad-requires returns returns-2)
+fold-spec = tie.close (tie.spec (λ c. search needs) (λ c κs. search needs) (λ c κs. search needs) returns returns-2)

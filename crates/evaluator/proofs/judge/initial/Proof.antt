@@ -6,29 +6,14 @@ use Rattle.evaluator.proofs.Judging.{late, unfit, initial, owed-few}
 use Rattle.evaluator.proofs.judge.initial.Statement.{statement}
 use Rattle.evaluator.proofs.judge.initial.Tie as tie
 
-bad-requires : tie.Need-bad-requires
-bad-requires c κs = search needs
-
 returns : tie.Need-returns
 returns c x = late (Initial (c .before .before .before .args .s) x) (c .bad .ensures) (c .before .if1 .taken)
-
-element-copy-out-if2 : tie.Need-element-copy-out-if2
-element-copy-out-if2 c = search needs
-
-bad-requires-2 : tie.Need-bad-requires-2
-bad-requires-2 c κs = search needs
 
 returns-2 : tie.Need-returns-2
 returns-2 c x = unfit (Initial (c .before .before .before .before .before .args .s) x) (c .bad2 .ensures) (ne-eqb _ 0 (c .before .if2 .taken))
 
-element-write-marks : tie.Need-element-write-marks
-element-write-marks c = search needs
-
 add-fine : tie.Need-add-fine
 add-fine c = omega (arith, owed-few (c .before .before .before .before .before .pre .0))
-
-fine-requires : tie.Need-fine-requires
-fine-requires c κs = search needs
 
 returns-3 : tie.Need-returns-3
 returns-3 c x =
@@ -40,12 +25,12 @@ pub initial-spec : {M : Type 1} → statement M
 initial-spec =
     tie.close
     (tie.spec
-    bad-requires
+    (λ c κs. search needs)
     returns
-    element-copy-out-if2
-    bad-requires-2
+    (λ c. search needs)
+    (λ c κs. search needs)
     returns-2
-    element-write-marks
+    (λ c. search needs)
     add-fine
-    fine-requires
+    (λ c κs. search needs)
     returns-3)

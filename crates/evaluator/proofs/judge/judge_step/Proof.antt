@@ -6,105 +6,30 @@ use Rattle.evaluator.proofs.Judging.{unfit, pushes, folds, slot-found, 
 use Rattle.evaluator.proofs.judge.judge_step.Statement.{statement}
 use Rattle.evaluator.proofs.judge.judge_step.Tie as tie
 
-enum-known-ins : tie.Need-enum-known-ins
-enum-known-ins c = search needs
-
 constant-requires : tie.Need-constant-requires
 constant-requires c κs =
     let a = c .before .before .before .before in
     (a .pre .0, slot-found _ (c .before .before .ins .given .1) (a .pre .1))
-
-enum-known-ins-2 : tie.Need-enum-known-ins-2
-enum-known-ins-2 c = search needs
 
 initial-requires : tie.Need-initial-requires
 initial-requires c κs =
     let a = c .before .before .before .before in
     (a .pre .0, slot-found _ (c .before .before .ins2 .given .1) (a .pre .1))
 
-enum-told : tie.Need-enum-told
-enum-told c = search needs
-
-push-requires : tie.Need-push-requires
-push-requires c κs = search needs
-
-enum-known-ins-3 : tie.Need-enum-known-ins-3
-enum-known-ins-3 c = search needs
-
 slot-requires : tie.Need-slot-requires
 slot-requires c κs =
     let a = c .before .before .before .before in
     (a .pre .0, slot-found _ (c .before .before .ins3 .given .1) (a .pre .1))
-
-enum-told-2 : tie.Need-enum-told-2
-enum-told-2 c = search needs
-
-fold-requires : tie.Need-fold-requires
-fold-requires c κs = search needs
-
-enum-told-3 : tie.Need-enum-told-3
-enum-told-3 c = search needs
-
-fold-requires-2 : tie.Need-fold-requires-2
-fold-requires-2 c κs = search needs
-
-enum-told-4 : tie.Need-enum-told-4
-enum-told-4 c = search needs
-
-fold-requires-3 : tie.Need-fold-requires-3
-fold-requires-3 c κs = search needs
-
-enum-told-5 : tie.Need-enum-told-5
-enum-told-5 c = search needs
-
-fold-requires-4 : tie.Need-fold-requires-4
-fold-requires-4 c κs = search needs
-
-enum-told-6 : tie.Need-enum-told-6
-enum-told-6 c = search needs
-
-fold-requires-5 : tie.Need-fold-requires-5
-fold-requires-5 c κs = search needs
-
-enum-told-7 : tie.Need-enum-told-7
-enum-told-7 c = search needs
-
-fold-requires-6 : tie.Need-fold-requires-6
-fold-requires-6 c κs = search needs
-
-enum-told-8 : tie.Need-enum-told-8
-enum-told-8 c = search needs
-
-fold-requires-7 : tie.Need-fold-requires-7
-fold-requires-7 c κs = search needs
-
-enum-told-9 : tie.Need-enum-told-9
-enum-told-9 c = search needs
-
-fold-requires-8 : tie.Need-fold-requires-8
-fold-requires-8 c κs = search needs
-
-enum-known-ins-4 : tie.Need-enum-known-ins-4
-enum-known-ins-4 c = search needs
 
 store-requires : tie.Need-store-requires
 store-requires c κs =
     let a = c .before .before .before .before in
     (a .pre .0, slot-found _ (c .before .before .ins4 .given .1) (a .pre .1))
 
-enum-known-ins-5 : tie.Need-enum-known-ins-5
-enum-known-ins-5 c = search needs
-
 deriv-requires : tie.Need-deriv-requires
 deriv-requires c κs =
     let a = c .before .before .before .before in
     (a .pre .0, slot-found _ (c .before .before .ins5 .given .1) (a .pre .1))
-
-enum-told-10 : tie.Need-enum-told-10
-enum-told-10 c = search needs
-
-bad-requires : tie.Need-bad-requires
-bad-requires c κs = search needs
 
 returns : tie.Need-returns
 returns c = found (c .before .before .before .ins .given .1) (c .constant .ensures _)
@@ -171,36 +96,36 @@ pub judge-step-spec : {M : Type 1} → statement M
 judge-step-spec =
     tie.close
     (tie.spec
-    enum-known-ins
+    (λ c. search needs)
     constant-requires
-    enum-known-ins-2
+    (λ c. search needs)
     initial-requires
-    enum-told
-    push-requires
-    enum-known-ins-3
+    (λ c. search needs)
+    (λ c κs. search needs)
+    (λ c. search needs)
     slot-requires
-    enum-told-2
-    fold-requires
-    enum-told-3
-    fold-requires-2
-    enum-told-4
-    fold-requires-3
-    enum-told-5
-    fold-requires-4
-    enum-told-6
-    fold-requires-5
-    enum-told-7
-    fold-requires-6
-    enum-told-8
-    fold-requires-7
-    enum-told-9
-    fold-requires-8
-    enum-known-ins-4
+    (λ c. search needs)
+    (λ c κs. search needs)
+    (λ c. search needs)
+    (λ c κs. search needs)
+    (λ c. search needs)
+    (λ c κs. search needs)
+    (λ c. search needs)
+    (λ c κs. search needs)
+    (λ c. search needs)
+    (λ c κs. search needs)
+    (λ c. search needs)
+    (λ c κs. search needs)
+    (λ c. search needs)
+    (λ c κs. search needs)
+    (λ c. search needs)
+    (λ c κs. search needs)
+    (λ c. search needs)
     store-requires
-    enum-known-ins-5
+    (λ c. search needs)
     deriv-requires
-    enum-told-10
-    bad-requires
+    (λ c. search needs)
+    (λ c κs. search needs)
     returns
     returns-2
     returns-3

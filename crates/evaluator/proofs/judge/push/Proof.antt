@@ -4,15 +4,6 @@ use Rattle.limits.specs.Limits.{stackPlaces}
 use Rattle.evaluator.proofs.judge.push.Statement.{statement}
 use Rattle.evaluator.proofs.judge.push.Tie as tie
 
-add-fine : tie.Need-add-fine
-add-fine c = search needs
-
-fine-requires : tie.Need-fine-requires
-fine-requires c κs = search needs
-
-bad-requires : tie.Need-bad-requires
-bad-requires c κs = search needs
-
 returns : tie.Need-returns
 returns c =
     let a = c .before .before .before .before .args in
@@ -24,4 +15,4 @@ returns-2 c =
     rw (le-ltb (a .t .height) stackPlaces (c .before .if1 .left)) (c .bad .ensures)
 
 pub push-spec : {M : Type 1} → statement M
-push-spec = tie.close (tie.spec add-fine fine-requires bad-requires returns returns-2)
+push-spec = tie.close (tie.spec (λ c. search needs) (λ c κs. search needs) (λ c κs. search needs) returns returns-2)

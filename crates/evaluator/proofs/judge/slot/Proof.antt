@@ -6,19 +6,10 @@ use Rattle.evaluator.proofs.Judging.{unfit, pushes}
 use Rattle.evaluator.proofs.judge.slot.Statement.{statement}
 use Rattle.evaluator.proofs.judge.slot.Tie as tie
 
-element-copy-out-if1 : tie.Need-element-copy-out-if1
-element-copy-out-if1 c = search needs
-
-bad-requires : tie.Need-bad-requires
-bad-requires c κs = search needs
-
 returns : tie.Need-returns
 returns c =
     let a = c .before .before .before in
     unfit (Slot (a .args .s)) (c .bad .ensures) (rw (c .before .if1 .taken))
-
-push-requires : tie.Need-push-requires
-push-requires c κs = search needs
 
 returns-2 : tie.Need-returns-2
 returns-2 c =
@@ -26,4 +17,4 @@ returns-2 c =
     pushes (a .pre .0) (Slot (a .args .s)) refl refl refl refl (rw (ne-eqb _ 0 (c .before .if1 .left))) (c .push .ensures)
 
 pub slot-spec : {M : Type 1} → statement M
-slot-spec = tie.close (tie.spec element-copy-out-if1 bad-requires returns push-requires returns-2)
+slot-spec = tie.close (tie.spec (λ c. search needs) (λ c κs. search needs) returns (λ c κs. search needs) returns-2)

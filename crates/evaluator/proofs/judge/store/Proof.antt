@@ -7,28 +7,13 @@ use Rattle.evaluator.proofs.Judging.{unfit, store}
 use Rattle.evaluator.proofs.judge.store.Statement.{statement}
 use Rattle.evaluator.proofs.judge.store.Tie as tie
 
-bad-requires : tie.Need-bad-requires
-bad-requires c κs = search needs
-
 returns : tie.Need-returns
 returns c = unfit (Store (c .before .before .before .args .s)) (c .bad .ensures) (rw (ne-eqb _ 1 (c .before .if1 .taken)))
-
-element-copy-out-if2 : tie.Need-element-copy-out-if2
-element-copy-out-if2 c = search needs
-
-bad-requires-2 : tie.Need-bad-requires-2
-bad-requires-2 c κs = search needs
 
 returns-2 : tie.Need-returns-2
 returns-2 c =
     let a = c .before .before .before .before .before in
     unfit (Store (a .args .s)) (c .bad2 .ensures) (and-fails (eqb (a .args .t .height) 1) (λ _. ne-eqb _ 0 (c .before .if2 .taken)))
-
-element-write-marks : tie.Need-element-write-marks
-element-write-marks c = search needs
-
-fine-requires : tie.Need-fine-requires
-fine-requires c κs = search needs
 
 returns-3 : tie.Need-returns-3
 returns-3 c =
@@ -40,11 +25,11 @@ pub store-spec : {M : Type 1} → statement M
 store-spec =
     tie.close
     (tie.spec
-    bad-requires
+    (λ c κs. search needs)
     returns
-    element-copy-out-if2
-    bad-requires-2
+    (λ c. search needs)
+    (λ c κs. search needs)
     returns-2
-    element-write-marks
-    fine-requires
+    (λ c. search needs)
+    (λ c κs. search needs)
     returns-3)

@@ -2,12 +2,6 @@ use borrow.Author.Needs.{needs}
 use Rattle.evaluator.proofs.run.compar.Statement.{statement}
 use Rattle.evaluator.proofs.run.compar.Tie as tie
 
-peek-requires : tie.Need-peek-requires
-peek-requires c κs = search needs
-
-peek-requires-2 : tie.Need-peek-requires-2
-peek-requires-2 c κs = search needs
-
 returns : tie.Need-returns
 returns c = rw (← c .before .peek2 .ensures, ← c .before .before .peek .ensures, c .if1 .taken)
 
@@ -15,4 +9,4 @@ returns-2 : tie.Need-returns-2
 returns-2 c = rw (← c .before .peek2 .ensures, ← c .before .before .peek .ensures, c .if1 .left)
 
 pub compar-spec : {M : Type 1} → statement M
-compar-spec = tie.close (tie.spec peek-requires peek-requires-2 returns returns-2)
+compar-spec = tie.close (tie.spec (λ c κs. search needs) (λ c κs. search needs) returns returns-2)

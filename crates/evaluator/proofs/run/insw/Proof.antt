@@ -2,15 +2,6 @@ use borrow.Author.Needs.{needs}
 use Rattle.evaluator.proofs.run.insw.Statement.{statement}
 use Rattle.evaluator.proofs.run.insw.Tie as tie
 
-peek-requires : tie.Need-peek-requires
-peek-requires c κs = search needs
-
-peek-requires-2 : tie.Need-peek-requires-2
-peek-requires-2 c κs = search needs
-
-peek-requires-3 : tie.Need-peek-requires-3
-peek-requires-3 c κs = search needs
-
 returns : tie.Need-returns
 returns c = rw (← c .before .peek3 .ensures, ← c .before .before .peek2 .ensures, ← c .before .before .before .peek .ensures, c .if1 .taken)
 
@@ -18,4 +9,4 @@ returns-2 : tie.Need-returns-2
 returns-2 c = rw (← c .before .peek3 .ensures, ← c .before .before .peek2 .ensures, ← c .before .before .before .peek .ensures, c .if1 .left)
 
 pub insw-spec : {M : Type 1} → statement M
-insw-spec = tie.close (tie.spec peek-requires peek-requires-2 peek-requires-3 returns returns-2)
+insw-spec = tie.close (tie.spec (λ c κs. search needs) (λ c κs. search needs) (λ c κs. search needs) returns returns-2)

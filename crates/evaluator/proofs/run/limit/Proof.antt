@@ -2,15 +2,6 @@ use borrow.Author.Needs.{needs}
 use Rattle.evaluator.proofs.run.limit.Statement.{statement}
 use Rattle.evaluator.proofs.run.limit.Tie as tie
 
-peek-requires : tie.Need-peek-requires
-peek-requires c κs = search needs
-
-peek-requires-2 : tie.Need-peek-requires-2
-peek-requires-2 c κs = search needs
-
-peek-requires-3 : tie.Need-peek-requires-3
-peek-requires-3 c κs = search needs
-
 returns : tie.Need-returns
 returns c =
     let x = c .before in
@@ -31,4 +22,4 @@ returns-3 c =
 
 pub limit-spec : {M : Type 1} → statement M
 limit-spec =
-    tie.close (tie.spec peek-requires peek-requires-2 peek-requires-3 returns returns-2 returns-3)
+    tie.close (tie.spec (λ c κs. search needs) (λ c κs. search needs) (λ c κs. search needs) returns returns-2 returns-3)

@@ -16,9 +16,6 @@ loop-holds c =
     let s = c .before .before .before in
     first (s .args .program .now) (s .args .values .now) (s .args .derivs .now) (s .args .begin) (s .pre .0 .0) (s .pre .0 .1)
 
-read-requires : tie.Need-read-requires Inv-loop μ-loop
-read-requires c κs = search needs
-
 run-step-requires : tie.Need-run-step-requires Inv-loop μ-loop
 run-step-requires c κs =
     let a = c .before .before .before in
@@ -55,7 +52,7 @@ run-spec =
     Inv-loop
     μ-loop
     loop-holds
-    read-requires
+    (λ c κs. search needs)
     run-step-requires
     add-i
     loop-less

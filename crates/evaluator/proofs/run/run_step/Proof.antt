@@ -7,35 +7,11 @@ use Rattle.evaluator.proofs.Steps.{holds, reach, room, in-values, in-de
 use Rattle.evaluator.proofs.run.run_step.Statement.{statement}
 use Rattle.evaluator.proofs.run.run_step.Tie as tie
 
-enum-known-ins : tie.Need-enum-known-ins
-enum-known-ins c = search needs
-
-cast-values : tie.Need-cast-values
-cast-values c = search needs
-
-mul-values : tie.Need-mul-values
-mul-values c = search needs
-
 slice-write-values : tie.Need-slice-write-values
 slice-write-values c = let a = c .before in in-values _ (a .ins .given .1) (a .before .before .before .before .pre)
 
-enum-told : tie.Need-enum-told
-enum-told c = search needs
-
-enum-known-ins-2 : tie.Need-enum-known-ins-2
-enum-known-ins-2 c = search needs
-
 put-requires : tie.Need-put-requires
 put-requires c κs = let a = c .before .before in room (Value _) (a .ins2 .given .1) refl (a .before .before .before .before .pre)
-
-enum-known-ins-3 : tie.Need-enum-known-ins-3
-enum-known-ins-3 c = search needs
-
-cast-put : tie.Need-cast-put
-cast-put c = search needs
-
-mul-put : tie.Need-mul-put
-mul-put c = search needs
 
 slice-read-put : tie.Need-slice-read-put
 slice-read-put c = let a = c .before .before .before in in-values _ (a .ins3 .given .1) (a .before .before .before .before .pre)
@@ -44,9 +20,6 @@ put-requires-2 : tie.Need-put-requires-2
 put-requires-2 c κs =
     let a = c .before .before .before in
     room (Slot _) (a .ins3 .given .1) refl (a .before .before .before .before .pre)
-
-enum-told-2 : tie.Need-enum-told-2
-enum-told-2 c = search needs
 
 peek-requires : tie.Need-peek-requires
 peek-requires c κs =
@@ -63,9 +36,6 @@ put-requires-3 c κs =
     let a = c .before .before .before .before .before in
     room Add (a .enum-told2 .given .1) refl (a .before .before .before .before .pre)
 
-enum-told-3 : tie.Need-enum-told-3
-enum-told-3 c = search needs
-
 peek-requires-3 : tie.Need-peek-requires-3
 peek-requires-3 c κs =
     let a = c .before .before in
@@ -80,9 +50,6 @@ put-requires-4 : tie.Need-put-requires-4
 put-requires-4 c κs =
     let a = c .before .before .before .before .before in
     room Sub (a .enum-told3 .given .1) refl (a .before .before .before .before .pre)
-
-enum-told-4 : tie.Need-enum-told-4
-enum-told-4 c = search needs
 
 peek-requires-5 : tie.Need-peek-requires-5
 peek-requires-5 c κs =
@@ -99,9 +66,6 @@ put-requires-5 c κs =
     let a = c .before .before .before .before .before in
     room Mul (a .enum-told4 .given .1) refl (a .before .before .before .before .pre)
 
-enum-told-5 : tie.Need-enum-told-5
-enum-told-5 c = search needs
-
 peek-requires-7 : tie.Need-peek-requires-7
 peek-requires-7 c κs =
     let a = c .before .before in
@@ -117,9 +81,6 @@ put-requires-6 c κs =
     let a = c .before .before .before .before .before in
     room Div (a .enum-told5 .given .1) refl (a .before .before .before .before .pre)
 
-enum-told-6 : tie.Need-enum-told-6
-enum-told-6 c = search needs
-
 peek-requires-9 : tie.Need-peek-requires-9
 peek-requires-9 c κs =
     let a = c .before .before in
@@ -130,9 +91,6 @@ put-requires-7 c κs =
     let a = c .before .before .before in
     room Neg (a .enum-told6 .given .1) refl (a .before .before .before .before .pre)
 
-enum-told-7 : tie.Need-enum-told-7
-enum-told-7 c = search needs
-
 insw-requires : tie.Need-insw-requires
 insw-requires c κs = let a = c .before .before in holds Insw (a .enum-told7 .given .1) (a .before .before .before .before .pre)
 
@@ -141,9 +99,6 @@ put-requires-8 c κs =
     let a = c .before .before .before in
     room Insw (a .enum-told7 .given .1) refl (a .before .before .before .before .pre)
 
-enum-told-8 : tie.Need-enum-told-8
-enum-told-8 c = search needs
-
 limit-requires : tie.Need-limit-requires
 limit-requires c κs = let a = c .before .before in holds Limit (a .enum-told8 .given .1) (a .before .before .before .before .pre)
 
@@ -151,9 +106,6 @@ put-requires-9 : tie.Need-put-requires-9
 put-requires-9 c κs =
     let a = c .before .before .before in
     room Limit (a .enum-told8 .given .1) refl (a .before .before .before .before .pre)
-
-enum-told-9 : tie.Need-enum-told-9
-enum-told-9 c = search needs
 
 compar-requires : tie.Need-compar-requires
 compar-requires c κs =
@@ -165,19 +117,10 @@ put-requires-10 c κs =
     let a = c .before .before .before in
     room Compar (a .enum-told9 .given .1) refl (a .before .before .before .before .pre)
 
-enum-known-ins-4 : tie.Need-enum-known-ins-4
-enum-known-ins-4 c = search needs
-
 peek-requires-10 : tie.Need-peek-requires-10
 peek-requires-10 c κs =
     let a = c .before .before in
     reach (Store _) (a .ins4 .given .1) (a .before .before .before .before .pre) _ (lit< tt)
-
-cast-values-2 : tie.Need-cast-values-2
-cast-values-2 c = search needs
-
-mul-values-2 : tie.Need-mul-values-2
-mul-values-2 c = search needs
 
 slice-write-values-2 : tie.Need-slice-write-values-2
 slice-write-values-2 c =
@@ -189,19 +132,10 @@ sub-result c =
     let a = c .before .before .before in
     holds (Store _) (a .ins4 .given .1) (a .before .before .before .before .pre) .low
 
-enum-known-ins-5 : tie.Need-enum-known-ins-5
-enum-known-ins-5 c = search needs
-
 peek-requires-11 : tie.Need-peek-requires-11
 peek-requires-11 c κs =
     let a = c .before .before in
     reach (Deriv _) (a .ins5 .given .1) (a .before .before .before .before .pre) _ (lit< tt)
-
-cast-derivs : tie.Need-cast-derivs
-cast-derivs c = search needs
-
-mul-derivs : tie.Need-mul-derivs
-mul-derivs c = search needs
 
 slice-write-derivs : tie.Need-slice-write-derivs
 slice-write-derivs c =
@@ -212,12 +146,6 @@ sub-result-2 : tie.Need-sub-result-2
 sub-result-2 c =
     let a = c .before .before .before in
     holds (Deriv _) (a .ins5 .given .1) (a .before .before .before .before .pre) .low
-
-enum-told-10 : tie.Need-enum-told-10
-enum-told-10 c = search needs
-
-same-length : tie.Need-same-length
-same-length c = search needs
 
 returns : tie.Need-returns
 returns c = let a = c .before in constant _ _ (a .ins .given .1) (a .before .before .before .before .pre)
@@ -279,16 +207,10 @@ returns-12 c =
     let a = c .before .before .before .before in
     yields Compar (a .enum-told9 .given .1) refl (c .put10 .ensures) refl (c .before .compar .ensures)
 
-same-length-2 : tie.Need-same-length-2
-same-length-2 c = search needs
-
 returns-13 : tie.Need-returns-13
 returns-13 c =
     let a = c .before .before .before in
     stored _ _ (a .ins4 .given .1) (c .peek10 .ensures) (a .before .before .before .before .pre)
-
-same-length-3 : tie.Need-same-length-3
-same-length-3 c = search needs
 
 returns-14 : tie.Need-returns-14
 returns-14 c =
@@ -302,60 +224,60 @@ pub run-step-spec : {M : Type 1} → statement M
 run-step-spec =
     tie.close
     (tie.spec
-    enum-known-ins
-    cast-values
-    mul-values
+    (λ c. search needs)
+    (λ c. search needs)
+    (λ c. search needs)
     slice-write-values
-    enum-told
-    enum-known-ins-2
+    (λ c. search needs)
+    (λ c. search needs)
     put-requires
-    enum-known-ins-3
-    cast-put
-    mul-put
+    (λ c. search needs)
+    (λ c. search needs)
+    (λ c. search needs)
     slice-read-put
     put-requires-2
-    enum-told-2
+    (λ c. search needs)
     peek-requires
     peek-requires-2
     put-requires-3
-    enum-told-3
+    (λ c. search needs)
     peek-requires-3
     peek-requires-4
     put-requires-4
-    enum-told-4
+    (λ c. search needs)
     peek-requires-5
     peek-requires-6
     put-requires-5
-    enum-told-5
+    (λ c. search needs)
     peek-requires-7
     peek-requires-8
     put-requires-6
-    enum-told-6
+    (λ c. search needs)
     peek-requires-9
     put-requires-7
-    enum-told-7
+    (λ c. search needs)
     insw-requires
     put-requires-8
-    enum-told-8
+    (λ c. search needs)
     limit-requires
     put-requires-9
-    enum-told-9
+    (λ c. search needs)
     compar-requires
     put-requires-10
-    enum-known-ins-4
+    (λ c. search needs)
     peek-requires-10
-    cast-values-2
-    mul-values-2
+    (λ c. search needs)
+    (λ c. search needs)
     slice-write-values-2
     sub-result
-    enum-known-ins-5
+    (λ c. search needs)
     peek-requires-11
-    cast-derivs
-    mul-derivs
+    (λ c. search needs)
+    (λ c. search needs)
     slice-write-derivs
     sub-result-2
-    enum-told-10
-    same-length
+    (λ c. search needs)
+    (λ c. search needs)
     returns
     returns-2
     returns-3
@@ -368,8 +290,8 @@ run-step-spec =
     returns-10
     returns-11
     returns-12
-    same-length-2
+    (λ c. search needs)
     returns-13
-    same-length-3
+    (λ c. search needs)
     returns-14
     returns-15)

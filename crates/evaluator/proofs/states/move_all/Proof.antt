@@ -17,12 +17,6 @@ abbrev μ-loop : tie.MeasureT-loop
 loop-holds : tie.Need-loop-holds Inv-loop μ-loop
 loop-holds c = let s = c .before .before .before in first (s .args .values .now) (s .pre .0)
 
-read-requires : tie.Need-read-requires Inv-loop μ-loop
-read-requires c κs = search needs
-
-phase-requires : tie.Need-phase-requires Inv-loop μ-loop
-phase-requires c κs = search needs
-
 same-length : tie.Need-same-length Inv-loop μ-loop
 same-length c = c .before .before .before .before .loop .inv .wide
 
@@ -71,8 +65,8 @@ move-all-spec =
     Inv-loop
     μ-loop
     loop-holds
-    read-requires
-    phase-requires
+    (λ c κs. search needs)
+    (λ c κs. search needs)
     same-length
     returns
     move-step-requires

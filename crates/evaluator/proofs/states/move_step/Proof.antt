@@ -6,23 +6,11 @@ use Rattle.evaluator.proofs.Passes.{others, moves}
 use Rattle.evaluator.proofs.states.move_step.Statement.{statement}
 use Rattle.evaluator.proofs.states.move_step.Tie as tie
 
-enum-known-ins : tie.Need-enum-known-ins
-enum-known-ins c = search needs
-
-cast-at : tie.Need-cast-at
-cast-at c = search needs
-
-mul-values : tie.Need-mul-values
-mul-values c = search needs
-
 slice-read-values : tie.Need-slice-read-values
 slice-read-values c =
     let i = c .before .before in
     let s = i .before .before in
     omega (arith, slot-found _ (i .ins .given .1) (s .pre .0), s .pre .1 .1)
-
-mul-values-2 : tie.Need-mul-values-2
-mul-values-2 c = search needs
 
 shared-slice-read-values : tie.Need-shared-slice-read-values
 shared-slice-read-values c =
@@ -30,17 +18,11 @@ shared-slice-read-values c =
     let s = i .before .before in
     omega (arith, slot-found _ (i .ins .given .1) (s .pre .0), s .pre .1 .0)
 
-mul-values-3 : tie.Need-mul-values-3
-mul-values-3 c = search needs
-
 slice-write-values : tie.Need-slice-write-values
 slice-write-values c =
     let i = c .before .before .before in
     let s = i .before .before in
     omega (arith, slot-found _ (i .ins .given .1) (s .pre .0), s .pre .1 .1)
-
-same-length : tie.Need-same-length
-same-length c = search needs
 
 returns : tie.Need-returns
 returns c = rw (c .before .before .before .ins .given .1)
@@ -54,14 +36,14 @@ pub move-step-spec : {M : Type 1} → statement M
 move-step-spec =
     tie.close
     (tie.spec
-    enum-known-ins
-    cast-at
-    mul-values
+    (λ c. search needs)
+    (λ c. search needs)
+    (λ c. search needs)
     slice-read-values
-    mul-values-2
+    (λ c. search needs)
     shared-slice-read-values
-    mul-values-3
+    (λ c. search needs)
     slice-write-values
-    same-length
+    (λ c. search needs)
     returns
     returns-2)

@@ -6,23 +6,11 @@ use Rattle.evaluator.proofs.Passes.{others, starts}
 use Rattle.evaluator.proofs.states.start_step.Statement.{statement}
 use Rattle.evaluator.proofs.states.start_step.Tie as tie
 
-enum-known-ins : tie.Need-enum-known-ins
-enum-known-ins c = search needs
-
-cast-values : tie.Need-cast-values
-cast-values c = search needs
-
-mul-values : tie.Need-mul-values
-mul-values c = search needs
-
 slice-write-values : tie.Need-slice-write-values
 slice-write-values c =
     let i = c .before in
     let s = i .before .before in
     omega (arith, slot-found _ (i .ins .given .1) (s .pre .0), s .pre .1)
-
-same-length : tie.Need-same-length
-same-length c = search needs
 
 returns : tie.Need-returns
 returns c = rw (c .before .ins .given .1)
@@ -34,10 +22,10 @@ pub start-step-spec : {M : Type 1} → statement M
 start-step-spec =
     tie.close
     (tie.spec
-    enum-known-ins
-    cast-values
-    mul-values
+    (λ c. search needs)
+    (λ c. search needs)
+    (λ c. search needs)
     slice-write-values
-    same-length
+    (λ c. search needs)
     returns
     returns-2)

@@ -18,21 +18,6 @@ abbrev μ-loop : tie.MeasureT-loop
 loop-holds : tie.Need-loop-holds Inv-loop μ-loop
 loop-holds c = counting-first (omega arith)
 
-end-of-part-requires : tie.Need-end-of-part-requires Inv-loop μ-loop
-end-of-part-requires c κs = search needs
-
-count-part-requires : tie.Need-count-part-requires Inv-loop μ-loop
-count-part-requires c κs = search needs
-
-cast-n : tie.Need-cast-n Inv-loop μ-loop
-cast-n c = search needs
-
-add-n : tie.Need-add-n Inv-loop μ-loop
-add-n c = search needs
-
-loop-less : tie.Need-loop-less Inv-loop μ-loop
-loop-less c = search needs
-
 loop-again : tie.Need-loop-again Inv-loop μ-loop
 loop-again c =
     let end = c .before .end-of-part .ensures in
@@ -49,10 +34,10 @@ count-definitions-spec =
     Inv-loop
     μ-loop
     loop-holds
-    end-of-part-requires
-    count-part-requires
-    cast-n
-    add-n
-    loop-less
+    (λ c κs. search needs)
+    (λ c κs. search needs)
+    (λ c. search needs)
+    (λ c. search needs)
+    (λ c. search needs)
     loop-again
     returns)

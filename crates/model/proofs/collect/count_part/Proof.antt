@@ -11,24 +11,6 @@ Inv-loop kinds from end n₀ i₀ n i = Counting kinds end from n i
 abbrev μ-loop : tie.MeasureT-loop
 μ-loop kinds from end n₀ i₀ n i = end - i
 
-loop-holds : tie.Need-loop-holds Inv-loop μ-loop
-loop-holds c = search needs
-
-shared-slice-read-one-defining : tie.Need-shared-slice-read-one-defining Inv-loop μ-loop
-shared-slice-read-one-defining c = search needs
-
-one-defining-requires : tie.Need-one-defining-requires Inv-loop μ-loop
-one-defining-requires c κs = search needs
-
-add-n : tie.Need-add-n Inv-loop μ-loop
-add-n c = search needs
-
-add-i : tie.Need-add-i Inv-loop μ-loop
-add-i c = search needs
-
-loop-less : tie.Need-loop-less Inv-loop μ-loop
-loop-less c = search needs
-
 loop-again : tie.Need-loop-again Inv-loop μ-loop
 loop-again c =
     let one = c .one-defining .ensures in
@@ -43,11 +25,11 @@ count-part-spec =
     (tie.spec
     Inv-loop
     μ-loop
-    loop-holds
-    shared-slice-read-one-defining
-    one-defining-requires
-    add-n
-    add-i
-    loop-less
+    (λ c. search needs)
+    (λ c. search needs)
+    (λ c κs. search needs)
+    (λ c. search needs)
+    (λ c. search needs)
+    (λ c. search needs)
     loop-again
     returns)

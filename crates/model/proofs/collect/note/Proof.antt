@@ -5,24 +5,6 @@ use Rattle.model.proofs.Collecting.{noted, not-noted}
 use Rattle.model.proofs.collect.note.Statement.{statement}
 use Rattle.model.proofs.collect.note.Tie as tie
 
-is-defining-requires : tie.Need-is-defining-requires
-is-defining-requires c κs = search needs
-
-put-word-requires : tie.Need-put-word-requires
-put-word-requires c κs = search needs
-
-put-short-requires : tie.Need-put-short-requires
-put-short-requires c κs = search needs
-
-add-result : tie.Need-add-result
-add-result c = search needs
-
-same-length : tie.Need-same-length
-same-length c = search needs
-
-same-length-2 : tie.Need-same-length-2
-same-length-2 c = search needs
-
 returns : tie.Need-returns
 returns c =
     let defining = c .before .before .before .before .before .before .before .before in
@@ -36,11 +18,11 @@ pub note-spec : {M : Type 1} → statement M
 note-spec =
     tie.close
     (tie.spec
-    is-defining-requires
-    put-word-requires
-    put-short-requires
-    add-result
-    same-length
-    same-length-2
+    (λ c κs. search needs)
+    (λ c κs. search needs)
+    (λ c κs. search needs)
+    (λ c. search needs)
+    (λ c. search needs)
+    (λ c. search needs)
     returns
     returns-2)

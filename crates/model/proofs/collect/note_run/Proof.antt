@@ -17,21 +17,6 @@ loop-holds c =
     let s = begin .args in
     collecting-first (s .kinds .now) (s .args .now) (s .end) (s .from) (s .at) (s .keys .now) (s .places .now) (begin .pre .1)
 
-byte-at-requires : tie.Need-byte-at-requires Inv-loop μ-loop
-byte-at-requires c κs = search needs
-
-word-at-requires : tie.Need-word-at-requires Inv-loop μ-loop
-word-at-requires c κs = search needs
-
-note-requires : tie.Need-note-requires Inv-loop μ-loop
-note-requires c κs = search needs
-
-add-i : tie.Need-add-i Inv-loop μ-loop
-add-i c = search needs
-
-loop-less : tie.Need-loop-less Inv-loop μ-loop
-loop-less c = search needs
-
 loop-again : tie.Need-loop-again Inv-loop μ-loop
 loop-again c =
     let noting = c .before .before .before .before in
@@ -55,11 +40,11 @@ note-run-spec =
     Inv-loop
     μ-loop
     loop-holds
-    byte-at-requires
-    word-at-requires
-    note-requires
-    add-i
-    loop-less
+    (λ c κs. search needs)
+    (λ c κs. search needs)
+    (λ c κs. search needs)
+    (λ c. search needs)
+    (λ c. search needs)
     loop-again
     same-length
     same-length-2

@@ -5,31 +5,10 @@ use Rattle.model.proofs.Collecting.{noted-none, noted-all, noted-one}
 use Rattle.model.proofs.collect.note_statement.Statement.{statement}
 use Rattle.model.proofs.collect.note_statement.Tie as tie
 
-short-at-requires : tie.Need-short-at-requires
-short-at-requires c κs = search needs
-
-add-short-at : tie.Need-add-short-at
-add-short-at c = search needs
-
-short-at-requires-2 : tie.Need-short-at-requires-2
-short-at-requires-2 c κs = search needs
-
 returns : tie.Need-returns
 returns c =
     let end = c .before in
     noted-none (end .before .short-at .ensures .0) (end .short-at2 .ensures .0) (c .if1 .taken) refl refl refl
-
-byte-at-requires : tie.Need-byte-at-requires
-byte-at-requires c κs = search needs
-
-note-run-requires : tie.Need-note-run-requires
-note-run-requires c κs = search needs
-
-same-length : tie.Need-same-length
-same-length c = search needs
-
-same-length-2 : tie.Need-same-length-2
-same-length-2 c = search needs
 
 returns-2 : tie.Need-returns-2
 returns-2 c =
@@ -39,24 +18,6 @@ returns-2 c =
     let end = test .before in
     noted-all (end .before .short-at .ensures .0) (end .short-at2 .ensures .0) (test .if1 .left) (one .before .byte-at .ensures) (one .if2 .taken)
     (run .note-run .ensures)
-
-spot-of-requires : tie.Need-spot-of-requires
-spot-of-requires c κs = search needs
-
-byte-at-requires-2 : tie.Need-byte-at-requires-2
-byte-at-requires-2 c κs = search needs
-
-word-at-requires : tie.Need-word-at-requires
-word-at-requires c κs = search needs
-
-note-requires : tie.Need-note-requires
-note-requires c κs = search needs
-
-same-length-3 : tie.Need-same-length-3
-same-length-3 c = search needs
-
-same-length-4 : tie.Need-same-length-4
-same-length-4 c = search needs
 
 returns-3 : tie.Need-returns-3
 returns-3 c =
@@ -73,19 +34,19 @@ pub note-statement-spec : {M : Type 1} → statement M
 note-statement-spec =
     tie.close
     (tie.spec
-    short-at-requires
-    add-short-at
-    short-at-requires-2
+    (λ c κs. search needs)
+    (λ c. search needs)
+    (λ c κs. search needs)
     returns
-    byte-at-requires
-    note-run-requires
-    same-length
-    same-length-2
+    (λ c κs. search needs)
+    (λ c κs. search needs)
+    (λ c. search needs)
+    (λ c. search needs)
     returns-2
-    spot-of-requires
-    byte-at-requires-2
-    word-at-requires
-    note-requires
-    same-length-3
-    same-length-4
+    (λ c κs. search needs)
+    (λ c κs. search needs)
+    (λ c κs. search needs)
+    (λ c κs. search needs)
+    (λ c. search needs)
+    (λ c. search needs)
     returns-3)

@@ -23,12 +23,6 @@ note-statement-requires c κs =
     let t = test .before .before .before .before .before .before .before .pre in
     (omega (arith, test .loop-test .taken, t .few), test .before .loop .inv .few)
 
-add-j : tie.Need-add-j Inv-loop μ-loop
-add-j c = search needs
-
-loop-less : tie.Need-loop-less Inv-loop μ-loop
-loop-less c = search needs
-
 loop-again : tie.Need-loop-again Inv-loop μ-loop
 loop-again c =
     let noting = c .before .before .before .before in
@@ -53,8 +47,8 @@ note-statements-spec =
     μ-loop
     loop-holds
     note-statement-requires
-    add-j
-    loop-less
+    (λ c. search needs)
+    (λ c. search needs)
     loop-again
     same-length
     same-length-2

@@ -9,21 +9,6 @@ use Rattle.model.proofs.Collecting.{once-few, once-defines}
 use Rattle.model.proofs.collect.one_defining.Statement.{statement}
 use Rattle.model.proofs.collect.one_defining.Tie as tie
 
-one-if-requires : tie.Need-one-if-requires
-one-if-requires c κs = search needs
-
-one-if-requires-2 : tie.Need-one-if-requires-2
-one-if-requires-2 c κs = search needs
-
-add-result : tie.Need-add-result
-add-result c = search needs
-
-one-if-requires-3 : tie.Need-one-if-requires-3
-one-if-requires-3 c κs = search needs
-
-add-result-2 : tie.Need-add-result-2
-add-result-2 c = search needs
-
 returns : tie.Need-returns
 returns c =
     let one = c .before .before in
@@ -34,4 +19,4 @@ returns c =
     (sum, omega (arith, sum, once-few (defines k)))
 
 pub one-defining-spec : {M : Type 1} → statement M
-one-defining-spec = tie.close (tie.spec one-if-requires one-if-requires-2 add-result one-if-requires-3 add-result-2 returns)
+one-defining-spec = tie.close (tie.spec (λ c κs. search needs) (λ c κs. search needs) (λ c. search needs) (λ c κs. search needs) (λ c. search needs) returns)

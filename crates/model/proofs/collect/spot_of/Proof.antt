@@ -9,11 +9,8 @@ use Rattle.model.proofs.collect.spot_of.Tie as tie
 returns : tie.Need-returns
 returns c = let h = c .before .pre in rw (eq-eqb _ 2 (c .if1 .taken)) (refl, omega arith, omega (arith, h))
 
-sub-result : tie.Need-sub-result
-sub-result c = search needs
-
 returns-2 : tie.Need-returns-2
 returns-2 c = let h = c .before .pre in rw (ne-eqb _ 2 (c .if1 .left)) (refl, omega (arith, h), omega (arith, h))
 
 pub spot-of-spec : {M : Type 1} → statement M
-spot-of-spec = tie.close (tie.spec returns sub-result returns-2)
+spot-of-spec = tie.close (tie.spec returns (λ c. search needs) returns-2)

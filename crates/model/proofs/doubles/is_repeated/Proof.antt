@@ -17,27 +17,12 @@ abbrev μ-loop : tie.MeasureT-loop
 loop-holds : tie.Need-loop-holds Inv-loop μ-loop
 loop-holds c = refl
 
-mul-find : tie.Need-mul-find Inv-loop μ-loop
-mul-find c = search needs
-
-shared-slice-read-find : tie.Need-shared-slice-read-find Inv-loop μ-loop
-shared-slice-read-find c = search needs
-
-find-requires : tie.Need-find-requires Inv-loop μ-loop
-find-requires c κs = search needs
-
 returns : tie.Need-returns Inv-loop μ-loop
 returns c =
     let s = c .before .before .before .before .before .before .before .before in
     let at = c .before .before .before .before .loop in
     sym (repeat-stop (s .args .keys .now) (at .d) (s .args .end) (c .before .before .before .loop-test .taken) (s .pre .1)
     (omega (arith, c .if1 .taken, c .before .find .ensures))) ∙ at .inv
-
-add-d : tie.Need-add-d Inv-loop μ-loop
-add-d c = search needs
-
-loop-less : tie.Need-loop-less Inv-loop μ-loop
-loop-less c = search needs
 
 loop-again : tie.Need-loop-again Inv-loop μ-loop
 loop-again c =
@@ -58,11 +43,11 @@ is-repeated-spec =
     Inv-loop
     μ-loop
     loop-holds
-    mul-find
-    shared-slice-read-find
-    find-requires
+    (λ c. search needs)
+    (λ c. search needs)
+    (λ c κs. search needs)
     returns
-    add-d
-    loop-less
+    (λ c. search needs)
+    (λ c. search needs)
     loop-again
     returns-2)

@@ -18,9 +18,6 @@ abbrev μ-loop : tie.MeasureT-loop
 loop-holds : tie.Need-loop-holds Inv-loop μ-loop
 loop-holds c = c .before .pre
 
-short-at-requires : tie.Need-short-at-requires Inv-loop μ-loop
-short-at-requires c κs = search needs
-
 returns : tie.Need-returns Inv-loop μ-loop
 returns c =
     let s = c .before .before .before .before .before .args in
@@ -29,9 +26,6 @@ returns c =
 
 add-d : tie.Need-add-d Inv-loop μ-loop
 add-d c = omega arith
-
-loop-less : tie.Need-loop-less Inv-loop μ-loop
-loop-less c = search needs
 
 loop-again : tie.Need-loop-again Inv-loop μ-loop
 loop-again c =
@@ -51,9 +45,9 @@ passed-spec =
     Inv-loop
     μ-loop
     loop-holds
-    short-at-requires
+    (λ c κs. search needs)
     returns
     add-d
-    loop-less
+    (λ c. search needs)
     loop-again
     returns-2)

@@ -33,9 +33,6 @@ returns c =
     (sym (c .before .is-repeated .ensures) ∙ not-true _ (c .if1 .taken)) in
     record { behind = rw e; content = rw e }
 
-short-at-requires : tie.Need-short-at-requires Inv-loop μ-loop
-short-at-requires c κs = search needs
-
 passed-requires : tie.Need-passed-requires Inv-loop μ-loop
 passed-requires c κs = omega arith
 
@@ -45,12 +42,6 @@ loop-holds c =
     let first = c .passed .ensures ∙ ap (λ b. before b (s .places .now)) (c .before .short-at .ensures .0) in
     let one = repeat-single (s .lines .now) (s .bounds .now) (s .keys .now) (s .places .now) in
     (first, reports-first (repeatAt (s .lines .now) (s .bounds .now) (s .keys .now) (s .places .now)) (length (s .lines .now)) (s .faults .now) one)
-
-add-short-at : tie.Need-add-short-at Inv-loop μ-loop
-add-short-at c = search needs
-
-short-at-requires-2 : tie.Need-short-at-requires-2 Inv-loop μ-loop
-short-at-requires-2 c κs = search needs
 
 passed-requires-2 : tie.Need-passed-requires-2 Inv-loop μ-loop
 passed-requires-2 c κs =
@@ -70,20 +61,11 @@ is-repeated-requires-2 c κs =
     let s = c .before .before .before .before .before .before .before .before .before .before .before .before .before .before .before in
     (s .pre .0, omega (arith, c .passed2 .ensures, before-le (c .before .short-at2 .result) (s .args .places .now), s .pre .1))
 
-short-at-requires-3 : tie.Need-short-at-requires-3 Inv-loop μ-loop
-short-at-requires-3 c κs = search needs
-
 put-fault-requires : tie.Need-put-fault-requires Inv-loop μ-loop
 put-fault-requires c κs =
     let at = c .before .before .before .before .before .before in
     let s = at .before .before .before .before .before .before .before .before .before .before .before .before in
     (c .before .short-at3 .ensures .1, omega (arith, at .loop .inv .1 .few, at .loop .inv .1 .within, s .pre .3))
-
-add-j : tie.Need-add-j Inv-loop μ-loop
-add-j c = search needs
-
-loop-less : tie.Need-loop-less Inv-loop μ-loop
-loop-less c = search needs
 
 loop-again : tie.Need-loop-again Inv-loop μ-loop
 loop-again c =
@@ -115,17 +97,17 @@ report-doubles-spec =
     μ-loop
     is-repeated-requires
     returns
-    short-at-requires
+    (λ c κs. search needs)
     passed-requires
     loop-holds
-    add-short-at
-    short-at-requires-2
+    (λ c. search needs)
+    (λ c κs. search needs)
     passed-requires-2
     is-repeated-requires-2
-    short-at-requires-3
+    (λ c κs. search needs)
     put-fault-requires
-    add-j
-    loop-less
+    (λ c. search needs)
+    (λ c. search needs)
     loop-again
     same-length
     returns-2)

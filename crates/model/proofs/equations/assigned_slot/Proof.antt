@@ -12,18 +12,6 @@ use Rattle.model.proofs.equations.assigned_slot.Tie as tie
 abbrev S : tie.After-byte-at → tie.Start
 S k = k .before .before .before .before .before .before .before .before
 
-last-of-requires : tie.Need-last-of-requires
-last-of-requires c κs = search needs
-
-byte-at-requires : tie.Need-byte-at-requires
-byte-at-requires c κs = search needs
-
-word-at-requires : tie.Need-word-at-requires
-word-at-requires c κs = search needs
-
-find-requires : tie.Need-find-requires
-find-requires c κs = search needs
-
 add-result : tie.Need-add-result
 add-result c =
     let a = S (c .before .before .before) in
@@ -54,10 +42,10 @@ pub assigned-slot-spec : {M : Type 1} → statement M
 assigned-slot-spec =
     tie.close
     (tie.spec
-    last-of-requires
-    byte-at-requires
-    word-at-requires
-    find-requires
+    (λ c κs. search needs)
+    (λ c κs. search needs)
+    (λ c κs. search needs)
+    (λ c κs. search needs)
     add-result
     returns
     returns-2)

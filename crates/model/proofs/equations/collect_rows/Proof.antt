@@ -18,20 +18,11 @@ loop-holds c =
     let s = c .before .before .before .args in
     listing-first (isEquation (s .bounds .now) (s .kinds .now)) (s .n) (s .rows .now)
 
-is-equation-requires : tie.Need-is-equation-requires Inv-loop μ-loop
-is-equation-requires c κs = search needs
-
 put-if-requires : tie.Need-put-if-requires Inv-loop μ-loop
 put-if-requires c κs =
     let at = c .before .before .before in
     let s = at .before .before .before .before in
     (omega (arith, s .pre), omega (arith, s .pre, at .loop .inv .few))
-
-add-j : tie.Need-add-j Inv-loop μ-loop
-add-j c = search needs
-
-loop-less : tie.Need-loop-less Inv-loop μ-loop
-loop-less c = search needs
 
 loop-again : tie.Need-loop-again Inv-loop μ-loop
 loop-again c =
@@ -54,10 +45,10 @@ collect-rows-spec =
     Inv-loop
     μ-loop
     loop-holds
-    is-equation-requires
+    (λ c κs. search needs)
     put-if-requires
-    add-j
-    loop-less
+    (λ c. search needs)
+    (λ c. search needs)
     loop-again
     same-length
     returns)

@@ -4,25 +4,10 @@ use Rattle.model.proofs.Rowing.{last-kind, equation-empty, equation-sto
 use Rattle.model.proofs.equations.is_equation.Statement.{statement}
 use Rattle.model.proofs.equations.is_equation.Tie as tie
 
-add-short-at : tie.Need-add-short-at
-add-short-at c = search needs
-
-short-at-requires : tie.Need-short-at-requires
-short-at-requires c κs = search needs
-
-short-at-requires-2 : tie.Need-short-at-requires-2
-short-at-requires-2 c κs = search needs
-
 returns : tie.Need-returns
 returns c =
     let s = c .before .before .before .before .before .args in
     equation-empty (s .bounds .now) (s .kinds .now) (s .j) (c .before .short-at2 .ensures .0) (c .before .before .short-at .ensures .0) (c .if1 .taken)
-
-last-of-requires : tie.Need-last-of-requires
-last-of-requires c κs = search needs
-
-byte-at-requires : tie.Need-byte-at-requires
-byte-at-requires c κs = search needs
 
 returns-2 : tie.Need-returns-2
 returns-2 c =
@@ -46,11 +31,11 @@ pub is-equation-spec : {M : Type 1} → statement M
 is-equation-spec =
     tie.close
     (tie.spec
-    add-short-at
-    short-at-requires
-    short-at-requires-2
+    (λ c. search needs)
+    (λ c κs. search needs)
+    (λ c κs. search needs)
     returns
-    last-of-requires
-    byte-at-requires
+    (λ c κs. search needs)
+    (λ c κs. search needs)
     returns-2
     returns-3)

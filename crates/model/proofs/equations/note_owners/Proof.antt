@@ -21,15 +21,6 @@ loop-holds c =
     let a = s .args in
     owning-start (a .rows .now) (a .bounds .now) (a .kinds .now) (resolved (a .keys .now) (a .kinds .now) (a .args .now)) (s .pre .1)
 
-sub-short-at : tie.Need-sub-short-at Inv-loop μ-loop
-sub-short-at c = search needs
-
-short-at-requires : tie.Need-short-at-requires Inv-loop μ-loop
-short-at-requires c κs = search needs
-
-assigned-slot-requires : tie.Need-assigned-slot-requires Inv-loop μ-loop
-assigned-slot-requires c κs = search needs
-
 put-short-requires : tie.Need-put-short-requires Inv-loop μ-loop
 put-short-requires c κs =
     let at = c .before .before .before .before in
@@ -37,12 +28,6 @@ put-short-requires c κs =
     let a = s .args in
     let slots = resolved (a .keys .now) (a .kinds .now) (a .args .now) in
     omega (arith, s .pre .0, at .loop .inv .within, length-map (a .rows .now) (assignedSlot (a .bounds .now) (a .kinds .now) slots))
-
-sub-r : tie.Need-sub-r Inv-loop μ-loop
-sub-r c = search needs
-
-loop-less : tie.Need-loop-less Inv-loop μ-loop
-loop-less c = search needs
 
 loop-again : tie.Need-loop-again Inv-loop μ-loop
 loop-again c =
@@ -57,9 +42,6 @@ loop-again c =
     (omega (arith, at .loop .inv .within, test .loop-test .taken, as-many)) (slot .assigned-slot .ensures) (slot .before .short-at .ensures .0) in
     owning-next (at .loop .inv) (test .loop-test .taken) assigned (c .before .before .put-short .ensures)
 
-same-length : tie.Need-same-length Inv-loop μ-loop
-same-length c = search needs
-
 returns : tie.Need-returns Inv-loop μ-loop
 returns c = owning-last (c .before .loop .inv) (c .loop-test .left)
 
@@ -70,12 +52,12 @@ note-owners-spec =
     Inv-loop
     μ-loop
     loop-holds
-    sub-short-at
-    short-at-requires
-    assigned-slot-requires
+    (λ c. search needs)
+    (λ c κs. search needs)
+    (λ c κs. search needs)
     put-short-requires
-    sub-r
-    loop-less
+    (λ c. search needs)
+    (λ c. search needs)
     loop-again
-    same-length
+    (λ c. search needs)
     returns)

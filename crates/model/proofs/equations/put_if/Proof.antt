@@ -4,15 +4,6 @@ use Rattle.model.proofs.Collecting.{put-one, put-none}
 use Rattle.model.proofs.equations.put_if.Statement.{statement}
 use Rattle.model.proofs.equations.put_if.Tie as tie
 
-put-short-requires : tie.Need-put-short-requires
-put-short-requires c κs = search needs
-
-add-result : tie.Need-add-result
-add-result c = search needs
-
-same-length : tie.Need-same-length
-same-length c = search needs
-
 returns : tie.Need-returns
 returns c =
     let s = c .before .before .before .before .before .before .args in
@@ -24,4 +15,4 @@ returns-2 c =
     put-none (s .stands) (s .v) (s .w) (s .buf .now) (c .if1 .left)
 
 pub put-if-spec : {M : Type 1} → statement M
-put-if-spec = tie.close (tie.spec put-short-requires add-result same-length returns returns-2)
+put-if-spec = tie.close (tie.spec (λ c κs. search needs) (λ c. search needs) (λ c. search needs) returns returns-2)

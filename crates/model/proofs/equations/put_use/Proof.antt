@@ -9,26 +9,11 @@ returns c =
     let s = c .before .before .before .args in
     use-other (s .owners .now) (s .kind) (s .slot) (s .w) (s .used .now) (c .if1 .taken)
 
-short-at-requires : tie.Need-short-at-requires
-short-at-requires c κs = search needs
-
 returns-2 : tie.Need-returns-2
 returns-2 c =
     let test = c .before .before in
     let s = test .before .before .before .args in
     use-none (s .owners .now) (s .kind) (s .slot) (s .w) (test .if1 .left) (c .before .short-at .ensures .0) (s .used .now) (c .if2 .taken)
-
-sub-put-short : tie.Need-sub-put-short
-sub-put-short c = search needs
-
-put-short-requires : tie.Need-put-short-requires
-put-short-requires c κs = search needs
-
-add-result : tie.Need-add-result
-add-result c = search needs
-
-same-length : tie.Need-same-length
-same-length c = search needs
 
 returns-3 : tie.Need-returns-3
 returns-3 c =
@@ -43,10 +28,10 @@ put-use-spec =
     tie.close
     (tie.spec
     returns
-    short-at-requires
+    (λ c κs. search needs)
     returns-2
-    sub-put-short
-    put-short-requires
-    add-result
-    same-length
+    (λ c. search needs)
+    (λ c κs. search needs)
+    (λ c. search needs)
+    (λ c. search needs)
     returns-3)

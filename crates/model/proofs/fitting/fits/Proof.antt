@@ -60,9 +60,6 @@ returns-6 c =
       lt-leb _ _ (c .if6 .taken),
     )
 
-has-room-requires : tie.Need-has-room-requires
-has-room-requires c κs = search needs
-
 -- where the function begins; behind the first six tests the last two are left
 abbrev S : tie.Else6 → tie.Start
 S c = c .before .before .before .before .before .before .before .before .before
@@ -106,7 +103,7 @@ fits-spec =
     returns-5
     mul-if6
     returns-6
-    has-room-requires
+    (λ c κs. search needs)
     is-in-turn-requires
     returns-7
     returns-8)

@@ -25,12 +25,6 @@ loop-holds c = (omega arith, rw sub-zero refl)
 add-short-at : tie.Need-add-short-at Inv-loop μ-loop
 add-short-at c = omega (arith, c .before .before .before .pre)
 
-short-at-requires : tie.Need-short-at-requires Inv-loop μ-loop
-short-at-requires c κs = search needs
-
-short-at-requires-2 : tie.Need-short-at-requires-2 Inv-loop μ-loop
-short-at-requires-2 c κs = search needs
-
 returns : tie.Need-returns Inv-loop μ-loop
 returns c =
     let at = c .before .before .before .before .loop in
@@ -39,12 +33,6 @@ returns c =
     let ended = c .before .before .short-at .ensures .0 in
     let falling = lt-ltb (ends (s .bounds .now) (at .j)) (begins (s .bounds .now) (at .j)) (omega (arith, c .if1 .taken, begun, ended)) in
     ap not (sym (any-stop (falls (s .bounds .now)) (s .n) (at .j) (c .before .before .before .loop-test .taken) falling) ∙ at .inv .1)
-
-add-j : tie.Need-add-j Inv-loop μ-loop
-add-j c = search needs
-
-loop-less : tie.Need-loop-less Inv-loop μ-loop
-loop-less c = search needs
 
 loop-again : tie.Need-loop-again Inv-loop μ-loop
 loop-again c =
@@ -69,10 +57,10 @@ is-rising-spec =
     μ-loop
     loop-holds
     add-short-at
-    short-at-requires
-    short-at-requires-2
+    (λ c κs. search needs)
+    (λ c κs. search needs)
     returns
-    add-j
-    loop-less
+    (λ c. search needs)
+    (λ c. search needs)
     loop-again
     returns-2)

@@ -12,47 +12,20 @@ Inv-loop keys hints links key h₀ h = Sought keys key h
 abbrev μ-loop : tie.MeasureT-loop
 μ-loop keys hints links key h₀ h = ahead (length keys) h
 
-bucket-requires : tie.Need-bucket-requires Inv-loop μ-loop
-bucket-requires c κs = search needs
-
-byte-at-requires : tie.Need-byte-at-requires Inv-loop μ-loop
-byte-at-requires c κs = search needs
-
-cast-h : tie.Need-cast-h Inv-loop μ-loop
-cast-h c = search needs
-
 loop-holds : tie.Need-loop-holds Inv-loop μ-loop
 loop-holds c =
     let bucket = c .before .bucket .ensures in
     let s = c .before .before .before .before .before in
     sought-first (s .pre) (bucket .0) (bucket .1) (c .byte-at .ensures)
 
-sub-if1 : tie.Need-sub-if1 Inv-loop μ-loop
-sub-if1 c = search needs
-
-mul-if1 : tie.Need-mul-if1 Inv-loop μ-loop
-mul-if1 c = search needs
-
 shared-slice-read-if1 : tie.Need-shared-slice-read-if1 Inv-loop μ-loop
 shared-slice-read-if1 c = omega (arith, c .before .loop-test .taken, c .before .before .loop .inv .within)
-
-sub-result : tie.Need-sub-result Inv-loop μ-loop
-sub-result c = search needs
 
 returns : tie.Need-returns Inv-loop μ-loop
 returns c =
     let at = c .before .before .before in
     let s = at .before .before .before .before .before .before in
     sought-there (s .pre) (at .loop .inv) (c .before .before .loop-test .taken) (c .if1 .taken)
-
-sub-byte-at : tie.Need-sub-byte-at Inv-loop μ-loop
-sub-byte-at c = search needs
-
-byte-at-requires-2 : tie.Need-byte-at-requires-2 Inv-loop μ-loop
-byte-at-requires-2 c κs = search needs
-
-cast-h-2 : tie.Need-cast-h-2 Inv-loop μ-loop
-cast-h-2 c = search needs
 
 loop-less : tie.Need-loop-less Inv-loop μ-loop
 loop-less c =
@@ -75,18 +48,18 @@ find-spec =
     (tie.spec
     Inv-loop
     μ-loop
-    bucket-requires
-    byte-at-requires
-    cast-h
+    (λ c κs. search needs)
+    (λ c κs. search needs)
+    (λ c. search needs)
     loop-holds
-    sub-if1
-    mul-if1
+    (λ c. search needs)
+    (λ c. search needs)
     shared-slice-read-if1
-    sub-result
+    (λ c. search needs)
     returns
-    sub-byte-at
-    byte-at-requires-2
-    cast-h-2
+    (λ c. search needs)
+    (λ c κs. search needs)
+    (λ c. search needs)
     loop-less
     loop-again
     returns-2)

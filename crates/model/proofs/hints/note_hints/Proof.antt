@@ -15,39 +15,6 @@ loop-holds c =
     let s = c .before .before .before in
     hinting-first (s .args .keys .now) (s .pre .1) (s .pre .2)
 
-sub-bucket : tie.Need-sub-bucket Inv-loop μ-loop
-sub-bucket c = search needs
-
-mul-bucket : tie.Need-mul-bucket Inv-loop μ-loop
-mul-bucket c = search needs
-
-shared-slice-read-bucket : tie.Need-shared-slice-read-bucket Inv-loop μ-loop
-shared-slice-read-bucket c = search needs
-
-bucket-requires : tie.Need-bucket-requires Inv-loop μ-loop
-bucket-requires c κs = search needs
-
-sub-put-byte : tie.Need-sub-put-byte Inv-loop μ-loop
-sub-put-byte c = search needs
-
-byte-at-requires : tie.Need-byte-at-requires Inv-loop μ-loop
-byte-at-requires c κs = search needs
-
-put-byte-requires : tie.Need-put-byte-requires Inv-loop μ-loop
-put-byte-requires c κs = search needs
-
-cast-put-byte : tie.Need-cast-put-byte Inv-loop μ-loop
-cast-put-byte c = search needs
-
-put-byte-requires-2 : tie.Need-put-byte-requires-2 Inv-loop μ-loop
-put-byte-requires-2 c κs = search needs
-
-sub-d : tie.Need-sub-d Inv-loop μ-loop
-sub-d c = search needs
-
-loop-less : tie.Need-loop-less Inv-loop μ-loop
-loop-less c = search needs
-
 loop-again : tie.Need-loop-again Inv-loop μ-loop
 loop-again c =
     let link = c .before .before .before .before .before .before in
@@ -56,12 +23,6 @@ loop-again c =
     let test = read .before .before .before .before .before in
     let v = test .before .loop .inv in
     hinting-next v (test .loop-test .taken) (bucket .0) (bucket .1) (read .byte-at .ensures) (link .put-byte .ensures) (c .before .before .put-byte2 .ensures)
-
-same-length : tie.Need-same-length Inv-loop μ-loop
-same-length c = search needs
-
-same-length-2 : tie.Need-same-length-2 Inv-loop μ-loop
-same-length-2 c = search needs
 
 returns : tie.Need-returns Inv-loop μ-loop
 returns c = hinting-last (c .before .loop .inv) (c .loop-test .left)
@@ -73,18 +34,18 @@ note-hints-spec =
     Inv-loop
     μ-loop
     loop-holds
-    sub-bucket
-    mul-bucket
-    shared-slice-read-bucket
-    bucket-requires
-    sub-put-byte
-    byte-at-requires
-    put-byte-requires
-    cast-put-byte
-    put-byte-requires-2
-    sub-d
-    loop-less
+    (λ c. search needs)
+    (λ c. search needs)
+    (λ c. search needs)
+    (λ c κs. search needs)
+    (λ c. search needs)
+    (λ c κs. search needs)
+    (λ c κs. search needs)
+    (λ c. search needs)
+    (λ c κs. search needs)
+    (λ c. search needs)
+    (λ c. search needs)
     loop-again
-    same-length
-    same-length-2
+    (λ c. search needs)
+    (λ c. search needs)
     returns)

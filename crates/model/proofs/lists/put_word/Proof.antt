@@ -5,20 +5,8 @@ use lib.Seq.{set-out}
 use Rattle.model.proofs.lists.put_word.Statement.{statement}
 use Rattle.model.proofs.lists.put_word.Tie as tie
 
-mul-s : tie.Need-mul-s
-mul-s c = search needs
-
-slice-write-s : tie.Need-slice-write-s
-slice-write-s c = search needs
-
-same-length : tie.Need-same-length
-same-length c = search needs
-
-returns : tie.Need-returns
-returns c = search needs
-
 returns-2 : tie.Need-returns-2
 returns-2 c = sym (set-out (c .before .args .s .now) (c .before .args .i) _ (c .if1 .left))
 
 pub put-word-spec : {M : Type 1} → statement M
-put-word-spec = tie.close (tie.spec mul-s slice-write-s same-length returns returns-2)
+put-word-spec = tie.close (tie.spec (λ c. search needs) (λ c. search needs) (λ c. search needs) (λ c. search needs) returns-2)

@@ -6,12 +6,6 @@ use lib.ListN.{List·getD-eq-default}
 use Rattle.model.proofs.lists.short_at.Statement.{statement}
 use Rattle.model.proofs.lists.short_at.Tie as tie
 
-mul-result : tie.Need-mul-result
-mul-result c = search needs
-
-shared-slice-read-result : tie.Need-shared-slice-read-result
-shared-slice-read-result c = search needs
-
 cast-result : tie.Need-cast-result
 cast-result c = omega (arith, c .shared-slice-known .given (c .before .before .args .i))
 
@@ -23,4 +17,4 @@ returns-2 c = (sym (List·getD-eq-default (c .before .args .s .now) 0 (c .if1 .l
 
 pub short-at-spec : {M : Type 1} → statement M
 short-at-spec =
-    tie.close (tie.spec mul-result shared-slice-read-result cast-result returns returns-2)
+    tie.close (tie.spec (λ c. search needs) (λ c. search needs) cast-result returns returns-2)

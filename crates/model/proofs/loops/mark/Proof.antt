@@ -17,26 +17,11 @@ loop-holds c =
     let s = c .before .before in
     marking-first (s .args .placed .now) (s .pre)
 
-short-at-requires : tie.Need-short-at-requires Inv-loop μ-loop
-short-at-requires c κs = search needs
-
-put-byte-requires : tie.Need-put-byte-requires Inv-loop μ-loop
-put-byte-requires c κs = search needs
-
-add-k : tie.Need-add-k Inv-loop μ-loop
-add-k c = search needs
-
-loop-less : tie.Need-loop-less Inv-loop μ-loop
-loop-less c = search needs
-
 loop-again : tie.Need-loop-again Inv-loop μ-loop
 loop-again c =
     let read = c .before .before .before in
     let test = read .before .before in
     marking-next (test .before .loop .inv) (test .loop-test .taken) (read .short-at .ensures .0) (c .before .before .put-byte .ensures)
-
-same-length : tie.Need-same-length Inv-loop μ-loop
-same-length c = search needs
 
 returns : tie.Need-returns Inv-loop μ-loop
 returns c = marking-last (c .before .loop .inv) (c .loop-test .left)
@@ -48,10 +33,10 @@ mark-spec =
     Inv-loop
     μ-loop
     loop-holds
-    short-at-requires
-    put-byte-requires
-    add-k
-    loop-less
+    (λ c κs. search needs)
+    (λ c κs. search needs)
+    (λ c. search needs)
+    (λ c. search needs)
     loop-again
-    same-length
+    (λ c. search needs)
     returns)

@@ -4,21 +4,6 @@ use Rattle.model.proofs.Looping.{unmarked-loops}
 use Rattle.model.proofs.loops.report_loops.Statement.{statement}
 use Rattle.model.proofs.loops.report_loops.Tie as tie
 
-slice-aggregate-mark : tie.Need-slice-aggregate-mark
-slice-aggregate-mark c = search needs
-
-mark-requires : tie.Need-mark-requires
-mark-requires c κs = search needs
-
-slice-aggregate-report-unmarked : tie.Need-slice-aggregate-report-unmarked
-slice-aggregate-report-unmarked c = search needs
-
-report-unmarked-requires : tie.Need-report-unmarked-requires
-report-unmarked-requires c κs = search needs
-
-same-length : tie.Need-same-length
-same-length c = search needs
-
 returns : tie.Need-returns
 returns c =
     let report = c .before .before in
@@ -30,9 +15,9 @@ pub report-loops-spec : {M : Type 1} → statement M
 report-loops-spec =
     tie.close
     (tie.spec
-    slice-aggregate-mark
-    mark-requires
-    slice-aggregate-report-unmarked
-    report-unmarked-requires
-    same-length
+    (λ c. search needs)
+    (λ c κs. search needs)
+    (λ c. search needs)
+    (λ c κs. search needs)
+    (λ c. search needs)
     returns)

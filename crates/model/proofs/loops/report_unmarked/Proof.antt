@@ -21,26 +21,11 @@ loop-holds c =
     reports-first (unmarkedAt (s .marks .now) (s .rows .now) (s .lines .now)) (length (s .rows .now)) (s .faults .now)
     (unmarked-single (s .marks .now) (s .rows .now) (s .lines .now))
 
-short-at-requires : tie.Need-short-at-requires Inv-loop μ-loop
-short-at-requires c κs = search needs
-
-short-at-requires-2 : tie.Need-short-at-requires-2 Inv-loop μ-loop
-short-at-requires-2 c κs = search needs
-
-byte-at-requires : tie.Need-byte-at-requires Inv-loop μ-loop
-byte-at-requires c κs = search needs
-
 put-fault-requires : tie.Need-put-fault-requires Inv-loop μ-loop
 put-fault-requires c κs =
     let at = c .before .before .before .before .before in
     let s = at .before .before .before .before .before in
     (c .before .before .short-at2 .ensures .1, omega (arith, at .loop .inv .few, at .loop .inv .within, s .pre))
-
-add-r : tie.Need-add-r Inv-loop μ-loop
-add-r c = search needs
-
-loop-less : tie.Need-loop-less Inv-loop μ-loop
-loop-less c = search needs
 
 loop-again : tie.Need-loop-again Inv-loop μ-loop
 loop-again c =
@@ -67,12 +52,12 @@ report-unmarked-spec =
     Inv-loop
     μ-loop
     loop-holds
-    short-at-requires
-    short-at-requires-2
-    byte-at-requires
+    (λ c κs. search needs)
+    (λ c κs. search needs)
+    (λ c κs. search needs)
     put-fault-requires
-    add-r
-    loop-less
+    (λ c. search needs)
+    (λ c. search needs)
     loop-again
     same-length
     returns)

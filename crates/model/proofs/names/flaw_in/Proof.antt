@@ -19,15 +19,6 @@ abbrev μ-loop : tie.MeasureT-loop
 loop-holds : tie.Need-loop-holds Inv-loop μ-loop
 loop-holds c = seeking-first _ _ _ _
 
-byte-at-requires : tie.Need-byte-at-requires Inv-loop μ-loop
-byte-at-requires c κs = search needs
-
-word-at-requires : tie.Need-word-at-requires Inv-loop μ-loop
-word-at-requires c κs = search needs
-
-is-undefined-requires : tie.Need-is-undefined-requires Inv-loop μ-loop
-is-undefined-requires c κs = search needs
-
 returns : tie.Need-returns Inv-loop μ-loop
 returns c =
     let read = c .before .before in
@@ -35,15 +26,6 @@ returns c =
     let s = test .before .before .before .before .before in
     let undefined = sym (undefined-read (length (s .args .places .now)) (read .before .byte-at .ensures) (read .word-at .ensures)) in
     seeking-found (test .before .loop .inv) (test .loop-test .taken) (undefined ∙ sym (c .before .is-undefined .ensures) ∙ c .if1 .taken)
-
-is-unfit-requires : tie.Need-is-unfit-requires Inv-loop μ-loop
-is-unfit-requires c κs = search needs
-
-add-i : tie.Need-add-i Inv-loop μ-loop
-add-i c = search needs
-
-loop-less : tie.Need-loop-less Inv-loop μ-loop
-loop-less c = search needs
 
 loop-again : tie.Need-loop-again Inv-loop μ-loop
 loop-again c =
@@ -66,12 +48,12 @@ flaw-in-spec =
     Inv-loop
     μ-loop
     loop-holds
-    byte-at-requires
-    word-at-requires
-    is-undefined-requires
+    (λ c κs. search needs)
+    (λ c κs. search needs)
+    (λ c κs. search needs)
     returns
-    is-unfit-requires
-    add-i
-    loop-less
+    (λ c κs. search needs)
+    (λ c. search needs)
+    (λ c. search needs)
     loop-again
     returns-2)

@@ -3,21 +3,12 @@ use borrow.Author.Needs.{needs}
 use Rattle.model.proofs.names.home_of.Statement.{statement}
 use Rattle.model.proofs.names.home_of.Tie as tie
 
-short-at-requires : tie.Need-short-at-requires
-short-at-requires c κs = search needs
-
 returns : tie.Need-returns
 returns c = rw (c .before .if1 .taken) (c .short-at .ensures .0)
-
-sub-short-at : tie.Need-sub-short-at
-sub-short-at c = search needs
-
-short-at-requires-2 : tie.Need-short-at-requires-2
-short-at-requires-2 c κs = search needs
 
 returns-2 : tie.Need-returns-2
 returns-2 c = c .short-at2 .ensures .0
 
 pub home-of-spec : {M : Type 1} → statement M
 home-of-spec =
-    tie.close (tie.spec short-at-requires returns sub-short-at short-at-requires-2 returns-2)
+    tie.close (tie.spec (λ c κs. search needs) returns (λ c. search needs) (λ c κs. search needs) returns-2)

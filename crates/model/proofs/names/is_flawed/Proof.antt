@@ -6,17 +6,11 @@ use Rattle.model.proofs.Naming.{or-skip}
 use Rattle.model.proofs.names.is_flawed.Statement.{statement}
 use Rattle.model.proofs.names.is_flawed.Tie as tie
 
-is-undefined-requires : tie.Need-is-undefined-requires
-is-undefined-requires c κs = search needs
-
 returns : tie.Need-returns
 returns c = sym (or-left _ _ (sym (c .before .is-undefined .ensures) ∙ c .if1 .taken))
-
-is-unfit-requires : tie.Need-is-unfit-requires
-is-unfit-requires c κs = search needs
 
 returns-2 : tie.Need-returns-2
 returns-2 c = c .is-unfit .ensures ∙ or-skip (sym (c .before .before .is-undefined .ensures) ∙ c .before .if1 .left)
 
 pub is-flawed-spec : {M : Type 1} → statement M
-is-flawed-spec = tie.close (tie.spec is-undefined-requires returns is-unfit-requires returns-2)
+is-flawed-spec = tie.close (tie.spec (λ c κs. search needs) returns (λ c κs. search needs) returns-2)

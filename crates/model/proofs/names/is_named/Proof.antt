@@ -7,9 +7,6 @@ use Rattle.model.proofs.Naming.{or-skip}
 use Rattle.model.proofs.names.is_named.Statement.{statement}
 use Rattle.model.proofs.names.is_named.Tie as tie
 
-is-defining-requires : tie.Need-is-defining-requires
-is-defining-requires c κs = search needs
-
 returns : tie.Need-returns
 returns c = sym (or-left _ _ (sym (c .before .is-defining .ensures) ∙ c .if1 .taken))
 
@@ -29,4 +26,4 @@ returns-4 c =
     or-skip (ne-eqb _ 14 (c .if3 .left)) ∙ or-skip (ne-eqb _ 4 (c .before .if2 .left)) ∙ or-skip other
 
 pub is-named-spec : {M : Type 1} → statement M
-is-named-spec = tie.close (tie.spec is-defining-requires returns returns-2 returns-3 returns-4)
+is-named-spec = tie.close (tie.spec (λ c κs. search needs) returns returns-2 returns-3 returns-4)

@@ -9,12 +9,6 @@ use lib.ListN.{getD}
 use Rattle.model.proofs.names.is_unfit.Statement.{statement}
 use Rattle.model.proofs.names.is_unfit.Tie as tie
 
-home-of-requires : tie.Need-home-of-requires
-home-of-requires c κs = search needs
-
-byte-at-requires : tie.Need-byte-at-requires
-byte-at-requires c κs = search needs
-
 returns : tie.Need-returns
 returns c =
     let s = c .before .before .before .before .before .args in
@@ -25,4 +19,4 @@ returns-2 : tie.Need-returns-2
 returns-2 c = rw (ne-eqb _ 16 (c .if1 .left))
 
 pub is-unfit-spec : {M : Type 1} → statement M
-is-unfit-spec = tie.close (tie.spec home-of-requires byte-at-requires returns returns-2)
+is-unfit-spec = tie.close (tie.spec (λ c κs. search needs) (λ c κs. search needs) returns returns-2)

@@ -22,32 +22,11 @@ loop-holds c =
     reports-first (namesAt (s .places .now) (s .lines .now) (s .bounds .now) (s .kinds .now) (s .slots .now)) (length (s .lines .now)) (s .faults .now)
     (names-single (s .places .now) (s .lines .now) (s .bounds .now) (s .kinds .now) (s .slots .now))
 
-short-at-requires : tie.Need-short-at-requires Inv-loop μ-loop
-short-at-requires c κs = search needs
-
-add-short-at : tie.Need-add-short-at Inv-loop μ-loop
-add-short-at c = search needs
-
-short-at-requires-2 : tie.Need-short-at-requires-2 Inv-loop μ-loop
-short-at-requires-2 c κs = search needs
-
-flaw-in-requires : tie.Need-flaw-in-requires Inv-loop μ-loop
-flaw-in-requires c κs = search needs
-
-short-at-requires-3 : tie.Need-short-at-requires-3 Inv-loop μ-loop
-short-at-requires-3 c κs = search needs
-
 put-fault-requires : tie.Need-put-fault-requires Inv-loop μ-loop
 put-fault-requires c κs =
     let at = c .before .before .before .before .before .before in
     let s = at .before .before .before .before .before .before .before in
     (c .before .short-at3 .ensures .1, omega (arith, at .loop .inv .few, at .loop .inv .within, s .pre))
-
-add-j : tie.Need-add-j Inv-loop μ-loop
-add-j c = search needs
-
-loop-less : tie.Need-loop-less Inv-loop μ-loop
-loop-less c = search needs
 
 loop-again : tie.Need-loop-again Inv-loop μ-loop
 loop-again c =
@@ -76,14 +55,14 @@ report-nameless-spec =
     Inv-loop
     μ-loop
     loop-holds
-    short-at-requires
-    add-short-at
-    short-at-requires-2
-    flaw-in-requires
-    short-at-requires-3
+    (λ c κs. search needs)
+    (λ c. search needs)
+    (λ c κs. search needs)
+    (λ c κs. search needs)
+    (λ c κs. search needs)
     put-fault-requires
-    add-j
-    loop-less
+    (λ c. search needs)
+    (λ c. search needs)
     loop-again
     same-length
     returns)

@@ -34,22 +34,10 @@ put-if-requires c κs =
     let v = at .loop .inv in
     (stating-few (s .args .places .now) (s .args .starts .now) (s .pre .1) v, omega (arith, v .few, v .within, s .pre .1 .sound .few))
 
-all-or-none-requires : tie.Need-all-or-none-requires Inv-loop μ-loop
-all-or-none-requires c κs = search needs
-
 slice-aggregate-resolve-in : tie.Need-slice-aggregate-resolve-in Inv-loop μ-loop
 slice-aggregate-resolve-in c =
     let known = c .before .all-or-none in
     prefix-length (known .result) _ (known .ensures .1)
-
-short-at-requires : tie.Need-short-at-requires Inv-loop μ-loop
-short-at-requires c κs = search needs
-
-add-short-at : tie.Need-add-short-at Inv-loop μ-loop
-add-short-at c = search needs
-
-short-at-requires-2 : tie.Need-short-at-requires-2 Inv-loop μ-loop
-short-at-requires-2 c κs = search needs
 
 resolve-in-requires : tie.Need-resolve-in-requires Inv-loop μ-loop
 resolve-in-requires c κs =
@@ -69,9 +57,6 @@ add-j c =
     let test = put .before .before .before in
     let s = test .before .before .before .before .before .before .before .before .before .before .before .before .before in
     omega (arith, test .loop-test .taken, s .pre .1 .sound .few)
-
-loop-less : tie.Need-loop-less Inv-loop μ-loop
-loop-less c = search needs
 
 loop-again : tie.Need-loop-again Inv-loop μ-loop
 loop-again c =
@@ -96,9 +81,6 @@ put-short-requires c κs =
 same-length : tie.Need-same-length Inv-loop μ-loop
 same-length c = c .before .before .before .before .before .loop .inv .resolving .long
 
-same-length-2 : tie.Need-same-length-2 Inv-loop μ-loop
-same-length-2 c = search needs
-
 same-length-3 : tie.Need-same-length-3 Inv-loop μ-loop
 same-length-3 c = c .before .before .before .before .before .loop .inv .long-used
 
@@ -118,17 +100,17 @@ resolve-spec =
     loop-holds
     is-equation-requires
     put-if-requires
-    all-or-none-requires
+    (λ c κs. search needs)
     slice-aggregate-resolve-in
-    short-at-requires
-    add-short-at
-    short-at-requires-2
+    (λ c κs. search needs)
+    (λ c. search needs)
+    (λ c κs. search needs)
     resolve-in-requires
     add-j
-    loop-less
+    (λ c. search needs)
     loop-again
     put-short-requires
     same-length
-    same-length-2
+    (λ c. search needs)
     same-length-3
     returns)

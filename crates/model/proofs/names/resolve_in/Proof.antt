@@ -23,44 +23,11 @@ loop-holds c =
     let s = c .before .before .before .before .before .before .before .before in
     walking-first (s .args .places .now) (s .args .owners .now) (s .args .used .now) (s .args .walk .flawed) (s .pre .1)
 
-shared-slice-read-kind : tie.Need-shared-slice-read-kind Inv-loop μ-loop
-shared-slice-read-kind c = search needs
-
-is-named-requires : tie.Need-is-named-requires Inv-loop μ-loop
-is-named-requires c κs = search needs
-
-mul-find : tie.Need-mul-find Inv-loop μ-loop
-mul-find c = search needs
-
-slice-read-find : tie.Need-slice-read-find Inv-loop μ-loop
-slice-read-find c = search needs
-
-find-requires : tie.Need-find-requires Inv-loop μ-loop
-find-requires c κs = search needs
-
 add-slot : tie.Need-add-slot Inv-loop μ-loop
 add-slot c =
     let at = c .before .before .before .before .before .before in
     let s = at .before .before .before .before .before .before .before .before .before in
     omega (arith, c .find .ensures, place-le (getD (at .loop .args) (at .loop .i) 0) (s .args .keys .now), s .pre .1 .few)
-
-mul-args : tie.Need-mul-args Inv-loop μ-loop
-mul-args c = search needs
-
-slice-write-args : tie.Need-slice-write-args Inv-loop μ-loop
-slice-write-args c = search needs
-
-put-use-requires : tie.Need-put-use-requires Inv-loop μ-loop
-put-use-requires c κs = search needs
-
-is-flawed-requires : tie.Need-is-flawed-requires Inv-loop μ-loop
-is-flawed-requires c κs = search needs
-
-add-i : tie.Need-add-i Inv-loop μ-loop
-add-i c = search needs
-
-loop-less : tie.Need-loop-less Inv-loop μ-loop
-loop-less c = search needs
 
 loop-again : tie.Need-loop-again Inv-loop μ-loop
 loop-again c =
@@ -101,18 +68,18 @@ resolve-in-spec =
     Inv-loop
     μ-loop
     loop-holds
-    shared-slice-read-kind
-    is-named-requires
-    mul-find
-    slice-read-find
-    find-requires
+    (λ c. search needs)
+    (λ c κs. search needs)
+    (λ c. search needs)
+    (λ c. search needs)
+    (λ c κs. search needs)
     add-slot
-    mul-args
-    slice-write-args
-    put-use-requires
-    is-flawed-requires
-    add-i
-    loop-less
+    (λ c. search needs)
+    (λ c. search needs)
+    (λ c κs. search needs)
+    (λ c κs. search needs)
+    (λ c. search needs)
+    (λ c. search needs)
     loop-again
     same-length
     same-length-2

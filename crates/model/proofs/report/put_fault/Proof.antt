@@ -4,27 +4,6 @@ use Rattle.model.proofs.Reporting.{written, unwritten}
 use Rattle.model.proofs.report.put_fault.Statement.{statement}
 use Rattle.model.proofs.report.put_fault.Tie as tie
 
-mul-put-low : tie.Need-mul-put-low
-mul-put-low c = search needs
-
-wide-requires : tie.Need-wide-requires
-wide-requires c κs = search needs
-
-mul-put-low-2 : tie.Need-mul-put-low-2
-mul-put-low-2 c = search needs
-
-add-put-low : tie.Need-add-put-low
-add-put-low c = search needs
-
-put-low-requires : tie.Need-put-low-requires
-put-low-requires c κs = search needs
-
-add-result : tie.Need-add-result
-add-result c = search needs
-
-same-length : tie.Need-same-length
-same-length c = search needs
-
 returns : tie.Need-returns
 returns c =
     let s = c .before .before .before .before .before .before .before in
@@ -38,12 +17,12 @@ pub put-fault-spec : {M : Type 1} → statement M
 put-fault-spec =
     tie.close
     (tie.spec
-    mul-put-low
-    wide-requires
-    mul-put-low-2
-    add-put-low
-    put-low-requires
-    add-result
-    same-length
+    (λ c. search needs)
+    (λ c κs. search needs)
+    (λ c. search needs)
+    (λ c. search needs)
+    (λ c κs. search needs)
+    (λ c. search needs)
+    (λ c. search needs)
     returns
     returns-2)

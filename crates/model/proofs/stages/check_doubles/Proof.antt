@@ -23,36 +23,12 @@ report-doubles-requires c κs =
     let s = a .before .before .before .before .before .before .pre in
     (s .1, omega (arith, holds-front (s .0 .placed) .long, keyed-count (s .0)), s .0 .sound .rises, s .0 .sound .few)
 
-refusal-requires : tie.Need-refusal-requires
-refusal-requires c κs = search needs
-
-same-length : tie.Need-same-length
-same-length c = search needs
-
 returns : tie.Need-returns
 returns c =
     let k = c .before .before .before .before in
     let s = S k in
     let l = lent (s .args .places .now) (s .args .rows .now) (s .args .placed .now) in
     distinct-fault (s .pre .0) (k .report-doubles .ensures) l (c .before .if1 .taken) (c .refusal .ensures)
-
-settle-requires : tie.Need-settle-requires
-settle-requires c κs = search needs
-
-same-length-2 : tie.Need-same-length-2
-same-length-2 c = search needs
-
-same-length-3 : tie.Need-same-length-3
-same-length-3 c = search needs
-
-same-length-4 : tie.Need-same-length-4
-same-length-4 c = search needs
-
-same-length-5 : tie.Need-same-length-5
-same-length-5 c = search needs
-
-same-length-6 : tie.Need-same-length-6
-same-length-6 c = search needs
 
 returns-2 : tie.Need-returns-2
 returns-2 c =
@@ -69,13 +45,13 @@ check-doubles-spec =
     (tie.spec
     slice-aggregate-report-doubles
     report-doubles-requires
-    refusal-requires
-    same-length
+    (λ c κs. search needs)
+    (λ c. search needs)
     returns
-    settle-requires
-    same-length-2
-    same-length-3
-    same-length-4
-    same-length-5
-    same-length-6
+    (λ c κs. search needs)
+    (λ c. search needs)
+    (λ c. search needs)
+    (λ c. search needs)
+    (λ c. search needs)
+    (λ c. search needs)
     returns-2)

@@ -15,12 +15,6 @@ slice-aggregate-report-nameless c = holds-front (c .before .before .before .befo
 report-nameless-requires : tie.Need-report-nameless-requires
 report-nameless-requires c κs = c .before .before .before .before .before .before .before .before .before .before .before .before .pre .0 .few
 
-refusal-requires : tie.Need-refusal-requires
-refusal-requires c κs = search needs
-
-same-length : tie.Need-same-length
-same-length c = search needs
-
 returns : tie.Need-returns
 returns c =
     let k = c .before .before .before .before in
@@ -34,12 +28,6 @@ weigh-requires : tie.Need-weigh-requires
 weigh-requires c κs =
     let s = S (c .before .before .before .before .before) .pre in
     (s .0, s .1)
-
-same-length-2 : tie.Need-same-length-2
-same-length-2 c = search needs
-
-same-length-3 : tie.Need-same-length-3
-same-length-3 c = search needs
 
 returns-2 : tie.Need-returns-2
 returns-2 c =
@@ -58,10 +46,10 @@ check-names-spec =
     (tie.spec
     slice-aggregate-report-nameless
     report-nameless-requires
-    refusal-requires
-    same-length
+    (λ c κs. search needs)
+    (λ c. search needs)
     returns
     weigh-requires
-    same-length-2
-    same-length-3
+    (λ c. search needs)
+    (λ c. search needs)
     returns-2)

@@ -9,29 +9,11 @@ use Rattle.model.proofs.stages.close.Tie as tie
 abbrev S : tie.After-sort → tie.Start
 S k = k .before .before .before .before .before .before .before .before
 
-sort-requires : tie.Need-sort-requires
-sort-requires c κs = search needs
-
-enum-known-sorted : tie.Need-enum-known-sorted
-enum-known-sorted c = search needs
-
-enum-told : tie.Need-enum-told
-enum-told c = search needs
-
-refusal-requires : tie.Need-refusal-requires
-refusal-requires c κs = search needs
-
-same-length : tie.Need-same-length
-same-length c = search needs
-
 returns : tie.Need-returns
 returns c =
     let k = c .before .before .before .before .before in
     let s = S k .pre in
     absurd (sorts-fit (k .sort .ensures) (s .0) (s .2) (c .before .enum-told .given .1))
-
-slice-reshare-prefix-report-loops : tie.Need-slice-reshare-prefix-report-loops
-slice-reshare-prefix-report-loops c = search needs
 
 slice-aggregate-report-loops : tie.Need-slice-aggregate-report-loops
 slice-aggregate-report-loops c =
@@ -39,21 +21,6 @@ slice-aggregate-report-loops c =
     let s = S k .pre in
     prefix-length (c .before .before .before .sorted .given .0 .0) (k .sort .last .1 .1 .1 .0)
     (omega (arith, c .before .if1 .taken, s .0 .few, s .2, sorts-long (k .sort .ensures) (s .0) (s .2)))
-
-slice-aggregate-report-loops-2 : tie.Need-slice-aggregate-report-loops-2
-slice-aggregate-report-loops-2 c = search needs
-
-report-loops-requires : tie.Need-report-loops-requires
-report-loops-requires c κs = search needs
-
-refusal-requires-2 : tie.Need-refusal-requires-2
-refusal-requires-2 c κs = search needs
-
-same-length-2 : tie.Need-same-length-2
-same-length-2 c = search needs
-
-same-length-3 : tie.Need-same-length-3
-same-length-3 c = search needs
 
 returns-2 : tie.Need-returns-2
 returns-2 c =
@@ -64,9 +31,6 @@ returns-2 c =
     let placed = test .before .before .sorted .given .1 in
     sorts-short (k .sort .ensures) (s .pre .0) (s .pre .2) (s .args .n) (s .args .lines .now) placed (test .if1 .taken) (s .pre .1)
     (report .report-loops .ensures) (c .refusal2 .ensures)
-
-same-length-4 : tie.Need-same-length-4
-same-length-4 c = search needs
 
 returns-3 : tie.Need-returns-3
 returns-3 c =
@@ -79,19 +43,19 @@ pub close-spec : {M : Type 1} → statement M
 close-spec =
     tie.close
     (tie.spec
-    sort-requires
-    enum-known-sorted
-    enum-told
-    refusal-requires
-    same-length
+    (λ c κs. search needs)
+    (λ c. search needs)
+    (λ c. search needs)
+    (λ c κs. search needs)
+    (λ c. search needs)
     returns
-    slice-reshare-prefix-report-loops
+    (λ c. search needs)
     slice-aggregate-report-loops
-    slice-aggregate-report-loops-2
-    report-loops-requires
-    refusal-requires-2
-    same-length-2
-    same-length-3
+    (λ c. search needs)
+    (λ c κs. search needs)
+    (λ c κs. search needs)
+    (λ c. search needs)
+    (λ c. search needs)
     returns-2
-    same-length-4
+    (λ c. search needs)
     returns-3)

@@ -10,30 +10,12 @@ S k =
     let a = k .before .before .before .before .before .before .before in
     a .before .before .before .before .before .before
 
-slice-aggregate-collect : tie.Need-slice-aggregate-collect
-slice-aggregate-collect c = search needs
-
-collect-requires : tie.Need-collect-requires
-collect-requires c κs = search needs
-
-refusal-requires : tie.Need-refusal-requires
-refusal-requires c κs = search needs
-
-same-length : tie.Need-same-length
-same-length c = search needs
-
-same-length-2 : tie.Need-same-length-2
-same-length-2 c = search needs
-
 returns : tie.Need-returns
 returns c =
     let k = c .before .before .before .before .before in
     let a = S k .args in
     sheeted-many (k .collect .ensures) (a .lines .now) (a .bounds .now) (a .used .now) (a .faults .now) (a .rows .now) (a .placed .now)
     (c .before .if1 .taken) (c .refusal .ensures)
-
-array-share-prefix-keys : tie.Need-array-share-prefix-keys
-array-share-prefix-keys c = search needs
 
 slice-aggregate-hint : tie.Need-slice-aggregate-hint
 slice-aggregate-hint c =
@@ -46,24 +28,6 @@ hint-requires c κs =
     let k = test .before .before .before .before in
     let s = S k .pre in
     (keyed (k .collect .ensures) (s .0) (s .1) (s .2) (test .if1 .left), s .3)
-
-same-length-3 : tie.Need-same-length-3
-same-length-3 c = search needs
-
-same-length-4 : tie.Need-same-length-4
-same-length-4 c = search needs
-
-same-length-5 : tie.Need-same-length-5
-same-length-5 c = search needs
-
-same-length-6 : tie.Need-same-length-6
-same-length-6 c = search needs
-
-same-length-7 : tie.Need-same-length-7
-same-length-7 c = search needs
-
-same-length-8 : tie.Need-same-length-8
-same-length-8 c = search needs
 
 returns-2 : tie.Need-returns-2
 returns-2 c =
@@ -78,19 +42,19 @@ pub define-spec : {M : Type 1} → statement M
 define-spec =
     tie.close
     (tie.spec
-    slice-aggregate-collect
-    collect-requires
-    refusal-requires
-    same-length
-    same-length-2
+    (λ c. search needs)
+    (λ c κs. search needs)
+    (λ c κs. search needs)
+    (λ c. search needs)
+    (λ c. search needs)
     returns
-    array-share-prefix-keys
+    (λ c. search needs)
     slice-aggregate-hint
     hint-requires
-    same-length-3
-    same-length-4
-    same-length-5
-    same-length-6
-    same-length-7
-    same-length-8
+    (λ c. search needs)
+    (λ c. search needs)
+    (λ c. search needs)
+    (λ c. search needs)
+    (λ c. search needs)
+    (λ c. search needs)
     returns-2)

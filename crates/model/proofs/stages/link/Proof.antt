@@ -16,35 +16,17 @@ slice-aggregate-resolve c =
     let a = c .before .before .before .before .before .before .before in
     holds-front (a .before .before .before .before .before .before .before .pre .0 .placed) .long
 
-slice-aggregate-resolve-2 : tie.Need-slice-aggregate-resolve-2
-slice-aggregate-resolve-2 c = search needs
-
 resolve-requires : tie.Need-resolve-requires
 resolve-requires c κs =
     let a = c .before .before .before .before .before .before .before .before in
     let s = a .before .before .before .before .before .before .before .before .before .pre in
     (s .1, linkable (s .0) (s .3))
 
-slice-aggregate-check-names : tie.Need-slice-aggregate-check-names
-slice-aggregate-check-names c = search needs
-
 check-names-requires : tie.Need-check-names-requires
 check-names-requires c κs =
     let k = c .before .before .before .before .before .before .before .before .before .before .before in
     let s = S k .pre in
     (weighs (s .0 .sound) (s .2) (k .resolve .ensures), s .4, s .0 .placed)
-
-same-length : tie.Need-same-length
-same-length c = search needs
-
-same-length-2 : tie.Need-same-length-2
-same-length-2 c = search needs
-
-same-length-3 : tie.Need-same-length-3
-same-length-3 c = search needs
-
-same-length-4 : tie.Need-same-length-4
-same-length-4 c = search needs
 
 returns : tie.Need-returns
 returns c =
@@ -54,26 +36,11 @@ returns c =
     let l = lent (s .args .places .now) (s .args .rows .now) (s .args .placed .now) in
     settled (s .pre .0) (s .pre .2) (k .resolve .ensures) (s .args .faults .now) l (done .check-names .ensures)
 
-slice-aggregate-weigh : tie.Need-slice-aggregate-weigh
-slice-aggregate-weigh c = search needs
-
 weigh-requires : tie.Need-weigh-requires
 weigh-requires c κs =
     let k = c .before .before .before .before .before .before .before .before .before .before .before in
     let s = S k .pre in
     (weighs (s .0 .sound) (s .2) (k .resolve .ensures), s .4)
-
-same-length-5 : tie.Need-same-length-5
-same-length-5 c = search needs
-
-same-length-6 : tie.Need-same-length-6
-same-length-6 c = search needs
-
-same-length-7 : tie.Need-same-length-7
-same-length-7 c = search needs
-
-same-length-8 : tie.Need-same-length-8
-same-length-8 c = search needs
 
 returns-2 : tie.Need-returns-2
 returns-2 c =
@@ -89,19 +56,19 @@ link-spec =
     tie.close
     (tie.spec
     slice-aggregate-resolve
-    slice-aggregate-resolve-2
+    (λ c. search needs)
     resolve-requires
-    slice-aggregate-check-names
+    (λ c. search needs)
     check-names-requires
-    same-length
-    same-length-2
-    same-length-3
-    same-length-4
+    (λ c. search needs)
+    (λ c. search needs)
+    (λ c. search needs)
+    (λ c. search needs)
     returns
-    slice-aggregate-weigh
+    (λ c. search needs)
     weigh-requires
-    same-length-5
-    same-length-6
-    same-length-7
-    same-length-8
+    (λ c. search needs)
+    (λ c. search needs)
+    (λ c. search needs)
+    (λ c. search needs)
     returns-2)

@@ -33,17 +33,11 @@ slice-reshare-prefix-note-owners c = held (c .before .before) .room
 slice-aggregate-note-owners : tie.Need-slice-aggregate-note-owners
 slice-aggregate-note-owners c = holds-front (held (c .before .before .before)) .long
 
-slice-aggregate-note-owners-2 : tie.Need-slice-aggregate-note-owners-2
-slice-aggregate-note-owners-2 c = search needs
-
 note-owners-requires : tie.Need-note-owners-requires
 note-owners-requires c κs =
     let k = c .before .before .before .before .before in
     let s = S k .pre in
     (holds-few (held k), refl, s .1, omega (arith, keyed-count (s .0), s .0 .few), s .0 .wide)
-
-slice-aggregate-link : tie.Need-slice-aggregate-link
-slice-aggregate-link c = search needs
 
 link-requires : tie.Need-link-requires
 link-requires c κs =
@@ -52,21 +46,6 @@ link-requires c κs =
     let s = S k .pre in
     let front = held k .front in
     (s .0, s .1, held k, (rw front at (owned .note-owners .ensures)), s .2 .order-room)
-
-same-length : tie.Need-same-length
-same-length c = search needs
-
-same-length-2 : tie.Need-same-length-2
-same-length-2 c = search needs
-
-same-length-3 : tie.Need-same-length-3
-same-length-3 c = search needs
-
-same-length-4 : tie.Need-same-length-4
-same-length-4 c = search needs
-
-same-length-5 : tie.Need-same-length-5
-same-length-5 c = search needs
 
 returns : tie.Need-returns
 returns c =
@@ -84,13 +63,13 @@ settle-spec =
     collect-rows-requires
     slice-reshare-prefix-note-owners
     slice-aggregate-note-owners
-    slice-aggregate-note-owners-2
+    (λ c. search needs)
     note-owners-requires
-    slice-aggregate-link
+    (λ c. search needs)
     link-requires
-    same-length
-    same-length-2
-    same-length-3
-    same-length-4
-    same-length-5
+    (λ c. search needs)
+    (λ c. search needs)
+    (λ c. search needs)
+    (λ c. search needs)
+    (λ c. search needs)
     returns)

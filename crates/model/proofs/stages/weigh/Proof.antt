@@ -4,9 +4,6 @@ use Rattle.model.proofs.Staging.{prefix-length, holds-front, weighed-fi
 use Rattle.model.proofs.stages.weigh.Statement.{statement}
 use Rattle.model.proofs.stages.weigh.Tie as tie
 
-add-close : tie.Need-add-close
-add-close c = search needs
-
 slice-aggregate-close : tie.Need-slice-aggregate-close
 slice-aggregate-close c =
     let s = c .before .before .before .before .before .before .before .before .before .before in
@@ -22,12 +19,6 @@ close-requires c κs =
     let s = c .before .before .before .before .before .before .before .before .before .before .before .before .before .pre in
     (weighed-fit (s .0), holds-front (s .0 .rows-held), s .1)
 
-same-length : tie.Need-same-length
-same-length c = search needs
-
-same-length-2 : tie.Need-same-length-2
-same-length-2 c = search needs
-
 returns : tie.Need-returns
 returns c =
     let done = c .before .before .before .before in
@@ -38,10 +29,10 @@ pub weigh-spec : {M : Type 1} → statement M
 weigh-spec =
     tie.close
     (tie.spec
-    add-close
+    (λ c. search needs)
     slice-aggregate-close
     slice-aggregate-close-2
     close-requires
-    same-length
-    same-length-2
+    (λ c. search needs)
+    (λ c. search needs)
     returns)

@@ -33,41 +33,11 @@ six c = c .before .before .before .before .before .before .before .if1 .left
 seven : (c : tie.After-write-program-arg2) → P″ c .plan .result .number ≡ 7 → ⊥
 seven c = c .before .before .before .before .before .if2 .left
 
-slice-aggregate-plan : tie.Need-slice-aggregate-plan
-slice-aggregate-plan c = search needs
-
-slice-aggregate-plan-2 : tie.Need-slice-aggregate-plan-2
-slice-aggregate-plan-2 c = search needs
-
-slice-aggregate-plan-3 : tie.Need-slice-aggregate-plan-3
-slice-aggregate-plan-3 c = search needs
-
-plan-requires : tie.Need-plan-requires
-plan-requires c κs = search needs
-
-same-length : tie.Need-same-length
-same-length c = search needs
-
-same-length-2 : tie.Need-same-length-2
-same-length-2 c = search needs
-
-same-length-3 : tie.Need-same-length-3
-same-length-3 c = search needs
-
 returns : tie.Need-returns
 returns c =
     let p = P c in
     let s = S p in
     λ ss laid. says-six (s .pre) (p .plan .ensures) ss laid (s .args .out .now) (c .if1 .taken)
-
-same-length-4 : tie.Need-same-length-4
-same-length-4 c = search needs
-
-same-length-5 : tie.Need-same-length-5
-same-length-5 c = search needs
-
-same-length-6 : tie.Need-same-length-6
-same-length-6 c = search needs
 
 returns-2 : tie.Need-returns-2
 returns-2 c =
@@ -75,32 +45,11 @@ returns-2 c =
     let s = S p in
     λ ss laid. says-seven (s .pre) (p .plan .ensures) ss laid (s .args .out .now) (c .if2 .taken)
 
-slice-aggregate-write-program : tie.Need-slice-aggregate-write-program
-slice-aggregate-write-program c = search needs
-
-slice-aggregate-write-program-2 : tie.Need-slice-aggregate-write-program-2
-slice-aggregate-write-program-2 c = search needs
-
-slice-aggregate-write-program-3 : tie.Need-slice-aggregate-write-program-3
-slice-aggregate-write-program-3 c = search needs
-
 write-program-requires : tie.Need-write-program-requires
 write-program-requires c κs =
     let p = P″ c in
     let s = S p in
     planned-so (s .pre) (p .plan .ensures) (s .pre .statements) (s .pre .laid) (s .args .out .now) (six c) (seven c)
-
-same-length-7 : tie.Need-same-length-7
-same-length-7 c = search needs
-
-same-length-8 : tie.Need-same-length-8
-same-length-8 c = search needs
-
-same-length-9 : tie.Need-same-length-9
-same-length-9 c = search needs
-
-same-length-10 : tie.Need-same-length-10
-same-length-10 c = search needs
 
 returns-3 : tie.Need-returns-3
 returns-3 c =
@@ -115,24 +64,24 @@ pub conclude-spec : {M : Type 1} → statement M
 conclude-spec =
     tie.close
     (tie.spec
-    slice-aggregate-plan
-    slice-aggregate-plan-2
-    slice-aggregate-plan-3
-    plan-requires
-    same-length
-    same-length-2
-    same-length-3
+    (λ c. search needs)
+    (λ c. search needs)
+    (λ c. search needs)
+    (λ c κs. search needs)
+    (λ c. search needs)
+    (λ c. search needs)
+    (λ c. search needs)
     returns
-    same-length-4
-    same-length-5
-    same-length-6
+    (λ c. search needs)
+    (λ c. search needs)
+    (λ c. search needs)
     returns-2
-    slice-aggregate-write-program
-    slice-aggregate-write-program-2
-    slice-aggregate-write-program-3
+    (λ c. search needs)
+    (λ c. search needs)
+    (λ c. search needs)
     write-program-requires
-    same-length-7
-    same-length-8
-    same-length-9
-    same-length-10
+    (λ c. search needs)
+    (λ c. search needs)
+    (λ c. search needs)
+    (λ c. search needs)
     returns-3)

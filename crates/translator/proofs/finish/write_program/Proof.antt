@@ -27,12 +27,6 @@ slice-aggregate-put-program-3 c =
     let s = S (c .before .before .before .before) in
     front (s .args .plan .equations) (s .args .order .now) (order-room (s .pre))
 
-put-program-requires : tie.Need-put-program-requires
-put-program-requires c κs = search needs
-
-same-length : tie.Need-same-length
-same-length c = search needs
-
 returns-2 : tie.Need-returns-2
 returns-2 c =
     let w = c .before .before in
@@ -49,6 +43,6 @@ write-program-spec =
     slice-aggregate-put-program
     slice-aggregate-put-program-2
     slice-aggregate-put-program-3
-    put-program-requires
-    same-length
+    (λ c κs. search needs)
+    (λ c. search needs)
     returns-2)

@@ -4,20 +4,8 @@ use borrow.Author.Needs.{needs}
 use Rattle.tried.proofs.arrays.short.Statement.{statement}
 use Rattle.tried.proofs.arrays.short.Tie as tie
 
-mul-result : tie.Need-mul-result
-mul-result c = search needs
-
-shared-slice-read-result : tie.Need-shared-slice-read-result
-shared-slice-read-result c = search needs
-
 cast-result : tie.Need-cast-result
 cast-result c = omega (arith, c .shared-slice-known .given (c .before .before .args .i))
 
-returns : tie.Need-returns
-returns c = search needs
-
-returns-2 : tie.Need-returns-2
-returns-2 c = search needs
-
 pub short-spec : {M : Type 1} → statement M
-short-spec = tie.close (tie.spec mul-result shared-slice-read-result cast-result returns returns-2)
+short-spec = tie.close (tie.spec (λ c. search needs) (λ c. search needs) cast-result (λ c. search needs) (λ c. search needs))

@@ -15,9 +15,6 @@ abbrev μ-loop : tie.MeasureT-loop
 loop-holds : tie.Need-loop-holds Inv-loop μ-loop
 loop-holds c = omega arith
 
-mul-if1 : tie.Need-mul-if1 Inv-loop μ-loop
-mul-if1 c = search needs
-
 shared-slice-read-if1 : tie.Need-shared-slice-read-if1 Inv-loop μ-loop
 shared-slice-read-if1 c = omega arith
 
@@ -37,4 +34,4 @@ returns : tie.Need-returns Inv-loop μ-loop
 returns c = omega arith
 
 pub kept-in-spec : {M : Type 1} → statement M
-kept-in-spec = tie.close (tie.spec Inv-loop μ-loop loop-holds mul-if1 shared-slice-read-if1 add-n add-i loop-less loop-again returns)
+kept-in-spec = tie.close (tie.spec Inv-loop μ-loop loop-holds (λ c. search needs) shared-slice-read-if1 add-n add-i loop-less loop-again returns)

@@ -24,14 +24,5 @@ add-i c = omega arith
 loop-less : tie.Need-loop-less Inv-loop μ-loop
 loop-less c = omega arith
 
-loop-again : tie.Need-loop-again Inv-loop μ-loop
-loop-again c = search needs
-
-same-length : tie.Need-same-length Inv-loop μ-loop
-same-length c = search needs
-
-returns : tie.Need-returns Inv-loop μ-loop
-returns c = search needs
-
 pub records-spec : {M : Type 1} → statement M
-records-spec = tie.close (tie.spec Inv-loop μ-loop loop-holds record-requires add-i loop-less loop-again same-length returns)
+records-spec = tie.close (tie.spec Inv-loop μ-loop loop-holds record-requires add-i loop-less (λ c. search needs) (λ c. search needs) (λ c. search needs))
