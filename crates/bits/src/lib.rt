@@ -1,4 +1,4 @@
-// Fields of a record: numbers as bytes, low first, and floats as their bits.
+// Numbers as bytes, low first, and floats as their bits; reads that give 0 past an end.
 ghost use mathlib.Core.Path.{_≡_};
 ghost use Prim.Native.Nat.{_+_, _-_, _<_, _^_, min};
 ghost use lib.Dec.{leb};
@@ -7,22 +7,21 @@ ghost use lib.Seq.{sets};
 ghost use lib.Ieee.{binary64, toBits, ofBits};
 ghost use Rattle.bits.specs.Low.{lowBytes, lowWord};
 
-// A byte as a larger number.
-fn wide(b: u8) -> u64
-    ensures { λ r. ⌜ (r ≡ b) × (r < 256) ⌝ }
-{
-    b as u64
-}
+pub mod reads;
+
+use reads::wide;
+
+// ---- numbers as bytes
 
 // The lesser of two numbers.
-fn least(a: usize, b: usize) -> usize
+pub fn least(a: usize, b: usize) -> usize
     ensures { λ r. ⌜ r ≡ min a b ⌝ }
 {
     if a < b { a } else { b }
 }
 
 // How many of n places from a place on stand before an end.
-fn room(end: usize, at: usize, n: usize) -> usize
+pub fn room(end: usize, at: usize, n: usize) -> usize
     ensures { λ r. ⌜ r ≡ min (end - at) n ⌝ }
 {
     if end < at {
@@ -92,7 +91,7 @@ fn has_room(end: usize, at: usize, n: usize) -> bool
 }
 
 // Writes the two lowest bytes of a number, as put_low does.
-pub fn put_two(buf: &mut [u8], at: usize, v: u64)
+fn put_two(buf: &mut [u8], at: usize, v: u64)
     ensures { λ _. ⌜ now (buf .exit) ≡ sets (now (buf .entry)) at (lowBytes 2 v) ⌝ }
 {
     if has_room(buf.len(), at, 2) {
@@ -104,7 +103,7 @@ pub fn put_two(buf: &mut [u8], at: usize, v: u64)
 }
 
 // Writes the four lowest bytes.
-pub fn put_four(buf: &mut [u8], at: usize, v: u64)
+fn put_four(buf: &mut [u8], at: usize, v: u64)
     ensures { λ _. ⌜ now (buf .exit) ≡ sets (now (buf .entry)) at (lowBytes 4 v) ⌝ }
 {
     if has_room(buf.len(), at, 4) {

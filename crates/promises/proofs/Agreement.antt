@@ -31,14 +31,19 @@ one x r s p q = p ∙ sym q
 two : {A B : Type 0} (x : A) (y : B) → Agree2 (λ (r : A) (o : B). (r ≡ x) × (o ≡ y))
 two x y r s a b p q = (p .0 ∙ sym (q .0), p .1 ∙ sym (q .1))
 
--- fields of a record: seven entries, one equation each
+-- numbers as bytes, and reads: one equation each
 pub bits : Bits
 bits =
     record {
+      wide = λ b r s p q. p .0 ∙ sym (q .0);
+      index = λ x r s p q. p .0 ∙ sym (q .0);
+      byte-at = λ s i. one _;
+      short-at = λ t i r s p q. p .0 ∙ sym (q .0);
+      word-at = λ s i. one _;
+      least = λ a b. one _;
+      room = λ end at n. one _;
       get-low = λ part n r s p q. p .0 ∙ sym (q .0);
       put-low = λ buf at n v. one _;
-      put-two = λ buf at v. one _;
-      put-four = λ buf at v. one _;
       put-eight = λ buf at v. one _;
       float-of = λ b. one _;
       bits-of = λ x. one _;

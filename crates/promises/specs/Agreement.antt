@@ -1,11 +1,11 @@
 -- Agreement: any two outcomes that a contract allows are equal. For each open entry its contract, in its own words, over an outcome: the
 -- answer, then each lent buffer afterwards. An entry without an answer has its buffer alone.
-use Prim.Native.Nat.{ℕ, _<_, _^_, min}
+use Prim.Native.Nat.{ℕ, _-_, _<_, _^_, min}
 use mathlib.Core.Path.{_≡_}
 use mathlib.Core.Bool.{Bool}
 use mathlib.Core.List.{List}
 use lib.Dec.{eqb}
-use lib.ListN.{length, take}
+use lib.ListN.{length, getD, take}
 use lib.Seq.{sets}
 use lib.Ieee.{Float, binary64, toBits, ofBits}
 use Rattle.bits.specs.Low.{lowBytes, lowWord}
@@ -58,12 +58,17 @@ abbrev pub Agree5 : {A B D E L : Type 0} → (A → B → D → E → L → Type
 Agree5 {A} {B} {D} {E} {L} C =
     (r s : A) (a b : B) (c d : D) (e f : E) (l m : L) → C r a c e l → C s b d f m → (r ≡ s) × (a ≡ b) × (c ≡ d) × (e ≡ f) × (l ≡ m)
 
--- get_low, put_low, put_two, put_four, put_eight, float_of, bits_of
+-- wide, index, byte_at, short_at, word_at, least, room, get_low, put_low, put_eight, float_of, bits_of
 pub record Bits : Type 0 where
+  pub wide : (b : ℕ) → Agree (λ (r : ℕ). (r ≡ b) × (r < 256))
+  pub index : (x : ℕ) → Agree (λ (r : ℕ). (r ≡ x) × (r < 65536))
+  pub byte-at : (s : List ℕ) (i : ℕ) → Agree (λ (r : ℕ). r ≡ getD s i 0)
+  pub short-at : (s : List ℕ) (i : ℕ) → Agree (λ (r : ℕ). (r ≡ getD s i 0) × (r < 65536))
+  pub word-at : (s : List ℕ) (i : ℕ) → Agree (λ (r : ℕ). r ≡ getD s i 0)
+  pub least : (a b : ℕ) → Agree (λ (r : ℕ). r ≡ min a b)
+  pub room : (end at n : ℕ) → Agree (λ (r : ℕ). r ≡ min (end - at) n)
   pub get-low : (part : List ℕ) (n : ℕ) → Agree (λ (r : ℕ). (r ≡ lowWord (take (min n 8) part)) × (r < 256 ^ min n 8))
   pub put-low : (buf : List ℕ) (at n v : ℕ) → Agree (λ (b : List ℕ). b ≡ sets buf at (lowBytes n v))
-  pub put-two : (buf : List ℕ) (at v : ℕ) → Agree (λ (b : List ℕ). b ≡ sets buf at (lowBytes 2 v))
-  pub put-four : (buf : List ℕ) (at v : ℕ) → Agree (λ (b : List ℕ). b ≡ sets buf at (lowBytes 4 v))
   pub put-eight : (buf : List ℕ) (at v : ℕ) → Agree (λ (b : List ℕ). b ≡ sets buf at (lowBytes 8 v))
   pub float-of : (bits : ℕ) → Agree (λ (r : Float). r ≡ ofBits binary64 bits)
   pub bits-of : (x : Float) → Agree (λ (r : ℕ). r ≡ toBits binary64 x)
