@@ -9,8 +9,8 @@ use lib.ListN.{length, length-append}
 use lib.Ieee.{Float}
 use Rattle.limits.specs.Limits.{levels}
 use Rattle.tokens.specs.Symbol.{Symbol, mark, number}
-use Rattle.grammar.specs.Tree.{Tree, Constant, Initial, Says}
-use Rattle.grammar.specs.Drafts.{Draft, draftsOf}
+use Rattle.drafts.specs.Tree.{Tree, Constant, Initial, Says}
+use Rattle.drafts.specs.Drafts.{Draft, draftsOf}
 use Rattle.grammar.specs.Look.{next, rest, byteOf, shapeOf, Start, Constants, Integral, Named, Valued, Other, startOf}
 use Rattle.grammar.specs.Grammar.{expr, Der, unsigned, sign, Signed, unsigned-number, signed-number, Many, one, more}
 use Rattle.grammar.specs.Grammar.{Initially, of-number, of-name, Derives, of-constants, of-assignment, of-state}

@@ -8,8 +8,9 @@ use lib.Dec.{eqb}
 use lib.ListN.{length, length-append, getD, drop, length-drop}
 use lib.Seq.{drop-append-seam, drop-drop}
 use Rattle.tokens.specs.Symbol.{Symbol, mark}
-use Rattle.grammar.specs.Tree.{Tree, two}
-use Rattle.grammar.specs.Drafts.{draft, kindTwo, drafted}
+use Rattle.drafts.specs.Tree.{Tree, two}
+use Rattle.drafts.specs.Kinds.{kindTwo}
+use Rattle.drafts.specs.Drafts.{draft, drafted}
 use Rattle.grammar.specs.Look.{next, rest, byteOf, addOp, mulOp, signed, Opening, group, give-to, shapeOf}
 use Rattle.grammar.specs.Grammar.{Mode, expr, term, factor, terms, factors, opened, list}
 use Rattle.grammar.specs.Parser.{give, stop, tell, bind, when, byOp, byShape, byGiven, need, behindSign, signDrafts, openDrafts, step, parse, rank, reads}

@@ -6,7 +6,7 @@ use native.Mathlib.Omega.{arith}
 use lib.ListN.{length, length-append}
 use Rattle.laws.proofs.Tests.{for-suc}
 use Rattle.tokens.specs.Symbol.{Symbol, mark}
-use Rattle.grammar.specs.Tree.{Tree}
+use Rattle.drafts.specs.Tree.{Tree}
 use Rattle.grammar.specs.Look.{next, rest, byteOf, none, addOp, mulOp, Opening, NoFactor, shapeOf}
 use Rattle.grammar.specs.Grammar.{Mode, expr, term, factor, terms, factors, opened, list}
 use Rattle.grammar.specs.Grammar.{Der, unsigned, sign, no-terms, add, a-term, no-factors, mul, a-leaf, grouped, called, opening, last, comma}

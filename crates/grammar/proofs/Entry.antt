@@ -12,11 +12,11 @@ use Rattle.limits.specs.Limits.{levels}
 use Rattle.tokens.specs.Symbol.{Symbol, mark}
 use Rattle.tokens.specs.Held.{heldRow}
 use Rattle.tokens.proofs.Holding.{held-length}
-use Rattle.grammar.specs.declared.Part.{Part}
+use Rattle.grammar.specs.declared.expressions.Part.{Part}
 use Rattle.grammar.specs.declared.Parsed.{Parsed}
 use Rattle.grammar.specs.declared.Parsed.the-variants.{Done, Fault, NoRoom}
-use Rattle.grammar.specs.Tree.{Says}
-use Rattle.grammar.specs.Drafts.{Draft}
+use Rattle.drafts.specs.Tree.{Says}
+use Rattle.drafts.specs.Drafts.{Draft}
 use Rattle.grammar.specs.Parser.{End, got, bad, Res, onward, bind, statement, ended, entire, calls, answer, readRow}
 use Rattle.grammar.specs.Contract.{Outcome, outcome, wrote, parsedAs, rowOutcome, ParsesRow, Ready, passed, partOf, partWrote, Meets}
 use Rattle.grammar.proofs.Room.{Fits, FitsEnd, statement-fits}

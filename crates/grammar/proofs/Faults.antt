@@ -10,8 +10,8 @@ use lib.Seq.{take-append-seam, take-append-add, getD-append-seam, getD-at, take-
 use Rattle.laws.proofs.Tests.{lt-or-ge}
 use Rattle.limits.specs.Limits.{levels}
 use Rattle.tokens.specs.Symbol.{Symbol, mark}
-use Rattle.grammar.specs.Tree.{Says}
-use Rattle.grammar.specs.Drafts.{Draft}
+use Rattle.drafts.specs.Tree.{Says}
+use Rattle.drafts.specs.Drafts.{Draft}
 use Rattle.grammar.specs.Look.{next, Paren, Call, shapeOf}
 use Rattle.grammar.specs.Grammar.{Derives}
 use Rattle.grammar.specs.Parser.{End, got, bad, Res, entire, calls, Read, read, fault, answer, readRow}

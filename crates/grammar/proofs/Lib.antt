@@ -1,7 +1,6 @@
 pub mod Outcome
 pub mod Looks
 pub mod Sound
-pub mod Drafts
 pub mod Whole
 pub mod Complete
 pub mod Accepts

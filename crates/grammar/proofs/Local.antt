@@ -7,8 +7,9 @@ use mathlib.Core.List.{List, [], _∷_, _++_, append-assoc}
 use native.Mathlib.Omega.{arith}
 use lib.Dec.{eqb}
 use Rattle.tokens.specs.Symbol.{Symbol, mark}
-use Rattle.grammar.specs.Tree.{Two, Tree, two}
-use Rattle.grammar.specs.Drafts.{Draft, draft, kindTwo, drafted}
+use Rattle.drafts.specs.Tree.{Two, Tree, two}
+use Rattle.drafts.specs.Kinds.{kindTwo}
+use Rattle.drafts.specs.Drafts.{Draft, draft, drafted}
 use Rattle.grammar.specs.Look.{next, rest, byteOf, Op, none, op, addOp, mulOp, signed, Opening, group, Given, whole, wants, give-to}
 use Rattle.grammar.specs.Look.{Shape, Leaf, Paren, Call, NoFactor, shapeOf}
 use Rattle.grammar.specs.Grammar.{Mode, expr, term, factor, terms, factors, opened, list}

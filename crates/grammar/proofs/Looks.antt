@@ -8,8 +8,8 @@ use lib.Dec.{eqb}
 use lib.Ieee.{Float}
 use Rattle.laws.proofs.Tests.{cond-ind}
 use Rattle.tokens.specs.Symbol.{CONST, PARAM, INCON, INTGRL, TIME, INSW, LIMIT, COMPAR, Symbol, mark, number, name, word}
-use Rattle.grammar.specs.Tree.{Two, plus, minus, times, over, compar, Three, Tree, value, named, time}
-use Rattle.grammar.specs.Drafts.{Draft, drafted}
+use Rattle.drafts.specs.Tree.{Two, plus, minus, times, over, compar, Three, Tree, value, named, time}
+use Rattle.drafts.specs.Drafts.{Draft, drafted}
 use Rattle.grammar.specs.Look.{next, rest, byteOf, Op, none, op, addOp, mulOp, signed}
 use Rattle.grammar.specs.Look.{Opening, group, pair, pair-of, triple, triple-of, triple-of-two, Given, whole, wants, give-to}
 use Rattle.grammar.specs.Look.{Shape, Leaf, Paren, Call, NoFactor, shapeOf, Start, Constants, Integral, Named, Valued, Other, startOf}

@@ -13,8 +13,8 @@ use Rattle.laws.proofs.Sets.{sets-append}
 use Rattle.tokens.specs.Symbol.{Symbol}
 use Rattle.tokens.specs.Held.{heldRow}
 use Rattle.tokens.proofs.Holding.{held-length}
-use Rattle.grammar.specs.declared.Part.{Part}
-use Rattle.grammar.specs.Drafts.{Draft, draft}
+use Rattle.grammar.specs.declared.expressions.Part.{Part}
+use Rattle.drafts.specs.Drafts.{Draft, draft}
 use Rattle.grammar.specs.Look.{next, rest, byteOf}
 use Rattle.grammar.specs.Parser.{End, got, bad, Res, give, stop, tell, onward, bind, when, need}
 use Rattle.grammar.specs.Contract.{Outcome, outcome, wrote, opDrafts, PutsOp, passed, stopped, partOf, partWrote, Meets}

@@ -9,11 +9,11 @@ use lib.Dec.{eqb, leb}
 use lib.ListN.{length, getD, set, drop}
 use Rattle.tokens.specs.Symbol.{Symbol, mark}
 use Rattle.tokens.specs.Held.{symbolOf, heldRow}
-use Rattle.grammar.specs.declared.Part.{Part}
-use Rattle.grammar.specs.declared.Face.{Face}
-use Rattle.grammar.specs.declared.Face.the-variants.{One, Group, Function, Nothing}
-use Rattle.grammar.specs.Tree.{insw, limit, Tree}
-use Rattle.grammar.specs.Drafts.{draft, drafted}
+use Rattle.grammar.specs.declared.expressions.Part.{Part}
+use Rattle.grammar.specs.declared.faces.Face.{Face}
+use Rattle.grammar.specs.declared.faces.Face.the-variants.{One, Group, Function, Nothing}
+use Rattle.drafts.specs.Tree.{insw, limit, Tree}
+use Rattle.drafts.specs.Drafts.{draft, drafted}
 use Rattle.grammar.specs.Look.{next, rest, byteOf, Opening, group, pair, pair-of, triple, triple-of, triple-of-two, Given, whole, wants, give-to}
 use Rattle.grammar.specs.Look.{Shape, Leaf, Paren, Call, NoFactor, shapeOf}
 use Rattle.grammar.specs.Grammar.{expr, factor, opened, list}

@@ -7,7 +7,7 @@ use native.Mathlib.Omega.{arith}
 use borrow.Author.Tests.{eqb-true}
 use lib.Dec.{eqb}
 use Rattle.tokens.specs.Symbol.{Symbol, mark, number, name, word}
-use Rattle.grammar.specs.Drafts.{Draft}
+use Rattle.drafts.specs.Drafts.{Draft}
 use Rattle.grammar.specs.Look.{next, rest, byteOf}
 use Rattle.grammar.specs.Parser.{End, got, bad, Res, give, stop, tell, onward, bind, when, need}
 use Rattle.grammar.specs.Meaning.{Calm}

@@ -9,8 +9,9 @@ use lib.Dec.{eqb}
 use lib.Ieee.{Float}
 use lib.ListN.{length, length-append}
 use Rattle.tokens.specs.Symbol.{Symbol, mark}
-use Rattle.grammar.specs.Tree.{Two, plus, minus, times, over, compar, Tree, two, Constant, constantOf, plain, from, Says, constants, assignment, state}
-use Rattle.grammar.specs.Drafts.{Draft, draft, kindTwo, drafted, constantDrafts, initialDraft}
+use Rattle.drafts.specs.Tree.{Two, plus, minus, times, over, compar, Tree, two, Constant, constantOf, plain, from, Says, constants, assignment, state}
+use Rattle.drafts.specs.Kinds.{kindTwo}
+use Rattle.drafts.specs.Drafts.{Draft, draft, drafted, constantDrafts, initialDraft}
 use Rattle.grammar.specs.Look.{next, rest, byteOf, Op, none, op, addOp, mulOp, signed}
 use Rattle.grammar.specs.Look.{Opening, group, pair, pair-of, triple, triple-of, triple-of-two, Given, whole, wants, give-to}
 use Rattle.grammar.specs.Look.{Shape, Leaf, Paren, Call, NoFactor, shapeOf, startOf}

@@ -6,8 +6,8 @@ use native.Mathlib.Omega.{arith}
 use lib.Ieee.{Float}
 use lib.ListN.{length, length-append}
 use Rattle.tokens.specs.Symbol.{INTGRL, Symbol, number, name, word}
-use Rattle.grammar.specs.Tree.{Constant, constantOf, plain, from, Says, constants, assignment, state}
-use Rattle.grammar.specs.Drafts.{draft, constantDrafts, initialDraft}
+use Rattle.drafts.specs.Tree.{Constant, constantOf, plain, from, Says, constants, assignment, state}
+use Rattle.drafts.specs.Drafts.{draft, constantDrafts, initialDraft}
 use Rattle.grammar.specs.Look.{next, rest, Op, addOp, Start, Constants, Integral, Named, Valued, Other, startOf}
 use Rattle.grammar.specs.Grammar.{expr}
 use Rattle.grammar.specs.Parser.{got, Res, give, stop, tell, bind, byStart, byName, byNumber, byIntegral, need, behindSign, parse}

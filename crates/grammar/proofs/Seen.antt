@@ -13,10 +13,10 @@ use Rattle.laws.proofs.Tests.{lt-or-ge}
 use Rattle.tokens.specs.Symbol.{mark}
 use Rattle.tokens.specs.Held.{symbolOf, heldRow}
 use Rattle.tokens.proofs.Holding.{held-at}
-use Rattle.grammar.specs.declared.Face.{Face}
-use Rattle.grammar.specs.declared.Face.the-variants.{One, Group, Function, Nothing}
-use Rattle.grammar.specs.Tree.{Tree}
-use Rattle.grammar.specs.Drafts.{draft, drafted}
+use Rattle.grammar.specs.declared.faces.Face.{Face}
+use Rattle.grammar.specs.declared.faces.Face.the-variants.{One, Group, Function, Nothing}
+use Rattle.drafts.specs.Tree.{Tree}
+use Rattle.drafts.specs.Drafts.{draft, drafted}
 use Rattle.grammar.specs.Look.{next, byteOf, addOp, mulOp, Shape, Leaf, Paren, Call, NoFactor, shapeOf}
 use Rattle.grammar.specs.Look.{Start, Constants, Integral, Named, Valued, Other, startOf}
 use Rattle.grammar.specs.Parser.{Res, byStart, byName, byNumber, byIntegral}

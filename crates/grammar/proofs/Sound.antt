@@ -8,8 +8,9 @@ use lib.Dec.{eqb}
 use lib.Ieee.{Float, fin}
 use lib.IntN.{pos}
 use Rattle.tokens.specs.Symbol.{Symbol, mark, number}
-use Rattle.grammar.specs.Tree.{Two, Tree, value, two}
-use Rattle.grammar.specs.Drafts.{Draft, draft, kindTwo, drafted}
+use Rattle.drafts.specs.Tree.{Two, Tree, value, two}
+use Rattle.drafts.specs.Kinds.{kindTwo}
+use Rattle.drafts.specs.Drafts.{Draft, draft, drafted}
 use Rattle.grammar.specs.Look.{next, rest, byteOf, Op, none, op, addOp, mulOp, signed}
 use Rattle.grammar.specs.Look.{Opening, group, pair, pair-of, triple, triple-of, triple-of-two, Given, whole, wants, give-to}
 use Rattle.grammar.specs.Look.{Shape, Leaf, Paren, Call, NoFactor, shapeOf}

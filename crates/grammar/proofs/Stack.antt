@@ -5,8 +5,8 @@ use mathlib.Core.List.{List, [], _∷_, _++_}
 use native.Mathlib.Omega.{arith}
 use Rattle.limits.specs.Limits.{levels, stackPlaces}
 use Rattle.tokens.specs.Symbol.{INSW, Symbol, mark, number, name, word}
-use Rattle.grammar.specs.Tree.{Two, plus, minus, times, over, compar, Tree, value, named, time, negated, two, three}
-use Rattle.grammar.specs.Tree.{Says, constants, assignment, state}
+use Rattle.drafts.specs.Tree.{Two, plus, minus, times, over, compar, Tree, value, named, time, negated, two, three}
+use Rattle.drafts.specs.Tree.{Says, constants, assignment, state}
 use Rattle.grammar.specs.Look.{next, rest, byteOf, op, signed, shapeOf, startOf}
 use Rattle.grammar.specs.Look.{Opening, group, pair, pair-of, triple, triple-of, triple-of-two, Given, whole, wants, give-to}
 use Rattle.grammar.specs.Grammar.{Mode, expr, term, factor, terms, factors, opened, list}

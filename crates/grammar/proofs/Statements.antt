@@ -10,10 +10,10 @@ use Rattle.limits.specs.Limits.{levels}
 use Rattle.tokens.specs.Symbol.{Symbol}
 use Rattle.tokens.specs.Held.{heldRow}
 use Rattle.tokens.proofs.Holding.{held-length}
-use Rattle.grammar.specs.declared.Part.{Part}
-use Rattle.grammar.specs.declared.Value.the-variants.{Found, Missing}
-use Rattle.grammar.specs.Tree.{Tree, Constant, constantOf, Initial, Says, constants, assignment, state}
-use Rattle.grammar.specs.Drafts.{draft, constantDrafts, initialDraft}
+use Rattle.grammar.specs.declared.expressions.Part.{Part}
+use Rattle.grammar.specs.declared.forms.Value.the-variants.{Found, Missing}
+use Rattle.drafts.specs.Tree.{Tree, Constant, constantOf, Initial, Says, constants, assignment, state}
+use Rattle.drafts.specs.Drafts.{draft, constantDrafts, initialDraft}
 use Rattle.grammar.specs.Look.{rest}
 use Rattle.grammar.specs.Grammar.{expr}
 use Rattle.grammar.specs.Parser.{Res, give, tell, bind, need, parse, reads}

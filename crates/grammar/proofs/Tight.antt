@@ -7,7 +7,7 @@ use native.Mathlib.Omega.{arith}
 use lib.Dec.{eqb}
 use lib.ListN.{length, replicate}
 use Rattle.tokens.specs.Symbol.{INTGRL, INSW, Symbol, mark, name, word}
-use Rattle.grammar.specs.Tree.{Tree, insw, Says, assignment}
+use Rattle.drafts.specs.Tree.{Tree, insw, Says, assignment}
 use Rattle.grammar.specs.Look.{next, rest, byteOf, group, triple, give-to, shapeOf, Integral, startOf}
 use Rattle.grammar.specs.Grammar.{expr, term, factor, Der, unsigned, no-terms, a-term, no-factors, grouped, called, opening, last}
 use Rattle.grammar.specs.Grammar.{Derives, of-constants, of-assignment, of-state}

@@ -8,7 +8,7 @@ use lib.IntN.{pos}
 use lib.ListN.{replicate}
 use Rattle.limits.specs.Limits.{levels}
 use Rattle.tokens.specs.Symbol.{CONST, INTGRL, TIME, INSW, COMPAR, Symbol, mark, number, name, word}
-use Rattle.grammar.specs.Tree.{times, insw, value, named, time, negated, two, three, constantOf, from, constants, assignment, state}
+use Rattle.drafts.specs.Tree.{times, insw, value, named, time, negated, two, three, constantOf, from, constants, assignment, state}
 use Rattle.grammar.specs.Look.{next, rest, byteOf, give-to, shapeOf, startOf}
 use Rattle.grammar.specs.Parser.{Read, read, fault, bind, parse, many, initially, signedNumber}
 use Rattle.grammar.specs.Parser.{assigned, integrated, statement, entire, readRow}

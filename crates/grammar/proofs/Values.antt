@@ -12,11 +12,11 @@ use lib.ListN.{length, getD, drop, length-drop, length-append}
 use Rattle.tokens.specs.Symbol.{Symbol, mark}
 use Rattle.tokens.specs.Held.{heldRow}
 use Rattle.tokens.proofs.Holding.{held-length}
-use Rattle.grammar.specs.declared.Part.{Part}
-use Rattle.grammar.specs.declared.Value.{Value}
-use Rattle.grammar.specs.declared.Value.the-variants.{Found, Missing}
-use Rattle.grammar.specs.Tree.{plus, Initial, plain, from}
-use Rattle.grammar.specs.Drafts.{Draft, draft, initialDraft}
+use Rattle.grammar.specs.declared.expressions.Part.{Part}
+use Rattle.grammar.specs.declared.forms.Value.{Value}
+use Rattle.grammar.specs.declared.forms.Value.the-variants.{Found, Missing}
+use Rattle.drafts.specs.Tree.{plus, Initial, plain, from}
+use Rattle.drafts.specs.Drafts.{Draft, draft, initialDraft}
 use Rattle.grammar.specs.Look.{next, rest, byteOf, Op, none, op, addOp, startOf, Start, Constants, Integral, Named, Valued, Other}
 use Rattle.grammar.specs.Grammar.{Signed, unsigned-number, signed-number, Initially, of-number, of-name}
 use Rattle.grammar.specs.Parser.{End, got, bad, Res, give, stop, bind, onward, byName, byNumber, behindSign}

@@ -13,9 +13,10 @@ use lib.Seq.{length-sets}
 use Rattle.tokens.specs.Symbol.{Symbol, mark}
 use Rattle.tokens.specs.Held.{symbolOf, heldRow}
 use Rattle.tokens.proofs.Holding.{held-length}
-use Rattle.grammar.specs.declared.Part.{Part}
-use Rattle.grammar.specs.Tree.{Two, plus, minus, times, over, compar, Tree, time, two}
-use Rattle.grammar.specs.Drafts.{Draft, draft, kindTwo}
+use Rattle.grammar.specs.declared.expressions.Part.{Part}
+use Rattle.drafts.specs.Tree.{Two, plus, minus, times, over, compar, Tree, time, two}
+use Rattle.drafts.specs.Kinds.{kindTwo}
+use Rattle.drafts.specs.Drafts.{Draft, draft}
 use Rattle.grammar.specs.Look.{next, rest, byteOf, Op, none, op, addOp, mulOp, isMinus, signed}
 use Rattle.grammar.specs.Grammar.{Mode, expr, term, factor, terms, factors}
 use Rattle.grammar.specs.Parser.{Res, give, tell, bind, byOp, behindSign, signDrafts, reads}

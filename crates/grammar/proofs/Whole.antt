@@ -5,8 +5,8 @@ use mathlib.Core.List.{List, [], _∷_, _++_, append-assoc, append-nil}
 use lib.Ieee.{Float}
 use Rattle.laws.specs.Lists.{concat-map}
 use Rattle.tokens.specs.Symbol.{INTGRL, Symbol, mark, number, name, word}
-use Rattle.grammar.specs.Tree.{value, Constant, constantOf, Initial, plain, from, Says, constants, assignment, state}
-use Rattle.grammar.specs.Drafts.{Draft, draft, constantDrafts, initialDraft, draftsOf}
+use Rattle.drafts.specs.Tree.{value, Constant, constantOf, Initial, plain, from, Says, constants, assignment, state}
+use Rattle.drafts.specs.Drafts.{Draft, draft, constantDrafts, initialDraft, draftsOf}
 use Rattle.grammar.specs.Look.{next, rest, Op, none, op, addOp, startOf}
 use Rattle.grammar.specs.Grammar.{expr, Signed, unsigned-number, signed-number, Many, one, more, Initially, of-number, of-name}
 use Rattle.grammar.specs.Grammar.{Derives, of-constants, of-assignment, of-state}
@@ -16,7 +16,7 @@ use Rattle.grammar.specs.Parser.{assigned, rated, started, integrated, e
 use Rattle.grammar.proofs.Outcome.{Asked, Before, Out, out-mark, out-tell, out-give, out-stop, out-rest, out-bind, out-map, out-need}
 use Rattle.grammar.proofs.Outcome.{here-mark, Fronts, extend, behind, fresh}
 use Rattle.grammar.proofs.Looks.{add-here, start-cases}
-use Rattle.grammar.proofs.Drafts.{drafted-items}
+use Rattle.drafts.proofs.Postfix.{drafted-items}
 use Rattle.grammar.proofs.Sound.{der-le, nought, zero-expr, sound}
 
 module _ {A : Type 0} (L : Asked A) (F : Before) where

@@ -3,10 +3,10 @@ use Prim.Native.Nat.{ℕ}
 use mathlib.Core.Bool.{cond}
 use lib.Dec.{eqb, leb}
 use lib.Ieee.{binary64, toBits, ofBits}
-use Rattle.grammar.specs.declared.Face.{Face}
-use Rattle.grammar.specs.declared.Face.the-variants.{One, Group, Function, Nothing}
-use Rattle.grammar.specs.Tree.{compar, Tree, value, named, time, negated, two, three}
-use Rattle.grammar.specs.Drafts.{kindTwo, kindThree}
+use Rattle.grammar.specs.declared.faces.Face.{Face}
+use Rattle.grammar.specs.declared.faces.Face.the-variants.{One, Group, Function, Nothing}
+use Rattle.drafts.specs.Tree.{compar, Tree, value, named, time, negated, two, three}
+use Rattle.drafts.specs.Kinds.{kindPush, kindFetch, kindClock, kindTwo, kindThree}
 use Rattle.grammar.specs.Look.{Op, none, op, Opening, group, pair, pair-of, triple, triple-of, triple-of-two}
 use Rattle.grammar.specs.Look.{Shape, Leaf, Paren, Call, NoFactor}
 
@@ -43,15 +43,15 @@ closerOf n = cond (leb n 1) 41 44
 
 -- the kind of a draft that is a whole expression, and its argument by the token's
 abbrev pub leafKind : Tree → ℕ
-leafKind (value x) = 3
-leafKind (named k) = 4
-leafKind time = 17
+leafKind (value x) = kindPush
+leafKind (named k) = kindFetch
+leafKind time = kindClock
 leafKind (negated a) = 0
 leafKind (two o a b) = 0
 leafKind (three o a b c) = 0
 
 abbrev pub leafArg : ℕ → ℕ → ℕ
-leafArg k a = cond (eqb k 3) (toBits binary64 (ofBits binary64 a)) (cond (eqb k 4) a 0)
+leafArg k a = cond (eqb k kindPush) (toBits binary64 (ofBits binary64 a)) (cond (eqb k kindFetch) a 0)
 
 -- what a token begins as a factor
 abbrev pub faceOf : Shape → Face

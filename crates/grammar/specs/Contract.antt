@@ -10,12 +10,13 @@ use lib.Ieee.{binary64, toBits}
 use Rattle.limits.specs.Limits.{levels}
 use Rattle.tokens.specs.Symbol.{Symbol}
 use Rattle.tokens.specs.Held.{heldRow}
-use Rattle.grammar.specs.declared.Part.{Part}
-use Rattle.grammar.specs.declared.Value.{Value}
-use Rattle.grammar.specs.declared.Value.the-variants.{Found, Missing}
+use Rattle.grammar.specs.declared.expressions.Part.{Part}
+use Rattle.grammar.specs.declared.forms.Value.{Value}
+use Rattle.grammar.specs.declared.forms.Value.the-variants.{Found, Missing}
 use Rattle.grammar.specs.declared.Parsed.{Parsed}
 use Rattle.grammar.specs.declared.Parsed.the-variants.{Done, Fault, NoRoom}
-use Rattle.grammar.specs.Drafts.{Draft, draft, initialDraft}
+use Rattle.drafts.specs.Kinds.{kindNumber}
+use Rattle.drafts.specs.Drafts.{Draft, draft, initialDraft}
 use Rattle.grammar.specs.Grammar.{Mode}
 use Rattle.grammar.specs.Parser.{End, got, bad, Res, reads, signedNumber, many, initially, entire, calls, Read, read, fault, readRow}
 
@@ -113,7 +114,7 @@ valueOf f n (got e t) = let x : Draft = f e in Found (x .kind) (x .arg) (n - len
 valueOf f n (bad c t) = Missing (n - length t)
 
 abbrev pub numberAt : List ℕ → List ℕ → ℕ → Value
-numberAt ks us i = valueOf (λ x. draft 0 (toBits binary64 x)) (length ks) (signedNumber (drop i (heldRow ks us)) .end)
+numberAt ks us i = valueOf (λ x. draft kindNumber (toBits binary64 x)) (length ks) (signedNumber (drop i (heldRow ks us)) .end)
 
 abbrev pub initialAt : List ℕ → List ℕ → ℕ → Value
 initialAt ks us i = valueOf initialDraft (length ks) (initially (drop i (heldRow ks us)) .end)

@@ -7,7 +7,7 @@ use mathlib.Core.Bool.{Bool, cond}
 use mathlib.Core.List.{List, [], _∷_, _++_}
 use lib.Ieee.{Float, neg}
 use Rattle.tokens.specs.Symbol.{Word, INTGRL, Symbol, mark, number, name, word}
-use Rattle.grammar.specs.Tree.{Two, Tree, two, Constant, constantOf, Initial, plain, from, Says, constants, assignment, state}
+use Rattle.drafts.specs.Tree.{Two, Tree, two, Constant, constantOf, Initial, plain, from, Says, constants, assignment, state}
 use Rattle.grammar.specs.Look.{Op, none, op, addOp, mulOp, isMinus, signed, Opening, group, whole, wants, give-to}
 use Rattle.grammar.specs.Look.{Leaf, Call, shapeOf, Constants, startOf}
 

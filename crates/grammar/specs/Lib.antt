@@ -1,9 +1,8 @@
-pub mod Tree
-pub mod Items
-pub mod Drafts
+-- the paper
 pub mod Look
 pub mod Grammar
+pub mod Meaning
+-- as code holds it
 pub mod Parser
 pub mod Codes
 pub mod Contract
-pub mod Meaning

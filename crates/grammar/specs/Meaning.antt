@@ -6,7 +6,7 @@ use mathlib.Core.List.{List, [], _∷_, _++_}
 use lib.ListN.{length, getD, take}
 use Rattle.limits.specs.Limits.{levels}
 use Rattle.tokens.specs.Symbol.{Symbol, mark}
-use Rattle.grammar.specs.Tree.{Says}
+use Rattle.drafts.specs.Tree.{Says}
 use Rattle.grammar.specs.Look.{Opening, Call, shapeOf}
 use Rattle.grammar.specs.Grammar.{Derives}
 

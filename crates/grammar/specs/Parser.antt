@@ -7,8 +7,9 @@ use lib.Dec.{eqb}
 use lib.Ieee.{Float, neg}
 use Rattle.limits.specs.Limits.{levels}
 use Rattle.tokens.specs.Symbol.{Symbol, mark}
-use Rattle.grammar.specs.Tree.{Two, Three, Tree, two, Constant, constantOf, Initial, plain, from, Says, constants, assignment, state, compar}
-use Rattle.grammar.specs.Drafts.{Draft, draft, kindTwo, kindThree, drafted, constantDrafts, initialDraft}
+use Rattle.drafts.specs.Tree.{Two, Three, Tree, two, Constant, constantOf, Initial, plain, from, Says, constants, assignment, state, compar}
+use Rattle.drafts.specs.Kinds.{kindInitial, kindTwo, kindNegate, kindThree, kindStore, kindRate}
+use Rattle.drafts.specs.Drafts.{Draft, draft, drafted, constantDrafts, initialDraft}
 use Rattle.grammar.specs.Look.{next, rest, byteOf, Op, none, op, addOp, mulOp, isMinus, signed, Given, whole, wants, give-to}
 use Rattle.grammar.specs.Look.{Opening, group, pair, pair-of, triple, triple-of, triple-of-two}
 use Rattle.grammar.specs.Look.{Shape, Leaf, Paren, Call, NoFactor, shapeOf, Start, Constants, Integral, Named, Valued, Other, startOf}
@@ -73,7 +74,7 @@ behindSign (op o) s = rest s
 -- what a sign writes behind the first term
 abbrev pub signDrafts : Op → List Draft
 signDrafts none = []
-signDrafts (op o) = cond (isMinus o) (draft 9 0 ∷ []) []
+signDrafts (op o) = cond (isMinus o) (draft kindNegate 0 ∷ []) []
 
 -- what an opening writes behind its expressions
 abbrev pub openDrafts : Opening → List Draft
@@ -171,13 +172,13 @@ initially s = byName (startOf (next s)) (λ k. give (from k) (rest s)) (λ _. bi
 
 -- behind name =: an expression; behind INTGRL: an initial, and the expression of the rate
 unfoldable pub assigned : ℕ → ℕ → ℕ → List Symbol → Res Says
-assigned f d k s = bind (parse f expr d s) λ e t. tell (draft 13 k ∷ []) (give (assignment k e) t)
+assigned f d k s = bind (parse f expr d s) λ e t. tell (draft kindStore k ∷ []) (give (assignment k e) t)
 
 abbrev pub rated : ℕ → ℕ → ℕ → Initial → List Symbol → Res Says
-rated f d k i s = bind (parse f expr d s) λ e t. need 41 t λ u. tell (draft 14 k ∷ []) (give (state k i e) u)
+rated f d k i s = bind (parse f expr d s) λ e t. need 41 t λ u. tell (draft kindRate k ∷ []) (give (state k i e) u)
 
 abbrev pub started : ℕ → ℕ → ℕ → List Symbol → Res Says
-started f d k s = bind (initially s) λ i t. tell (draft 2 k ∷ initialDraft i ∷ []) (need 44 t (rated f d k i))
+started f d k s = bind (initially s) λ i t. tell (draft kindInitial k ∷ initialDraft i ∷ []) (need 44 t (rated f d k i))
 
 unfoldable pub integrated : ℕ → ℕ → ℕ → List Symbol → Res Says
 integrated f d k s = need 40 s (started f d k)

@@ -49,6 +49,10 @@ pub or-right : (a b : Bool) → b ≡ true → (a || b) ≡ true
 or-right true b e = refl
 or-right false b e = e
 
+-- a test that fails adds nothing
+pub or-skip : {a b : Bool} → a ≡ false → b ≡ (a || b)
+or-skip {a} {b} e = rw e
+
 -- an implication as a test
 pub or-blocked : (a b : Bool) → (not a || b) ≡ false → (a ≡ true) × (b ≡ false)
 or-blocked true b e = (refl, e)

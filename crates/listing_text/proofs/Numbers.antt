@@ -10,7 +10,7 @@ use Rattle.laws.specs.Lists.{numbers}
 use Rattle.deck.specs.Lines.{Line, linesOf, dotted, passed}
 use Rattle.deck.specs.Reading.{Statement, State, fresh, inside, goes-on, ends, after, ended, left, reading}
 use Rattle.deck.specs.Reports.{Report, report}
-use Rattle.grammar.specs.Tree.{Constant, Says, constants, assignment, state}
+use Rattle.drafts.specs.Tree.{Constant, Says, constants, assignment, state}
 use Rattle.sheet.specs.Sheet.{Told, says, faulty, Sheet, Numbered, Fault, saidBy, faultBy, said, statementFaults}
 use Rattle.sheet.specs.Reader.{told, sheetOf}
 use Rattle.model.specs.Definitions.{What, constant, assigned, integral, Def, defined, definedBy, definitions, keys}

@@ -8,8 +8,8 @@ use Rattle.laws.proofs.Every.{every-append, every-concat, every-part}
 use Rattle.laws.specs.Lists.{concat-map}
 use Rattle.laws.proofs.Lists.{concat-append}
 use Rattle.laws.proofs.Concats.{concat-concat, concat-mapped, concat-same, concat-none}
-use Rattle.grammar.specs.Tree.{plus, minus, times, over, compar, insw, limit}
-use Rattle.grammar.specs.Items.{Item, push, fetch, clock, negate, apply-two, apply-three, postfix}
+use Rattle.drafts.specs.Tree.{plus, minus, times, over, compar, insw, limit}
+use Rattle.drafts.specs.Items.{Item, push, fetch, clock, negate, apply-two, apply-three, postfix}
 use Rattle.model.specs.Definitions.{What, constant, assigned, integral, Def, slotIn, Equation, equationAt}
 use Rattle.records.specs.declared.Instr.{Instr}
 use Rattle.records.specs.Record.{Rec, rec}

@@ -14,13 +14,15 @@ use Rattle.laws.proofs.Counts.{has-true}
 use Rattle.laws.proofs.Lists.{concat-append}
 use Rattle.laws.proofs.Concats.{concat-concat, concat-none, same-at}
 use Rattle.laws.proofs.Along.{gather-over, filled}
-use Rattle.grammar.specs.Tree.{Tree, names, Constant, plain, from, Says, constants, assignment, state}
-use Rattle.grammar.specs.Drafts.{Draft, draft, constantDrafts, draftsOf}
+use Rattle.drafts.specs.Tree.{Tree, names, Constant, plain, from, Says, constants, assignment, state}
+use Rattle.drafts.specs.Drafts.{Draft, draft, constantDrafts, draftsOf}
 use Rattle.sheet.specs.Sheet.{Numbered, Fault}
 use Rattle.sheet.specs.Layout.{draftsIn}
 use Rattle.model.specs.Definitions.{Def, definedBy, definitions, placeIn}
 use Rattle.model.specs.Faults.{initialNames, constantKeys, within, nameFault, nameFaultOf, nameFaults}
-use Rattle.model.specs.Places.{asks, undefinedAt, homeOf, unfitAt, namesAt, nameless}
+use Rattle.drafts.specs.Kinds.{asks}
+use Rattle.drafts.specs.Places.{homeOf}
+use Rattle.model.specs.Places.{undefinedAt, unfitAt, namesAt, nameless}
 use Rattle.model.proofs.Drafts.{noDraft, expressionDrafts, expression-names, Home, homeOfDef}
 use Rattle.model.proofs.Walk.{sheetKinds, sheetLines, sheetBounds, sheetKeys, sheetSlots, sheetPlaces, slotOf, kind-at, slot-at, line-at}
 use Rattle.model.proofs.Walk.{any-statement}

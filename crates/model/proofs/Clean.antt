@@ -12,7 +12,7 @@ use Rattle.laws.proofs.Counts.{once-other, has-true}
 use Rattle.laws.proofs.Lists.{concat-append}
 use Rattle.laws.proofs.Concats.{none-left}
 use Rattle.laws.proofs.Sums.{numbers-once}
-use Rattle.grammar.specs.Tree.{Tree, names, from, state}
+use Rattle.drafts.specs.Tree.{Tree, names, from, state}
 use Rattle.sheet.specs.Sheet.{Numbered, Fault}
 use Rattle.order.specs.Order.{unsortable}
 use Rattle.order.proofs.Theorems.{Sortable, order-is-first}

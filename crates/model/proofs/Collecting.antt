@@ -18,7 +18,9 @@ use Rattle.laws.proofs.Tests.{bool-cases, not-both, lt-or-ge, eq-or-ne, cond-in
 use Rattle.laws.proofs.Gathers.{gather-step, gather-done, gather-add, gather-short, gather-same}
 use Rattle.laws.proofs.Gathers.{Writes, writes-first, writes-next, writes-count, writes-all, whole-count, whole-all}
 use Rattle.laws.proofs.Along.{map-gather, map-only}
-use Rattle.model.specs.Places.{defines, begins, ends, inStatement, definedAt, keysIn, placesIn}
+use Rattle.drafts.specs.Kinds.{defines}
+use Rattle.drafts.specs.Places.{begins, ends, inStatement}
+use Rattle.model.specs.Places.{definedAt, keysIn, placesIn}
 use Rattle.model.specs.Working.{Rises, Statements, Put, Noted, NotedAll, NotedIn, NotedBy, placeAt, spotOf, looked, Collected}
 
 -- one value, or none

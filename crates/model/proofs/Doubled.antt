@@ -10,12 +10,13 @@ use Rattle.laws.specs.Places.{onlyIf}
 use Rattle.laws.proofs.Lists.{concat-append}
 use Rattle.laws.proofs.Concats.{map-append, map-concat, concat-concat, concat-same, same-length}
 use Rattle.laws.proofs.Along.{along-parts, gather-along, gather-all, gather-fronts, map-gather, map-only}
-use Rattle.grammar.specs.Drafts.{Draft}
+use Rattle.drafts.specs.Drafts.{Draft}
 use Rattle.sheet.specs.Sheet.{Numbered}
 use Rattle.sheet.specs.Layout.{draftsIn}
 use Rattle.model.specs.Definitions.{Def, definedBy, definitions, keys}
 use Rattle.model.specs.Faults.{faultIf, again, faults21}
-use Rattle.model.specs.Places.{defines, definedAt, keysIn, placesIn, doubleAt, doubles}
+use Rattle.drafts.specs.Kinds.{defines}
+use Rattle.model.specs.Places.{definedAt, keysIn, placesIn, doubleAt, doubles}
 use Rattle.model.proofs.Drafts.{noDraft, keyOf, defined-keys, Home, home, homesAt, homeOfDef, defined-homes}
 use Rattle.model.proofs.Walk.{sheetKinds, sheetArgs, sheetLines, sheetBounds, sheetKeys, sheetPlaces, kind-at, arg-at, draftsBy, line-at, in-statement}
 use Rattle.model.proofs.Walk.{before-statement}

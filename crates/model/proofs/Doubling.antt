@@ -18,7 +18,9 @@ use Rattle.laws.proofs.Bools.{or-false}
 use Rattle.laws.proofs.Gathers.{gather-add, gather-done, gather-none, gather-same}
 use Rattle.model.specs.Definitions.{placeIn}
 use Rattle.model.specs.Faults.{again, faultIf}
-use Rattle.model.specs.Places.{defines, begins, ends, definedAt, keysIn, placesIn, doubleAt, doubles}
+use Rattle.drafts.specs.Kinds.{defines}
+use Rattle.drafts.specs.Places.{begins, ends}
+use Rattle.model.specs.Places.{definedAt, keysIn, placesIn, doubleAt, doubles}
 use Rattle.model.specs.Working.{before, repeats, repeatAt, repeated, Rises}
 use Rattle.model.proofs.Reporting.{if-length}
 

@@ -11,12 +11,12 @@ use Rattle.laws.specs.Places.{onlyIf}
 use Rattle.laws.proofs.Lists.{concat-append}
 use Rattle.laws.proofs.Concats.{concat-concat, concat-mapped, concat-same}
 use Rattle.laws.proofs.Along.{along, along-append, along-one}
-use Rattle.grammar.specs.Tree.{plus, minus, times, over, compar, insw, limit, Tree, value, named, time, negated, two, three, names, plain, from, Says}
-use Rattle.grammar.specs.Tree.{constants, assignment, state}
-use Rattle.grammar.specs.Items.{Item, push, fetch, clock, negate, apply-two, apply-three, postfix}
-use Rattle.grammar.specs.Drafts.{Draft, draft, draftItem, draftsOf}
+use Rattle.drafts.specs.Tree.{plus, minus, times, over, compar, insw, limit, Tree, value, named, time, negated, two, three, names, plain, from, Says}
+use Rattle.drafts.specs.Tree.{constants, assignment, state}
+use Rattle.drafts.specs.Items.{Item, push, fetch, clock, negate, apply-two, apply-three, postfix}
+use Rattle.drafts.specs.Drafts.{Draft, draft, draftItem, draftsOf}
 use Rattle.model.specs.Definitions.{What, constant, assigned, integral, Def, definedBy, keys}
-use Rattle.model.specs.Places.{defines}
+use Rattle.drafts.specs.Kinds.{defines}
 
 -- what is read past the end
 abbrev pub noDraft : Draft

@@ -12,7 +12,7 @@ use Rattle.deck.specs.Lines.{Line, linesOf}
 use Rattle.deck.specs.Reading.{Statement, fresh, reading}
 use Rattle.deck.specs.Reports.{Report, report}
 use Rattle.deck.proofs.Rising.{firsts, reading-rises}
-use Rattle.grammar.specs.Tree.{Constant, Says, constants, assignment, state}
+use Rattle.drafts.specs.Tree.{Constant, Says, constants, assignment, state}
 use Rattle.sheet.specs.Sheet.{Told, says, faulty, Sheet, Numbered, said}
 use Rattle.sheet.specs.Reader.{told, sheetOf}
 use Rattle.order.specs.Order.{_≼_}

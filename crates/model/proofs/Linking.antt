@@ -12,7 +12,9 @@ use Rattle.laws.proofs.Tests.{cond-ind}
 use Rattle.laws.proofs.Bools.{or-false}
 use Rattle.laws.proofs.Sets.{sets-append}
 use Rattle.laws.proofs.Gathers.{gather-more, gather-none, gather-same}
-use Rattle.model.specs.Places.{defines, isNamed, resolvedAt, resolved, begins, ends, inStatement, isEquation, equationRows}
+use Rattle.drafts.specs.Kinds.{defines, isNamed}
+use Rattle.drafts.specs.Places.{begins, ends, inStatement}
+use Rattle.model.specs.Places.{resolvedAt, resolved, isEquation, equationRows}
 use Rattle.model.specs.Places.{usedAt, usedIn, startsFrom}
 use Rattle.model.specs.Plan.{ownSlots}
 use Rattle.model.specs.Working.{Put, flawedBy, usedOwner, usedHere, usedFrom, Resolved, Resolving, Linking, Walked, Linkable, Tabled, Linked}

@@ -16,7 +16,9 @@ use Rattle.laws.proofs.Runs.{held as stands}
 use Rattle.laws.proofs.Gathers.{any-step, any-stop, any-pass, any-done}
 use Rattle.model.specs.Definitions.{placeIn}
 use Rattle.model.specs.Faults.{faultIf, nameFault}
-use Rattle.model.specs.Places.{defines, isNamed, asks, resolvedAt, resolved, homeOf, begins, ends, anyOf, undefinedAt, unfitAt, namesAt}
+use Rattle.drafts.specs.Kinds.{defines, isNamed, asks}
+use Rattle.drafts.specs.Places.{homeOf, begins, ends, anyOf}
+use Rattle.model.specs.Places.{resolvedAt, resolved, undefinedAt, unfitAt, namesAt}
 use Rattle.model.specs.Working.{flawedBy, flawedAt, Resolved, Resolving, flawOf}
 use Rattle.model.proofs.Reporting.{if-length}
 

@@ -12,7 +12,8 @@ use lib.Seq.{sets}
 use Rattle.laws.specs.Places.{gather, onlyIf}
 use Rattle.laws.proofs.Tests.{lt-or-ge}
 use Rattle.laws.proofs.Gathers.{Writes, writes-first, writes-next, whole-count, whole-all}
-use Rattle.model.specs.Places.{begins, ends, lastKind, isEquation, assignedSlot}
+use Rattle.drafts.specs.Places.{begins, ends, lastKind}
+use Rattle.model.specs.Places.{isEquation, assignedSlot}
 use Rattle.model.specs.Working.{Put, usedHere}
 use Rattle.model.proofs.Collecting.{only-length, put-one, put-none}
 

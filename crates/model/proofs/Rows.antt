@@ -11,12 +11,13 @@ use Rattle.laws.specs.Lists.{concat-map}
 use Rattle.laws.specs.Places.{onlyIf}
 use Rattle.laws.proofs.Concats.{map-concat, concat-concat, same-at, same-length}
 use Rattle.laws.proofs.Along.{gather-over, map-gather}
-use Rattle.grammar.specs.Tree.{Tree, names, Constant, Initial, plain, from, Says, constants, assignment, state}
-use Rattle.grammar.specs.Drafts.{Draft, draft, constantDrafts, initialDraft, draftsOf}
+use Rattle.drafts.specs.Tree.{Tree, names, Constant, Initial, plain, from, Says, constants, assignment, state}
+use Rattle.drafts.specs.Drafts.{Draft, draft, constantDrafts, initialDraft, draftsOf}
 use Rattle.sheet.specs.Sheet.{Numbered}
 use Rattle.sheet.specs.Layout.{draftsIn}
 use Rattle.model.specs.Definitions.{Def, definitions, placeIn, Equation, equationOf, equations, noEquation, equationAt, equationCount}
-use Rattle.model.specs.Places.{begins, ends, lastKind, isEquation, equationRows, assignedSlot, usedBy, usedAt, usedOfRow}
+use Rattle.drafts.specs.Places.{begins, ends, lastKind}
+use Rattle.model.specs.Places.{isEquation, equationRows, assignedSlot, usedBy, usedAt, usedOfRow}
 use Rattle.model.proofs.Lines.{no-equations}
 use Rattle.model.proofs.Drafts.{expressionDrafts, expression-names}
 use Rattle.model.proofs.Walk.{sheetKinds, sheetLines, sheetBounds, sheetKeys, sheetSlots, sheetRows, slotOf, kind-at, slot-at, draftsBy, begins-at}

@@ -16,7 +16,7 @@ use Rattle.laws.proofs.Tests.{bool-cases, not-both, eq-or-ne, lt-or-ge, cond-in
 use Rattle.laws.proofs.Counts.{count-append, once-same, once-other, has-true, has-false}
 use Rattle.laws.proofs.Concats.{map-append, none-left}
 use Rattle.laws.proofs.Members.{at-in}
-use Rattle.grammar.specs.Tree.{value}
+use Rattle.drafts.specs.Tree.{value}
 use Rattle.sheet.specs.Sheet.{Numbered}
 use Rattle.model.specs.Definitions.{What, constant, assigned, integral, Def, defined, definedBy, definitions, keys, placeIn, Equation, equationOf}
 use Rattle.model.specs.Definitions.{equations, noEquation, equationAt}

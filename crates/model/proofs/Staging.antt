@@ -21,7 +21,8 @@ use Rattle.order.specs.Answer.{Sorts}
 use Rattle.order.specs.declared.Sorted.{Sorted}
 use Rattle.order.specs.declared.Sorted.the-variants.{Placed, Unfit}
 use Rattle.order.proofs.Tables.{fits-iff}
-use Rattle.model.specs.Places.{begins, ends, anyOf, keysIn, placesIn, doubles, resolvedAt, resolved, undefinedAt, unfitAt, namesAt, nameless}
+use Rattle.drafts.specs.Places.{begins, ends, anyOf}
+use Rattle.model.specs.Places.{keysIn, placesIn, doubles, resolvedAt, resolved, undefinedAt, unfitAt, namesAt, nameless}
 use Rattle.model.specs.Places.{isEquation, equationRows, assignedSlots, usedIn, startsFrom, loops}
 use Rattle.model.specs.Plan.{Lent, lent, withPlaces, Outcome, outcome, refused, faulted, some, falls, inTurn, roomy, fit}
 use Rattle.model.specs.Plan.{closed, weighed, tested, ownSlots, ownUses, tabled, named, distinct, sheeted, planned}

@@ -15,7 +15,8 @@ use Rattle.laws.proofs.Members.{Below, below-append, below-gather, below-only, 
 use Rattle.laws.proofs.Gathers.{gather-add, gather-short}
 use Rattle.order.specs.Table.{Fit}
 use Rattle.model.specs.Definitions.{placeIn}
-use Rattle.model.specs.Places.{begins, ends, isEquation, equationRows, assignedSlot, assignedSlots, usedBy, usedAt, usedOfRow, usedIn, startsFrom}
+use Rattle.drafts.specs.Places.{begins, ends}
+use Rattle.model.specs.Places.{isEquation, equationRows, assignedSlot, assignedSlots, usedBy, usedAt, usedOfRow, usedIn, startsFrom}
 use Rattle.model.specs.Working.{Rises, Sound}
 use Rattle.model.proofs.Collecting.{only-length, rises-to}
 

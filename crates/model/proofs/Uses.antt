@@ -16,7 +16,7 @@ use Rattle.laws.proofs.Concats.{at-map}
 use Rattle.laws.proofs.Along.{gather-numbers}
 use Rattle.laws.proofs.Gathers.{gather-same}
 use Rattle.laws.proofs.Members.{has-append, has-one, has-cons, at-in}
-use Rattle.grammar.specs.Tree.{names}
+use Rattle.drafts.specs.Tree.{names}
 use Rattle.sheet.specs.Sheet.{Numbered, Fault}
 use Rattle.order.specs.Greedy.{order}
 use Rattle.order.proofs.Sorting.{order-same}

@@ -12,11 +12,12 @@ use Rattle.laws.specs.Places.{gather, onlyIf}
 use Rattle.laws.proofs.Lists.{concat-append}
 use Rattle.laws.proofs.Concats.{map-append}
 use Rattle.laws.proofs.Along.{gather-part, filled, any-filled, startsAt, start-at, end-at}
-use Rattle.grammar.specs.Drafts.{Draft, draftsOf}
+use Rattle.drafts.specs.Drafts.{Draft, draftsOf}
 use Rattle.sheet.specs.Sheet.{Numbered}
 use Rattle.sheet.specs.Layout.{draftsIn, boundsFrom}
 use Rattle.model.specs.Definitions.{definitions, keys}
-use Rattle.model.specs.Places.{begins, ends, inStatement, anyOf, placesIn, resolvedAt, resolved, equationRows}
+use Rattle.drafts.specs.Places.{begins, ends, inStatement, anyOf}
+use Rattle.model.specs.Places.{placesIn, resolvedAt, resolved, equationRows}
 use Rattle.model.proofs.Drafts.{noDraft}
 
 -- ---- the arrays of drafts: kinds and arguments

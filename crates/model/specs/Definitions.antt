@@ -6,7 +6,7 @@ use lib.Dec.{eqb}
 use lib.ListN.{length, getD}
 use lib.Ieee.{Float, nan}
 use Rattle.laws.specs.Lists.{concat-map}
-use Rattle.grammar.specs.Tree.{Tree, value, Constant, Initial, Says, constants, assignment, state}
+use Rattle.drafts.specs.Tree.{Tree, value, Constant, Initial, Says, constants, assignment, state}
 use Rattle.sheet.specs.Sheet.{Numbered}
 
 -- what a name is: a constant with its value, assigned by an expression, or a state with its initial and the expression of its rate

@@ -5,7 +5,7 @@ use mathlib.Core.List.{List, [], _∷_, _++_}
 use Rattle.laws.specs.Lists.{concat-map, numbers}
 use Rattle.laws.specs.Counts.{has}
 use Rattle.deck.specs.Faults.{at-start}
-use Rattle.grammar.specs.Tree.{names, Initial, plain, from}
+use Rattle.drafts.specs.Tree.{names, Initial, plain, from}
 use Rattle.sheet.specs.Sheet.{Numbered, Fault}
 use Rattle.order.specs.Order.{Good, unsortable}
 use Rattle.order.specs.Greedy.{order}

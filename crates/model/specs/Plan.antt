@@ -13,7 +13,8 @@ use Rattle.laws.specs.Places.{anyIn}
 use Rattle.sheet.specs.Sheet.{Fault, faultList}
 use Rattle.order.specs.Greedy.{order}
 use Rattle.order.specs.Table.{usesIn}
-use Rattle.model.specs.Places.{begins, ends, keysIn, placesIn, doubles, resolved, nameless, equationRows, assignedSlots, usedIn, startsFrom, loops}
+use Rattle.drafts.specs.Places.{begins, ends}
+use Rattle.model.specs.Places.{keysIn, placesIn, doubles, resolved, nameless, equationRows, assignedSlots, usedIn, startsFrom, loops}
 use Rattle.model.specs.declared.answer.Plan.{Plan}
 
 -- the three arrays that are lent for what the program is written from: the places of the definitions, the statements that are equations,

@@ -15,7 +15,9 @@ use Rattle.model.specs.Definitions.{placeIn}
 use Rattle.model.specs.Faults.{again, faultIf}
 use Rattle.model.specs.Plan.{ownSlots, ownUses}
 use Rattle.model.specs.declared.names.Walk.{Walk}
-use Rattle.model.specs.Places.{defines, asks, begins, ends, inStatement, definedAt, keysIn, placesIn, resolved, homeOf}
+use Rattle.drafts.specs.Kinds.{defines, asks}
+use Rattle.drafts.specs.Places.{begins, ends, inStatement, homeOf}
+use Rattle.model.specs.Places.{definedAt, keysIn, placesIn, resolved}
 use Rattle.model.specs.Places.{equationRows, assignedSlots, usedIn, startsFrom}
 
 -- ---- rows that are written

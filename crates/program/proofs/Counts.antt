@@ -11,9 +11,9 @@ use Rattle.laws.proofs.Lists.{concat-append}
 use Rattle.laws.proofs.Concats.{map-append}
 use Rattle.laws.proofs.Along.{gather-all, gather-numbers}
 use Rattle.laws.proofs.Sums.{lengths-same, numbers-few, numbers-once}
-use Rattle.grammar.specs.Tree.{plus, minus, times, over, compar, insw, limit, Tree, plain, from, Says, constants, assignment, state}
-use Rattle.grammar.specs.Items.{Item, push, fetch, clock, negate, apply-two, apply-three, postfix}
-use Rattle.grammar.specs.Drafts.{Draft, draft, draftItem, draftsOf}
+use Rattle.drafts.specs.Tree.{plus, minus, times, over, compar, insw, limit, Tree, plain, from, Says, constants, assignment, state}
+use Rattle.drafts.specs.Items.{Item, push, fetch, clock, negate, apply-two, apply-three, postfix}
+use Rattle.drafts.specs.Drafts.{Draft, draft, draftItem, draftsOf}
 use Rattle.sheet.specs.Sheet.{Numbered}
 use Rattle.sheet.specs.Layout.{draftsIn}
 use Rattle.records.specs.Record.{Rec, rec}
@@ -26,7 +26,8 @@ use Rattle.model.proofs.Walk.{kindsOf, sheetKinds, draftsBy}
 use Rattle.model.proofs.Doubled.{definedIn}
 use Rattle.model.proofs.Rows.{equation}
 use Rattle.program.specs.Program.{instrItem, constantRecs, initialRecs, lastInstr, code, equationRecs, program}
-use Rattle.program.specs.Written.{writes, recordCount}
+use Rattle.drafts.specs.Kinds.{writes}
+use Rattle.program.specs.Written.{recordCount}
 
 -- one row behind another
 count-append : (x y : List ℕ) → recordCount (x ++ y) ≡ recordCount x + recordCount y

@@ -13,8 +13,9 @@ use Rattle.laws.specs.Counts.{once}
 use Rattle.laws.specs.Places.{gather}
 use Rattle.laws.proofs.Tests.{cond-ind}
 use Rattle.laws.proofs.Gathers.{gather-shift}
-use Rattle.model.specs.Places.{begins, ends}
-use Rattle.program.specs.Written.{fieldBytes, writes, recordCount, valueAt, settingAt, reach, settingsOf, stepBytes, stepAt, stepsOf, orderedSteps}
+use Rattle.drafts.specs.Places.{begins, ends}
+use Rattle.drafts.specs.Kinds.{writes}
+use Rattle.program.specs.Written.{fieldBytes, recordCount, valueAt, settingAt, reach, settingsOf, stepBytes, stepAt, stepsOf, orderedSteps}
 use Rattle.program.proofs.Puts.{Whole, whole-gather, length-record}
 
 -- ---- each part has whole records

@@ -19,14 +19,14 @@ use Rattle.laws.proofs.Counts.{once-other}
 use Rattle.laws.proofs.Concats.{concat-concat}
 use Rattle.laws.proofs.Along.{along, along-append, gather-along, gather-over}
 use Rattle.laws.proofs.Members.{in-has}
-use Rattle.grammar.specs.Tree.{Constant, Initial, plain, from, Says, constants, assignment, state}
-use Rattle.grammar.specs.Drafts.{Draft, draft, initialDraft, draftsOf}
+use Rattle.drafts.specs.Tree.{Constant, Initial, plain, from, Says, constants, assignment, state}
+use Rattle.drafts.specs.Drafts.{Draft, draft, initialDraft, draftsOf}
 use Rattle.sheet.specs.Sheet.{Numbered}
 use Rattle.sheet.specs.Layout.{draftsIn}
 use Rattle.records.specs.Record.{Rec, recBytes}
 use Rattle.model.specs.Definitions.{What, constant, assigned, integral, Def, definedBy, definitions, keys, placeIn, slotIn}
 use Rattle.model.specs.Faults.{constantKeys, nameFaults}
-use Rattle.model.specs.Places.{homeOf}
+use Rattle.drafts.specs.Places.{homeOf}
 use Rattle.model.proofs.Drafts.{noDraft, Plain, expressionDrafts, along-expression, Home, homeOfWhat}
 use Rattle.model.proofs.Walk.{sheetKinds, sheetLines, sheetBounds, sheetKeys, sheetSlots, sheetPlaces, slotOf, kind-at, slot-at, draftsBy, line-at}
 use Rattle.model.proofs.Walk.{begins-at, drafts-split, first-kind, span}

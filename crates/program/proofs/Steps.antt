@@ -7,9 +7,9 @@ use Rattle.laws.specs.Lists.{concat-map}
 use Rattle.laws.proofs.Lists.{concat-append}
 use Rattle.laws.proofs.Concats.{map-append, concat-concat, concat-mapped, concat-same, concat-same-in}
 use Rattle.laws.proofs.Members.{Below}
-use Rattle.grammar.specs.Tree.{plus, minus, times, over, compar, insw, limit, Tree, Initial, plain, from, Says, assignment, state}
-use Rattle.grammar.specs.Items.{Item, push, fetch, clock, negate, apply-two, apply-three, postfix}
-use Rattle.grammar.specs.Drafts.{Draft, draft, draftItem, draftsOf}
+use Rattle.drafts.specs.Tree.{plus, minus, times, over, compar, insw, limit, Tree, Initial, plain, from, Says, assignment, state}
+use Rattle.drafts.specs.Items.{Item, push, fetch, clock, negate, apply-two, apply-three, postfix}
+use Rattle.drafts.specs.Drafts.{Draft, draft, draftItem, draftsOf}
 use Rattle.sheet.specs.Sheet.{Numbered}
 use Rattle.sheet.specs.Layout.{draftsIn}
 use Rattle.records.specs.declared.Instr.{Instr}

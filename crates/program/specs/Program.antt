@@ -5,8 +5,8 @@ use mathlib.Core.List.{List, [], _∷_, _++_, map}
 use lib.Dec.{eqb}
 use lib.Ieee.{Float, nan}
 use Rattle.laws.specs.Lists.{concat-map}
-use Rattle.grammar.specs.Tree.{Two, plus, minus, times, over, compar, Three, insw, limit, Initial, plain, from}
-use Rattle.grammar.specs.Items.{Item, push, fetch, clock, negate, apply-two, apply-three, postfix}
+use Rattle.drafts.specs.Tree.{Two, plus, minus, times, over, compar, Three, insw, limit, Initial, plain, from}
+use Rattle.drafts.specs.Items.{Item, push, fetch, clock, negate, apply-two, apply-three, postfix}
 use Rattle.model.specs.Definitions.{What, constant, assigned, integral, Def, slotIn, Equation, equationAt}
 use Rattle.records.specs.declared.Instr.{Instr}
 use Rattle.records.specs.declared.Instr.the-variants.{Constant, Initial as Start, Value, Slot, Add, Sub, Mul, Div, Neg, Insw, Limit, Compar, Store, Deriv}

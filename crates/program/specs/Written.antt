@@ -9,7 +9,7 @@ use lib.Seq.{sets}
 use Rattle.limits.specs.Limits.{recordBytes}
 use Rattle.laws.specs.Places.{gather}
 use Rattle.bits.specs.Low.{lowBytes}
-use Rattle.model.specs.Places.{homeOf, begins, ends, inStatement}
+use Rattle.drafts.specs.Places.{homeOf, begins, ends, inStatement}
 
 -- the sixteen bytes of a record
 abbrev pub fieldBytes : ℕ → ℕ → ℕ → ℕ → List ℕ

@@ -13,7 +13,7 @@ use Rattle.laws.specs.Lists.{concat-map}
 use Rattle.laws.specs.Counts.{count, _∈_, has}
 use Rattle.laws.proofs.Tests.{bool-cases, not-both, eq-or-ne, lt-or-ge}
 use Rattle.laws.proofs.Counts.{count-append, count-cons-same, count-snoc-same, count-snoc-other, once-same}
-use Rattle.grammar.specs.Tree.{names}
+use Rattle.drafts.specs.Tree.{names}
 use Rattle.grammar.proofs.Stack.{peak}
 use Rattle.order.specs.Order.{EachAfter}
 use Rattle.order.proofs.Sorting.{after-front, perm-below}

@@ -11,7 +11,7 @@ use Rattle.laws.proofs.Every.{every-at}
 use Rattle.limits.specs.Limits.{slots, stackPlaces, mostRecords, recordBytes}
 use Rattle.laws.specs.Counts.{_∈_}
 use Rattle.laws.proofs.Sets.{sets-back}
-use Rattle.grammar.specs.Tree.{Tree, Initial, names}
+use Rattle.drafts.specs.Tree.{Tree, Initial, names}
 use Rattle.grammar.proofs.Stack.{peak}
 use Rattle.sheet.specs.Sheet.{Numbered, said}
 use Rattle.sheet.specs.Reader.{sheetOf}

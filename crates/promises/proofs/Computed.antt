@@ -19,8 +19,8 @@ use Rattle.tokens.specs.Number.{decimal, digitsFrom, exponentFrom, tenTo, scale
 use Rattle.tokens.specs.Token.{numberAt, nameAt, tokenAt, cutAt}
 use Rattle.tokens.specs.Symbol.{named}
 use Rattle.tokens.specs.Row.{rowFrom, rowOf}
-use Rattle.grammar.specs.Tree.{names}
-use Rattle.grammar.specs.Items.{postfix}
+use Rattle.drafts.specs.Tree.{names}
+use Rattle.drafts.specs.Items.{postfix}
 use Rattle.grammar.specs.Look.{next, rest, byteOf, give-to, shapeOf, startOf}
 use Rattle.grammar.specs.Parser.{bind, parse, signedNumber, many, initially, assigned, integrated, statement, entire, readRow}
 use Rattle.sheet.specs.Sheet.{said}

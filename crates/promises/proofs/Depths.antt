@@ -16,8 +16,8 @@ use Rattle.deck.specs.Faults.{Flaw, none, flaw, sizeFlaw}
 use Rattle.deck.specs.Joined.{joined}
 use Rattle.tokens.specs.Symbol.{Symbol}
 use Rattle.tokens.specs.Row.{Placed, Close, whole, bad, rowOf, symbols}
-use Rattle.grammar.specs.Tree.{Tree, Says, constants, assignment, state}
-use Rattle.grammar.specs.Items.{postfix}
+use Rattle.drafts.specs.Tree.{Tree, Says, constants, assignment, state}
+use Rattle.drafts.specs.Items.{postfix}
 use Rattle.grammar.specs.Grammar.{expr, Der, of-assignment}
 use Rattle.grammar.specs.Parser.{Read, read, fault, readRow}
 use Rattle.grammar.proofs.Accepts.{accepts}

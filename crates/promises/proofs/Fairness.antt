@@ -11,7 +11,7 @@ use Rattle.laws.specs.Lists.{concat-map}
 use Rattle.laws.specs.Counts.{count, _∈_}
 use Rattle.laws.proofs.Tests.{lt-or-ge}
 use Rattle.laws.proofs.Counts.{count-append, count-cons-same, once-same}
-use Rattle.grammar.specs.Tree.{value, names}
+use Rattle.drafts.specs.Tree.{value, names}
 use Rattle.order.specs.Order.{EachAfter}
 use Rattle.order.proofs.Sorting.{after-front}
 use Rattle.model.specs.Definitions.{What, constant, assigned, integral, Def, keys, slotIn, Equation, equationAt, equationCount}

@@ -13,7 +13,7 @@ use Rattle.deck.specs.Lines.{Line}
 use Rattle.deck.specs.Faults.{Place}
 use Rattle.tokens.specs.Symbol.{Symbol}
 use Rattle.tokens.specs.Row.{Placed, symbols}
-use Rattle.grammar.specs.Tree.{Says}
+use Rattle.drafts.specs.Tree.{Says}
 use Rattle.grammar.specs.Grammar.{Derives}
 use Rattle.grammar.specs.Parser.{got, calls, Read, read, fault, readRow}
 use Rattle.grammar.specs.Meaning.{Front, TooDeep, Wrong, Meaning, wrong, deep}

@@ -12,7 +12,7 @@ use Rattle.laws.specs.Counts.{count, _∈_}
 use Rattle.laws.proofs.Tests.{eq-or-ne}
 use Rattle.laws.proofs.Counts.{once-same, once-other}
 use Rattle.laws.proofs.Concats.{none-left}
-use Rattle.grammar.specs.Tree.{Tree, Initial, plain, from}
+use Rattle.drafts.specs.Tree.{Tree, Initial, plain, from}
 use Rattle.model.specs.Definitions.{What, constant, assigned, integral, Def, keys}
 use Rattle.model.specs.Faults.{namedBy, initialOf, constantKey, constantKeys, within, nameFault, nameFaults}
 use Rattle.program.specs.Program.{constantValue, valueIn, initialValue}

@@ -12,7 +12,7 @@ use Rattle.laws.specs.Lists.{concat-map}
 use Rattle.laws.specs.Counts.{_∈_}
 use Rattle.laws.proofs.Lists.{concat-append}
 use Rattle.laws.proofs.Members.{at-in}
-use Rattle.grammar.specs.Tree.{Tree, Initial}
+use Rattle.drafts.specs.Tree.{Tree, Initial}
 use Rattle.sheet.specs.Sheet.{Told, says, faulty, Sheet, saidBy, said, faultBy, statementFaults}
 use Rattle.sheet.specs.Reader.{sheetOf}
 use Rattle.order.proofs.Sorting.{perm-below}

@@ -9,8 +9,8 @@ use Rattle.laws.specs.Every.{Every}
 use Rattle.laws.proofs.Every.{every-left, every-right}
 use Rattle.laws.proofs.Tests.{cond-ind}
 use Rattle.tokens.specs.Symbol.{CONST, PARAM, INCON, INTGRL, TIME, INSW, LIMIT, COMPAR, Symbol, mark, number, name, word}
-use Rattle.grammar.specs.Tree.{Two, plus, minus, times, over, compar, Tree, value, named, time, negated, two, three, Constant, Initial, plain, from}
-use Rattle.grammar.specs.Tree.{Says, constants, assignment, state}
+use Rattle.drafts.specs.Tree.{Two, plus, minus, times, over, compar, Tree, value, named, time, negated, two, three, Constant, Initial, plain, from}
+use Rattle.drafts.specs.Tree.{Says, constants, assignment, state}
 use Rattle.grammar.specs.Look.{op, isMinus, signed, Opening, group, pair, pair-of, triple, triple-of, triple-of-two, Given, whole, wants, give-to}
 use Rattle.grammar.specs.Look.{Shape, Leaf, Paren, Call, NoFactor, shapeOf}
 use Rattle.grammar.specs.Grammar.{Mode, expr, term, factor, terms, factors, opened, list}

@@ -14,7 +14,7 @@ use Rattle.laws.proofs.Tests.{and-true, eq-or-ne, lt-or-ge}
 use Rattle.laws.proofs.Counts.{count-append, once-same, once-other, has-true}
 use Rattle.laws.proofs.Concats.{none-left}
 use Rattle.laws.proofs.Members.{at-in}
-use Rattle.grammar.specs.Tree.{names}
+use Rattle.drafts.specs.Tree.{names}
 use Rattle.model.specs.Definitions.{What, constant, assigned, integral, Def, keys, placeIn, slotIn, Equation, equationOf, equations, noEquation}
 use Rattle.model.specs.Definitions.{equationAt, equationCount}
 use Rattle.model.specs.Faults.{initialNames, namedBy, initialOf, constantKey, constantKeys, within, nameFault, nameFaults, GoodOrder}

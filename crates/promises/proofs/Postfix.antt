@@ -10,8 +10,8 @@ use Rattle.limits.specs.Limits.{stackPlaces}
 use Rattle.laws.specs.Counts.{count, _∈_}
 use Rattle.laws.proofs.Counts.{count-append, once-same}
 use Rattle.laws.proofs.Concats.{map-append}
-use Rattle.grammar.specs.Tree.{Two, plus, minus, times, over, compar, Three, insw, limit, Tree, value, named, time, negated, two, three, names}
-use Rattle.grammar.specs.Items.{postfix, negate, apply-two, apply-three}
+use Rattle.drafts.specs.Tree.{Two, plus, minus, times, over, compar, Three, insw, limit, Tree, value, named, time, negated, two, three, names}
+use Rattle.drafts.specs.Items.{postfix, negate, apply-two, apply-three}
 use Rattle.grammar.proofs.Stack.{peak}
 use Rattle.records.specs.declared.Instr.{Instr}
 use Rattle.records.specs.declared.Instr.the-variants.{Value, Slot, Add, Sub, Mul, Div, Neg, Insw, Limit, Compar}

@@ -13,8 +13,8 @@ use Rattle.limits.specs.Limits.{slots, mostDefinitions}
 use Rattle.laws.specs.Lists.{concat-map}
 use Rattle.laws.specs.Counts.{count, _∈_}
 use Rattle.laws.proofs.Counts.{once-same, count-append}
-use Rattle.grammar.specs.Tree.{Two, plus, minus, times, over, compar, Three, insw, limit, Tree, value, named, time, negated, two, three, names}
-use Rattle.grammar.specs.Tree.{Initial, plain, from}
+use Rattle.drafts.specs.Tree.{Two, plus, minus, times, over, compar, Three, insw, limit, Tree, value, named, time, negated, two, three, names}
+use Rattle.drafts.specs.Tree.{Initial, plain, from}
 use Rattle.order.proofs.Sorting.{perm-below}
 use Rattle.model.specs.Definitions.{What, constant, assigned, integral, Def, keys, slotIn, equations, noEquation, equationAt, equationCount}
 use Rattle.model.specs.Faults.{usesIn, GoodOrder}

@@ -7,7 +7,7 @@ use lib.ListN.{set}
 use lib.Ieee.{Float}
 use Rattle.laws.specs.Lists.{concat-map}
 use Rattle.laws.proofs.Concats.{map-append}
-use Rattle.grammar.specs.Tree.{value}
+use Rattle.drafts.specs.Tree.{value}
 use Rattle.model.specs.Definitions.{What, constant, assigned, integral, Def, slotIn, Equation, equationAt}
 use Rattle.records.specs.declared.Instr.{Instr}
 use Rattle.records.specs.Record.{Rec, rec, instrs}

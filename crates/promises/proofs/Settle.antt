@@ -11,7 +11,7 @@ use Rattle.laws.specs.Every.{Every}
 use Rattle.laws.proofs.Every.{every-map}
 use Rattle.laws.specs.Counts.{count, _∈_}
 use Rattle.laws.proofs.Counts.{once-same, count-append}
-use Rattle.grammar.specs.Tree.{names}
+use Rattle.drafts.specs.Tree.{names}
 use Rattle.model.specs.Definitions.{Equation}
 use Rattle.promises.specs.Meaning.{valueOf}
 use Rattle.promises.proofs.Postfix.{value-same}

@@ -14,7 +14,7 @@ use Rattle.laws.specs.Lists.{concat-map}
 use Rattle.laws.specs.Counts.{count, _∈_}
 use Rattle.laws.proofs.Tests.{not-both, eq-or-ne}
 use Rattle.laws.proofs.Counts.{count-append, once-same, once-other}
-use Rattle.grammar.specs.Tree.{value}
+use Rattle.drafts.specs.Tree.{value}
 use Rattle.order.proofs.Sorting.{perm-below}
 use Rattle.model.specs.Definitions.{What, constant, assigned, integral, Def, keys, slotIn, Equation, equationAt, equationCount}
 use Rattle.model.specs.Faults.{constantKey, constantKeys, usesIn, GoodOrder}

@@ -9,8 +9,8 @@ use lib.Seq.{getD-set-same, getD-set-other}
 use lib.Ieee.{Float, nan}
 use Rattle.limits.specs.Limits.{slots, mostDefinitions}
 use Rattle.laws.specs.Lists.{concat-map}
-use Rattle.grammar.specs.Tree.{Two, plus, minus, times, over, compar, Three, insw, limit, Tree, value, named, time, negated, two, three}
-use Rattle.grammar.specs.Tree.{Initial}
+use Rattle.drafts.specs.Tree.{Two, plus, minus, times, over, compar, Three, insw, limit, Tree, value, named, time, negated, two, three}
+use Rattle.drafts.specs.Tree.{Initial}
 use Rattle.model.specs.Definitions.{What, constant, assigned, integral, Def, keys, slotIn, equationAt}
 use Rattle.model.specs.Faults.{orderOf}
 use Rattle.model.proofs.Slots.{Once}

@@ -14,7 +14,7 @@ use Rattle.deck.specs.Faults.{Flaw, none, flaw, sizeFlaw}
 use Rattle.tokens.specs.Symbol.{Symbol, mark, number, name, word}
 use Rattle.tokens.specs.Row.{Placed, Close, whole, bad, rowOf, symbols}
 use Rattle.tokens.proofs.Rows.{Fine, symbols-fine}
-use Rattle.grammar.specs.Tree.{Tree, Constant, Says, constants, assignment, state}
+use Rattle.drafts.specs.Tree.{Tree, Constant, Says, constants, assignment, state}
 use Rattle.grammar.specs.Grammar.{Derives}
 use Rattle.grammar.specs.Parser.{Read, read, fault, readRow}
 use Rattle.grammar.proofs.Outcome.{clash}

@@ -13,7 +13,7 @@ use Rattle.laws.specs.Counts.{count, _∈_}
 use Rattle.laws.specs.Lists.{concat-map}
 use Rattle.laws.proofs.Tests.{not-both, eq-or-ne, lt-or-ge}
 use Rattle.laws.proofs.Counts.{count-append, count-cons-same, count-snoc-other}
-use Rattle.grammar.specs.Tree.{Tree, names}
+use Rattle.drafts.specs.Tree.{Tree, names}
 use Rattle.order.specs.Order.{EachAfter}
 use Rattle.order.proofs.Sorting.{after-front, perm-below}
 use Rattle.model.specs.Definitions.{What, constant, assigned, integral, Def, keys, slotIn, Equation, equationOf, equations, noEquation}

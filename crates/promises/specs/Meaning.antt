@@ -8,8 +8,8 @@ use mathlib.Core.List.{List}
 use lib.IntN.{pos}
 use lib.ListN.{length, getD}
 use lib.Ieee.{Float, nan, binary64, ofInt, add, sub, mul, div, neg, lt, le}
-use Rattle.grammar.specs.Tree.{Two, plus, minus, times, over, compar, Three, insw, limit, Tree, value, named, time, negated, two, three}
-use Rattle.grammar.specs.Tree.{Initial, plain, from}
+use Rattle.drafts.specs.Tree.{Two, plus, minus, times, over, compar, Three, insw, limit, Tree, value, named, time, negated, two, three}
+use Rattle.drafts.specs.Tree.{Initial, plain, from}
 use Rattle.model.specs.Definitions.{What, constant, assigned, integral, Def, slotIn}
 
 -- ---- the value of an expression. Operators group as the tree says; each operation is IEEE 754's on f64 and rounds once

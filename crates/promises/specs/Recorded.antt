@@ -7,8 +7,8 @@ use lib.Dec.{eqb}
 use lib.ListN.{length}
 use lib.Ieee.{Float}
 use Rattle.deck.specs.Reports.{Report}
-use Rattle.grammar.specs.Items.{postfix}
-use Rattle.grammar.specs.Tree.{Tree}
+use Rattle.drafts.specs.Items.{postfix}
+use Rattle.drafts.specs.Tree.{Tree}
 use Rattle.model.specs.Definitions.{What, constant, assigned, integral, Def, slotIn}
 use Rattle.records.specs.declared.Instr.{Instr}
 use Rattle.records.specs.declared.Instr.the-variants.{Constant, Initial, Store, Deriv}

@@ -11,7 +11,7 @@ use Rattle.deck.specs.Joined.{joined}
 use Rattle.deck.specs.Faults.{Place, at-token, none, flaw, sizeFlaw}
 use Rattle.tokens.specs.Symbol.{Symbol}
 use Rattle.tokens.specs.Row.{Placed, whole, bad, rowOf, symbols}
-use Rattle.grammar.specs.Tree.{Says}
+use Rattle.drafts.specs.Tree.{Says}
 use Rattle.grammar.specs.Grammar.{Derives}
 use Rattle.grammar.specs.Parser.{read, fault, readRow}
 use Rattle.grammar.specs.Meaning.{Front, Calm, TooDeep}

@@ -5,7 +5,7 @@ use Rattle.laws.specs.Lists.{concat-map}
 use Rattle.bits.specs.Low.{lowBytes}
 use Rattle.deck.specs.Faults.{Place}
 use Rattle.deck.specs.Reports.{Report}
-use Rattle.grammar.specs.Tree.{Says}
+use Rattle.drafts.specs.Tree.{Says}
 
 -- what reading a statement gives
 pub data Told : Type 0 where

@@ -20,7 +20,8 @@ use Rattle.model.specs.Faults.{faultIf, again, faults21, within, namedBy, initi
 use Rattle.model.specs.Faults.{usesIn, fault24, faults24, orElse, modelFaults, orderOf}
 use Rattle.records.specs.Record.{Rec}
 use Rattle.program.specs.Program.{program}
-use Rattle.program.specs.Written.{writes, recordCount}
+use Rattle.drafts.specs.Kinds.{writes}
+use Rattle.program.specs.Written.{recordCount}
 use Rattle.translator.specs.Verdict.{Verdict, refused, ifFaults, fitted, programmed, modelled, judged, verdictOf, countOf}
 use Rattle.translator.specs.Verdict.{faulty as flawed, translated}
 

@@ -14,7 +14,7 @@ use Rattle.laws.specs.Lists.{concat-map}
 use Rattle.laws.specs.Places.{anyIn}
 use Rattle.laws.proofs.Gathers.{none-any}
 use Rattle.laws.proofs.Tests.{and-both}
-use Rattle.grammar.specs.Drafts.{Draft, draftsOf}
+use Rattle.drafts.specs.Drafts.{Draft, draftsOf}
 use Rattle.sheet.specs.Sheet.{Numbered}
 use Rattle.sheet.specs.Layout.{draftsIn, boundsFrom, Laid}
 use Rattle.model.specs.Plan.{falls, inTurn, roomy, fit}

@@ -14,8 +14,8 @@ use Rattle.deck.specs.Faults.{Flaw, none, flaw, sizeFlaw}
 use Rattle.tokens.specs.Held.{heldRow}
 use Rattle.tokens.specs.Row.{Placed, Close, whole, bad, rowOf, symbols}
 use Rattle.tokens.proofs.Rows.{row-short}
-use Rattle.grammar.specs.Tree.{Says as Statement}
-use Rattle.grammar.specs.Drafts.{Draft, draftsOf}
+use Rattle.drafts.specs.Tree.{Says as Statement}
+use Rattle.drafts.specs.Drafts.{Draft, draftsOf}
 use Rattle.grammar.specs.Parser.{Read, read, fault, readRow, entire, calls}
 use Rattle.grammar.specs.Contract.{Outcome, outcome, wrote, parsedAs, rowWrote, rowOutcome, ParsesRow}
 use Rattle.grammar.specs.declared.Parsed.{Parsed}

@@ -19,8 +19,8 @@ use Rattle.deck.specs.Reports.{Report, report}
 use Rattle.deck.specs.Next.{statementsFrom, cardsAt}
 use Rattle.deck.specs.declared.Cursor.{Cursor}
 use Rattle.deck.proofs.Linked.{Walk}
-use Rattle.grammar.specs.Tree.{Says}
-use Rattle.grammar.specs.Drafts.{Draft, draftsOf}
+use Rattle.drafts.specs.Tree.{Says}
+use Rattle.drafts.specs.Drafts.{Draft, draftsOf}
 use Rattle.sheet.specs.Sheet.{Told, says, faulty, Sheet, Numbered, said, Fault, statementFaults, faultEntry, faultList}
 use Rattle.sheet.specs.Reader.{told, sheetOf}
 use Rattle.sheet.specs.Layout.{draftsIn, boundsFrom}

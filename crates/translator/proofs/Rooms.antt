@@ -14,7 +14,7 @@ use Rattle.laws.specs.Lists.{concat-map}
 use Rattle.deck.specs.Lines.{linesOf}
 use Rattle.deck.specs.Codes.{joinedRoom}
 use Rattle.deck.proofs.Tallies.{statements-le, lines-le}
-use Rattle.grammar.specs.Drafts.{Draft}
+use Rattle.drafts.specs.Drafts.{Draft}
 use Rattle.sheet.specs.Sheet.{Numbered, Fault, said, statementFaults, faultList}
 use Rattle.sheet.specs.Reader.{sheetOf}
 use Rattle.sheet.specs.Layout.{draftsIn, Laid}

@@ -19,8 +19,8 @@ use Rattle.tokens.specs.declared.RowEnd.the-variants.{NoRoom, Tokens, Fault}
 use Rattle.tokens.proofs.Holding.{Holds, AllHold, held-back}
 use Rattle.tokens.proofs.Rows.{row-short, Fine, symbols-fine, mark-above}
 use Rattle.tokens.proofs.Answers.{ends-well, ends-badly}
-use Rattle.grammar.specs.Tree.{Says as Statement}
-use Rattle.grammar.specs.Drafts.{draftsOf}
+use Rattle.drafts.specs.Tree.{Says as Statement}
+use Rattle.drafts.specs.Drafts.{draftsOf}
 use Rattle.grammar.specs.Parser.{readRow}
 use Rattle.sheet.specs.Sheet.{Told, says, faulty}
 use Rattle.sheet.specs.Reader.{parsed, scanned, tokened, sized, told}

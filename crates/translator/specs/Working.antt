@@ -16,7 +16,7 @@ use Rattle.deck.specs.Faults.{sizeFlaw}
 use Rattle.deck.specs.Codes.{sizeCode, flawOf, joinedRoom}
 use Rattle.deck.specs.Reports.{report}
 use Rattle.deck.specs.Next.{statementsFrom, cardsAt}
-use Rattle.grammar.specs.Drafts.{Draft, draftsOf}
+use Rattle.drafts.specs.Drafts.{Draft, draftsOf}
 use Rattle.sheet.specs.Sheet.{Told, says, faulty, Sheet, Numbered, said, statementFaults, faultList}
 use Rattle.sheet.specs.Reader.{told, sheetOf}
 use Rattle.sheet.specs.Layout.{draftsIn, boundsFrom, Laid}

@@ -4,7 +4,7 @@ use mathlib.Core.Path.{_≡_}
 use native.Mathlib.Omega.{arith}
 use borrow.Author.Needs.{needs}
 use Rattle.laws.specs.Counts.{once}
-use Rattle.model.specs.Places.{defines}
+use Rattle.drafts.specs.Kinds.{defines}
 use Rattle.model.proofs.Collecting.{once-few, once-defines}
 use Rattle.model.proofs.collect.one_defining.Statement.{statement}
 use Rattle.model.proofs.collect.one_defining.Tie as tie

@@ -7,7 +7,7 @@ use borrow.Author.Needs.{needs}
 use lib.ListN.{length}
 use Rattle.laws.specs.Lists.{concat-map}
 use Rattle.sheet.specs.Sheet.{faultList}
-use Rattle.model.specs.Places.{begins}
+use Rattle.drafts.specs.Places.{begins}
 use Rattle.model.specs.Working.{before, repeatAt}
 use Rattle.model.proofs.Doubling.{before-le, before-later, repeat-single, repeat-found, repeated-none}
 use Rattle.model.proofs.Reporting.{Reports, reports-first, reports-next, reports-last}

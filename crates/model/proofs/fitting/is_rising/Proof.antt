@@ -8,7 +8,7 @@ use borrow.Author.Tests.{lt-ltb, le-ltb}
 use borrow.Author.Needs.{needs}
 use Rattle.laws.specs.Places.{anyIn}
 use Rattle.laws.proofs.Gathers.{any-stop, any-pass, any-done}
-use Rattle.model.specs.Places.{begins, ends}
+use Rattle.drafts.specs.Places.{begins, ends}
 use Rattle.model.specs.Plan.{falls}
 use Rattle.model.proofs.fitting.is_rising.Statement.{statement}
 use Rattle.model.proofs.fitting.is_rising.Tie as tie

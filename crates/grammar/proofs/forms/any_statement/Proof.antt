@@ -1,0 +1,116 @@
+-- `grammar::any_statement` meets its contract.
+use native.Mathlib.Omega.{arith}
+use borrow.Author.Needs.{needs}
+use Rattle.grammar.proofs.Statements.{begins-none, words-enter, begins-words, first-inside, begins-shut}
+use Rattle.grammar.proofs.Statements.{state-enter, begins-state, assign-enter, begins-assignment}
+use Rattle.grammar.proofs.forms.any_statement.Statement.{statement}
+use Rattle.grammar.proofs.forms.any_statement.Tie as tie
+
+returns : tie.Need-returns
+returns c =
+    let at-byte-at2 = c .before in
+    let at-if1 = at-byte-at2 .before in
+    let at-byte-at = at-if1 .before in
+    let start = at-byte-at .before .before .before .before .before in
+    begins-shut (start .pre) (at-byte-at .byte-at .ensures) (at-if1 .if1 .taken) (at-byte-at2 .byte-at2 .ensures) (c .if2 .taken)
+
+shared-slice-read-state : tie.Need-shared-slice-read-state
+shared-slice-read-state c =
+    let at-if1 = c .before .before .before .before .before in
+    let at-byte-at = at-if1 .before in
+    let start = at-byte-at .before .before .before .before .before in
+    let h = first-inside (start .pre) (at-byte-at .byte-at .ensures) (at-if1 .if1 .taken) in
+    omega (arith, start .pre .even)
+
+state-requires : tie.Need-state-requires
+state-requires c κs =
+    let at-if3 = c .before .before .before in
+    let at-byte-at3 = at-if3 .before in
+    let at-if2 = at-byte-at3 .before in
+    let at-byte-at2 = at-if2 .before in
+    let at-if1 = at-byte-at2 .before in
+    let at-byte-at = at-if1 .before in
+    let start = at-byte-at .before .before .before .before .before in
+    state-enter (start .pre) (at-byte-at .byte-at .ensures) (at-if1 .if1 .taken) (at-byte-at2 .byte-at2 .ensures) (at-if2 .if2 .left) (at-byte-at3 .byte-at3 .ensures)
+    (at-if3 .if3 .taken)
+
+returns-2 : tie.Need-returns-2
+returns-2 c =
+    let at-state = c .before .before .before .before in
+    let at-if3 = at-state .before .before .before .before in
+    let at-byte-at3 = at-if3 .before in
+    let at-if2 = at-byte-at3 .before in
+    let at-byte-at2 = at-if2 .before in
+    let at-if1 = at-byte-at2 .before in
+    let at-byte-at = at-if1 .before in
+    let start = at-byte-at .before .before .before .before .before in
+    begins-state (start .pre) (at-byte-at .byte-at .ensures) (at-if1 .if1 .taken) (at-byte-at2 .byte-at2 .ensures) (at-if2 .if2 .left) (at-byte-at3 .byte-at3 .ensures)
+    (at-if3 .if3 .taken) (at-state .state .ensures)
+
+shared-slice-read-assignment : tie.Need-shared-slice-read-assignment
+shared-slice-read-assignment c =
+    let at-if1 = c .before .before .before .before .before in
+    let at-byte-at = at-if1 .before in
+    let start = at-byte-at .before .before .before .before .before in
+    let h = first-inside (start .pre) (at-byte-at .byte-at .ensures) (at-if1 .if1 .taken) in
+    omega (arith, start .pre .even)
+
+assignment-requires : tie.Need-assignment-requires
+assignment-requires c κs =
+    let at-byte-at3 = c .before .before .before .before in
+    let at-if2 = at-byte-at3 .before in
+    let at-byte-at2 = at-if2 .before in
+    let at-if1 = at-byte-at2 .before in
+    let at-byte-at = at-if1 .before in
+    let start = at-byte-at .before .before .before .before .before in
+    assign-enter (start .pre) (at-byte-at .byte-at .ensures) (at-if1 .if1 .taken) (at-byte-at2 .byte-at2 .ensures) (at-if2 .if2 .left) (at-byte-at3 .byte-at3 .ensures)
+
+returns-3 : tie.Need-returns-3
+returns-3 c =
+    let at-assignment = c .before .before .before .before in
+    let at-if3 = at-assignment .before .before .before .before in
+    let at-byte-at3 = at-if3 .before in
+    let at-if2 = at-byte-at3 .before in
+    let at-byte-at2 = at-if2 .before in
+    let at-if1 = at-byte-at2 .before in
+    let at-byte-at = at-if1 .before in
+    let start = at-byte-at .before .before .before .before .before in
+    begins-assignment (start .pre) (at-byte-at .byte-at .ensures) (at-if1 .if1 .taken) (at-byte-at2 .byte-at2 .ensures) (at-if2 .if2 .left) (at-byte-at3 .byte-at3 .ensures)
+    (at-if3 .if3 .left) (at-assignment .assignment .ensures)
+
+returns-4 : tie.Need-returns-4
+returns-4 c =
+    let at-if1 = c .before in
+    let at-byte-at = at-if1 .before in
+    let start = at-byte-at .before .before .before .before .before in
+    begins-none (start .pre) (at-byte-at .byte-at .ensures) (at-if1 .if1 .left) λ a b. omega (arith, c .if4 .taken)
+
+returns-5 : tie.Need-returns-5
+returns-5 c =
+    let at-if1 = c .before .before in
+    let at-byte-at = at-if1 .before in
+    let start = at-byte-at .before .before .before .before .before in
+    begins-none (start .pre) (at-byte-at .byte-at .ensures) (at-if1 .if1 .left) λ a b. omega (arith, c .if5 .taken)
+
+constants-requires : tie.Need-constants-requires
+constants-requires c κs =
+    let at-if4 = c .before .before .before in
+    let at-byte-at = at-if4 .before .before in
+    let start = at-byte-at .before .before .before .before .before in
+    words-enter (start .pre) (at-byte-at .byte-at .ensures) (at-if4 .if4 .left)
+
+returns-6 : tie.Need-returns-6
+returns-6 c =
+    let at-constants = c .before .before .before .before in
+    let at-if5 = at-constants .before .before .before in
+    let at-if4 = at-if5 .before in
+    let at-byte-at = at-if4 .before .before in
+    let start = at-byte-at .before .before .before .before .before in
+    begins-words (start .pre) (at-byte-at .byte-at .ensures) (at-if4 .if4 .left) (at-if5 .if5 .left) (at-constants .constants .ensures)
+
+pub any-statement-spec : {M : Type 1} → statement M
+any-statement-spec =
+    tie.close
+    (tie.spec (λ c κs. search needs) (λ c κs. search needs) returns (λ c κs. search needs) shared-slice-read-state state-requires
+    (λ c. search needs) (λ c. search needs) returns-2 shared-slice-read-assignment assignment-requires (λ c. search needs) (λ c. search needs)
+    returns-3 returns-4 returns-5 constants-requires (λ c. search needs) (λ c. search needs) returns-6)
