@@ -43,8 +43,11 @@ statementFaults ss = concat-map (λ (r : Report Told). faultBy (r .line) (r .wha
 
 -- ---- the fault list. A fault is 4 bytes: line (two, low first), code, 0; in line order
 
+abbrev pub entryOf : ℕ → ℕ → List ℕ
+entryOf line code = lowBytes 2 line ++ (code ∷ 0 ∷ [])
+
 unfoldable pub faultEntry : Fault → List ℕ
-faultEntry f = lowBytes 2 (f .line) ++ (f .code ∷ 0 ∷ [])
+faultEntry f = entryOf (f .line) (f .code)
 
 unfoldable pub faultList : List Fault → List ℕ
 faultList fs = concat-map faultEntry fs
