@@ -14,28 +14,29 @@ use Rattle.laws.proofs.Sets.{sets-append}
 use Rattle.laws.proofs.Gathers.{gather-more, gather-none, gather-same}
 use Rattle.drafts.specs.Kinds.{defines, isNamed}
 use Rattle.drafts.specs.Places.{begins, ends, inStatement}
+use Rattle.laws.specs.Put.{Put}
 use Rattle.model.specs.Places.{resolvedAt, resolved, isEquation, equationRows}
 use Rattle.model.specs.Places.{usedAt, usedIn, startsFrom}
 use Rattle.model.specs.Plan.{ownSlots}
-use Rattle.model.specs.Working.{Put, flawedBy, usedOwner, usedHere, usedFrom, Resolved, Resolving, Linking, Walked, Linkable, Tabled, Linked}
+use Rattle.model.specs.Working.{flawedBy, usedOwner, usedHere, usedFrom, Resolved, Resolving, Linking, Walked, Linkable, Tabled, Linked}
 use Rattle.model.specs.declared.names.Walk.{Walk}
-use Rattle.model.proofs.Collecting.{only-length, rises-to}
+use Rattle.model.proofs.Collecting.{only-length}
 use Rattle.model.proofs.Naming.{resolving-first, resolving-flawed, resolving-clear, resolving-other, resolving-last, slot-here}
 use Rattle.model.proofs.Owning.{used-same}
-use Rattle.model.proofs.Tabling.{gather-next, ends-within, usesOf, usesTo, beginAt, whole-uses, whole-begin}
+use Rattle.model.proofs.Tabling.{rises-to, gather-next, ends-within, usesOf, usesTo, beginAt, whole-uses, whole-begin}
 
 -- ---- one part more is written behind a row
 put-append : {x y : List ℕ} {w₀ w r : ℕ} {buf₀ buf buf′ : List ℕ} → Put x w₀ w buf₀ buf → Put y w r buf buf′ → Put (x ++ y) w₀ r buf₀ buf′
 put-append {x} {y} {w₀} {buf₀ = buf₀} p q =
     record {
       behind = omega (arith, p .behind, q .behind, length-append x y);
-      content =
-          q .content ∙ ap₂ (λ (b : List ℕ) (n : ℕ). sets b n y) (p .content) (p .behind) ∙ sym (sets-append buf₀ w₀ x y);
+      written =
+          q .written ∙ ap₂ (λ (b : List ℕ) (n : ℕ). sets b n y) (p .written) (p .behind) ∙ sym (sets-append buf₀ w₀ x y);
     }
 
 -- nothing is written
 put-none : (w : ℕ) (buf : List ℕ) → Put [] w w buf buf
-put-none w buf = record { behind = omega arith; content = refl }
+put-none w buf = record { behind = omega arith; written = refl }
 
 -- a draft uses at most one equation, and one that is no name uses none
 used-one : (owners : List ℕ) (kind slot : ℕ) → length (usedHere owners kind slot) ≤ 1
@@ -97,7 +98,7 @@ module _ {keys kinds places owners args₁ used₁ args used : List ℕ} {from e
         within = omega arith;
         short = omega (arith, v .short, put .behind, one);
         long = same ∙ v .long;
-        long-used = ap length (put .content) ∙ length-sets used w vs ∙ v .long-used;
+        long-used = ap length (put .written) ∙ length-sets used w vs ∙ v .long-used;
         so = λ args₀ k. so args₀ (v .so args₀ k);
       }
     where
@@ -234,7 +235,7 @@ module _ {lines bounds kinds keys owners args₀ used₀ : List ℕ} (places sta
           within = omega arith;
           few = omega (arith, v .few, put .behind, only-length b w);
           short = omega (arith, short, q);
-          long-starts = ap length (put .content) ∙ length-sets starts r (onlyIf b w) ∙ v .long-starts;
+          long-starts = ap length (put .written) ∙ length-sets starts r (onlyIf b w) ∙ v .long-starts;
           long-used = long ∙ v .long-used;
           resolving = rw q at (linked .resolving);
           uses = rw (next (usesOf own bounds kinds slots)) (put-append (v .uses) (rw uses-same at (linked .uses)));
@@ -272,7 +273,7 @@ module _ {lines bounds kinds keys owners args₀ used₀ : List ℕ} (places sta
 
         -- the starts, and behind them how much is used
         behind : Put (w ∷ []) r (r + 1) starts starts′
-        behind = record { behind = refl; content = e }
+        behind = record { behind = refl; written = e }
 
         row : gather (beginAt own bounds kinds slots) j 0 ++ (w ∷ []) ≡ startsFrom 0 own bounds kinds slots rows
         row =
@@ -280,4 +281,4 @@ module _ {lines bounds kinds keys owners args₀ used₀ : List ℕ} (places sta
             rw (count, last) (whole-begin own bounds kinds slots (length lines))
 
         tabled : Tabled rows bounds kinds slots (n .count) starts₀ starts′ used₀ used
-        tabled = record { uses = rw all at (v .uses); begun = put-append (v .begun) behind .content ∙ ap (sets starts₀ 0) row }
+        tabled = record { uses = rw all at (v .uses); begun = put-append (v .begun) behind .written ∙ ap (sets starts₀ 0) row }

@@ -1,20 +1,21 @@
 -- What is read at a statement and at a draft: whether it is an equation, what it assigns, what it uses.
 use Prim.Native.Nat.{ℕ, _+_, _-_, _≤_, _<_}
 use mathlib.Core.Path.{_≡_, refl, sym, ap, _∙_}
-use mathlib.Core.Bool.{Bool, true, false}
+use mathlib.Core.Bool.{Bool, false}
 use mathlib.Core.Logic.{⊎-elim}
 use mathlib.Core.List.{List}
 use native.Mathlib.Omega.{arith}
 use borrow.Author.Tests.{eq-eqb, ne-eqb, lt-ltb, le-ltb}
-use lib.Dec.{eqb, ltb}
 use lib.ListN.{length, getD, set}
 use lib.Seq.{sets}
 use Rattle.laws.specs.Places.{gather, onlyIf}
 use Rattle.laws.proofs.Tests.{lt-or-ge}
 use Rattle.laws.proofs.Gathers.{Writes, writes-first, writes-next, whole-count, whole-all}
+use Rattle.drafts.specs.Kinds.{kindFetch, kindStore, closes}
 use Rattle.drafts.specs.Places.{begins, ends, lastKind}
+use Rattle.laws.specs.Put.{Put}
 use Rattle.model.specs.Places.{isEquation, assignedSlot}
-use Rattle.model.specs.Working.{Put, usedHere}
+use Rattle.model.specs.Working.{usedHere}
 use Rattle.model.proofs.Collecting.{only-length, put-one, put-none}
 
 module _ (bounds kinds : List ℕ) (j : ℕ) where
@@ -26,38 +27,32 @@ module _ (bounds kinds : List ℕ) (j : ℕ) where
   pub equation-empty : {a b : ℕ} → a ≡ begins bounds j → b ≡ ends bounds j → b ≤ a → false ≡ isEquation bounds kinds j
   equation-empty p q h = rw (le-ltb (begins bounds j) (ends bounds j) (omega arith))
 
-  module _ {a b kind : ℕ} (p : a ≡ begins bounds j) (q : b ≡ ends bounds j) (h : a < b) (k : kind ≡ lastKind bounds kinds j) where
-    some : ltb (begins bounds j) (ends bounds j) ≡ true
-    some = lt-ltb (begins bounds j) (ends bounds j) (omega arith)
-
-    -- a store, and a derivative or not
-    pub equation-store : kind ≡ 13 → true ≡ isEquation bounds kinds j
-    equation-store e = rw (some, eq-eqb (lastKind bounds kinds j) 13 (sym k ∙ e))
-
-    pub equation-other : (kind ≡ 13 → ⊥) → eqb kind 14 ≡ isEquation bounds kinds j
-    equation-other n = rw (some, ne-eqb (lastKind bounds kinds j) 13 (λ e. n (k ∙ e)), k)
+  -- any other is one by its last draft
+  pub equation-last : {a b : ℕ} {t : Bool} → a ≡ begins bounds j → b ≡ ends bounds j → a < b
+      → t ≡ closes (lastKind bounds kinds j) → t ≡ isEquation bounds kinds j
+  equation-last p q h e = rw (lt-ltb (begins bounds j) (ends bounds j) (omega arith)) e
 
   module _ (slots : List ℕ) {kind : ℕ} (k : kind ≡ lastKind bounds kinds j) where
     -- the slot of a store, and 0 of anything else
-    pub assigned-store : {s last : ℕ} → kind ≡ 13 → s ≡ getD slots last 0 → last ≡ ends bounds j - 1 → s ≡ assignedSlot bounds kinds slots j
-    assigned-store e p l = rw (eq-eqb (lastKind bounds kinds j) 13 (sym k ∙ e)) (p ∙ ap (λ (i : ℕ). getD slots i 0) l)
+    pub assigned-store : {s last : ℕ} → kind ≡ kindStore → s ≡ getD slots last 0 → last ≡ ends bounds j - 1 → s ≡ assignedSlot bounds kinds slots j
+    assigned-store e p l = rw (eq-eqb (lastKind bounds kinds j) kindStore (sym k ∙ e)) (p ∙ ap (λ (i : ℕ). getD slots i 0) l)
 
-    pub assigned-none : (kind ≡ 13 → ⊥) → 0 ≡ assignedSlot bounds kinds slots j
-    assigned-none n = rw (ne-eqb (lastKind bounds kinds j) 13 (λ e. n (k ∙ e)))
+    pub assigned-none : (kind ≡ kindStore → ⊥) → 0 ≡ assignedSlot bounds kinds slots j
+    assigned-none n = rw (ne-eqb (lastKind bounds kinds j) kindStore (λ e. n (k ∙ e)))
 
 -- ---- what a draft uses: nothing, for it is no name; nothing, for no equation assigns it; the equation that does
 module _ (owners : List ℕ) (kind slot w : ℕ) where
-  pub use-other : (used : List ℕ) → (kind ≡ 4 → ⊥) → Put (usedHere owners kind slot) w w used used
-  use-other used n = rw (ne-eqb kind 4 n) (record { behind = omega arith; content = refl })
+  pub use-other : (used : List ℕ) → (kind ≡ kindFetch → ⊥) → Put (usedHere owners kind slot) w w used used
+  use-other used n = rw (ne-eqb kind kindFetch n) (record { behind = omega arith; written = refl })
 
-  module _ {owner : ℕ} (e : kind ≡ 4) (o : owner ≡ getD owners slot 0) where
+  module _ {owner : ℕ} (e : kind ≡ kindFetch) (o : owner ≡ getD owners slot 0) where
     pub use-none : (used : List ℕ) → owner ≡ 0 → Put (usedHere owners kind slot) w w used used
-    use-none used z = rw (eq-eqb kind 4 e) (put-none _ _ w used (le-ltb 0 (getD owners slot 0) (omega arith)))
+    use-none used z = rw (eq-eqb kind kindFetch e) (put-none _ _ w used (le-ltb 0 (getD owners slot 0) (omega arith)))
 
     pub use-one : {used used′ : List ℕ} → (owner ≡ 0 → ⊥) → used′ ≡ set used w (owner - 1) → Put (usedHere owners kind slot) w (w + 1) used used′
     use-one {used} {used′} n c =
         let some : 0 < getD owners slot 0 = omega (arith, lt-or-zero) in
-        rw (eq-eqb kind 4 e) (put-one _ _ w (lt-ltb 0 (getD owners slot 0) some) (c ∙ ap (λ (x : ℕ). set used w (x - 1)) o))
+        rw (eq-eqb kind kindFetch e) (put-one _ _ w (lt-ltb 0 (getD owners slot 0) some) (c ∙ ap (λ (x : ℕ). set used w (x - 1)) o))
       where
         lt-or-zero : 0 < owner
         lt-or-zero = ⊎-elim (λ (l : 0 < owner). l) (λ (g : owner ≤ 0). absurd (n (let z : owner ≡ 0 = omega arith in z))) (lt-or-ge 0 owner)
@@ -75,7 +70,7 @@ module _ {f : ℕ → Bool} {n j c : ℕ} {rows₀ rows : List ℕ} (v : Listing
   pub listing-next : {b : Bool} {r : ℕ} {rows′ : List ℕ} → j < n → b ≡ f j → Put (onlyIf b j) c r rows rows′ → Listing f n (j + 1) r rows₀ rows′
   listing-next {b} {r} {rows′} h e put =
       let behind : r ≡ c + length (onlyIf (f j) j) = put .behind ∙ ap (λ (t : Bool). c + length (onlyIf t j)) e in
-      let content : rows′ ≡ sets rows c (onlyIf (f j) j) = put .content ∙ ap (λ (t : Bool). sets rows c (onlyIf t j)) e in
+      let content : rows′ ≡ sets rows c (onlyIf (f j) j) = put .written ∙ ap (λ (t : Bool). sets rows c (onlyIf t j)) e in
       record {
         within = omega arith;
         few = omega (arith, v .few, behind, only-length (f j) j);
@@ -83,4 +78,4 @@ module _ {f : ℕ → Bool} {n j c : ℕ} {rows₀ rows : List ℕ} (v : Listing
       }
 
   pub listing-last : n ≤ j → Put (gather (λ i. onlyIf (f i) i) n 0) 0 c rows₀ rows
-  listing-last h = record { behind = omega (arith, whole-count (v .written) h); content = whole-all (v .written) h }
+  listing-last h = record { behind = omega (arith, whole-count (v .written) h); written = whole-all (v .written) h }

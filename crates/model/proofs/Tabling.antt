@@ -2,15 +2,16 @@
 use Prim.Native.Nat.{ℕ, zero, suc, _+_, _-_, _≤_, _<_}
 use mathlib.Core.Path.{_≡_, refl, ap, subst, _∙_}
 use mathlib.Core.Bool.{Bool, true, false, cond}
+use mathlib.Core.Logic.{⊎-elim}
 use mathlib.Core.List.{List, [], _∷_, _++_, append-nil}
-use native.Mathlib.Numerals.{add-one}
+use native.Mathlib.Numerals.{add-one, lt-of-le-of-ne}
 use native.Mathlib.Omega.{arith}
 use lib.Dec.{eqb, ltb}
 use lib.ListN.{length, getD, length-map, length-append}
 use Rattle.limits.specs.Limits.{mostStatements}
 use Rattle.laws.specs.Counts.{count}
 use Rattle.laws.specs.Places.{gather, onlyIf}
-use Rattle.laws.proofs.Tests.{cond-ind}
+use Rattle.laws.proofs.Tests.{cond-ind, eq-or-ne}
 use Rattle.laws.proofs.Members.{Below, below-append, below-gather, below-only, at-in}
 use Rattle.laws.proofs.Gathers.{gather-add, gather-short}
 use Rattle.order.specs.Table.{Fit}
@@ -18,7 +19,7 @@ use Rattle.model.specs.Definitions.{placeIn}
 use Rattle.drafts.specs.Places.{begins, ends}
 use Rattle.model.specs.Places.{isEquation, equationRows, assignedSlot, assignedSlots, usedBy, usedAt, usedOfRow, usedIn, startsFrom}
 use Rattle.model.specs.Working.{Rises, Sound}
-use Rattle.model.proofs.Collecting.{only-length, rises-to}
+use Rattle.model.proofs.Collecting.{only-length}
 
 -- one place more
 pub gather-next : {A : Type 0} (f : ℕ → List A) (i : ℕ) → gather f (suc i) 0 ≡ gather f i 0 ++ f i
@@ -27,6 +28,19 @@ gather-next f i =
     let e : suc i ≡ i + 1 = omega arith in
     let z : 0 + i ≡ i = omega arith in
     ap (λ (k : ℕ). gather f k 0) e ∙ gather-add f i 1 0 ∙ ap (λ (r : _). gather f i 0 ++ r) (append-nil (f (0 + i)) ∙ ap f z)
+
+-- no statement begins behind the last of n
+pub rises-to : (bounds : List ℕ) (n : ℕ) → Rises bounds n → (j : ℕ) → j ≤ n → begins bounds j ≤ begins bounds n
+rises-to bounds zero r j h = let e : j ≡ 0 = omega arith in rw e (omega arith)
+rises-to bounds (suc n) r j h =
+    ⊎-elim (λ (e : j ≡ suc n). rw e (omega arith))
+    (λ (d : j ≡ suc n → ⊥).
+    omega (
+      arith,
+      rises-to bounds n (record { rise = λ i l. r .rise i (omega arith) }) j (omega (arith, lt-of-le-of-ne h d)),
+      r .rise n (omega arith),
+      ap (begins bounds) (add-one n),
+    )) (eq-or-ne j (suc n))
 
 -- a statement ends within the drafts
 pub ends-within : {lines bounds kinds used : List ℕ} → Sound lines bounds kinds used → (j : ℕ) → j < length lines → ends bounds j ≤ length kinds

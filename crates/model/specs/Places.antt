@@ -8,35 +8,11 @@ use lib.Dec.{eqb, ltb}
 use lib.ListN.{length, getD}
 use Rattle.laws.specs.Places.{gather, anyIn, onlyIf}
 use Rattle.laws.specs.Counts.{has}
+use Rattle.drafts.specs.Kinds.{kindConstant, kindFrom, kindFetch, kindStore, defines, asks, isNamed, closes}
+use Rattle.drafts.specs.Places.{begins, ends, inStatement, anyOf, lastKind, homeOf}
 use Rattle.sheet.specs.Sheet.{Fault}
 use Rattle.model.specs.Definitions.{placeIn}
 use Rattle.model.specs.Faults.{again, faultIf, nameFault}
-
--- the kinds of drafts that define their name: constant, initial, store
-abbrev pub defines : ℕ → Bool
-defines k = eqb k 1 || (eqb k 2 || eqb k 13)
-
--- those whose argument is a name's key
-abbrev pub isNamed : ℕ → Bool
-isNamed k = defines k || (eqb k 4 || (eqb k 14 || eqb k 16))
-
--- those that ask for a name that must be defined: a name in an expression, a name as initial
-abbrev pub asks : ℕ → Bool
-asks k = eqb k 4 || eqb k 16
-
--- the places of statement j
-abbrev pub begins : List ℕ → ℕ → ℕ
-begins bounds j = getD bounds j 0
-
-abbrev pub ends : List ℕ → ℕ → ℕ
-ends bounds j = getD bounds (j + 1) 0
-
--- what f gives at each place of statement j, and whether f holds at one
-abbrev pub inStatement : {A : Type 0} → List ℕ → (ℕ → List A) → ℕ → List A
-inStatement bounds f j = gather f (ends bounds j - begins bounds j) (begins bounds j)
-
-abbrev pub anyOf : List ℕ → (ℕ → Bool) → ℕ → Bool
-anyOf bounds f j = anyIn f (ends bounds j - begins bounds j) (begins bounds j)
 
 -- ---- definitions
 
@@ -75,13 +51,9 @@ resolved keys (k ∷ kinds) (a ∷ args) = resolvedAt keys k a ∷ resolved keys
 abbrev pub undefinedAt : ℕ → List ℕ → List ℕ → ℕ → Bool
 undefinedAt n kinds slots i = asks (getD kinds i 0) && ltb n (getD slots i 0)
 
--- the definition of a slot stands at this place
-abbrev pub homeOf : List ℕ → ℕ → ℕ
-homeOf places s = getD places (s - 1) 0
-
 -- place i has an initial's name that is no constant
 abbrev pub unfitAt : List ℕ → List ℕ → List ℕ → ℕ → Bool
-unfitAt places kinds slots i = eqb (getD kinds i 0) 16 && not (eqb (getD kinds (homeOf places (getD slots i 0)) 0) 1)
+unfitAt places kinds slots i = eqb (getD kinds i 0) kindFrom && not (eqb (getD kinds (homeOf places (getD slots i 0)) 0) kindConstant)
 
 -- 22 or 23 at statement j
 abbrev pub namesAt : List ℕ → List ℕ → List ℕ → List ℕ → List ℕ → ℕ → List Fault
@@ -92,12 +64,9 @@ unfoldable pub nameless : List ℕ → List ℕ → List ℕ → List ℕ → Li
 nameless places lines bounds kinds slots = gather (namesAt places lines bounds kinds slots) (length lines) 0
 
 -- ---- equations: the statements that end with a store or a derivative, by number
-abbrev pub lastKind : List ℕ → List ℕ → ℕ → ℕ
-lastKind bounds kinds j = getD kinds (ends bounds j - 1) 0
-
 abbrev pub isEquation : List ℕ → List ℕ → ℕ → Bool
 isEquation bounds kinds j =
-    ltb (begins bounds j) (ends bounds j) && (eqb (lastKind bounds kinds j) 13 || eqb (lastKind bounds kinds j) 14)
+    ltb (begins bounds j) (ends bounds j) && closes (lastKind bounds kinds j)
 
 -- n is the count of statements
 unfoldable pub equationRows : ℕ → List ℕ → List ℕ → List ℕ
@@ -105,7 +74,7 @@ equationRows n bounds kinds = gather (λ j. onlyIf (isEquation bounds kinds j) j
 
 -- the slot that an equation assigns, 0 of a state's
 abbrev pub assignedSlot : List ℕ → List ℕ → List ℕ → ℕ → ℕ
-assignedSlot bounds kinds slots j = cond (eqb (lastKind bounds kinds j) 13) (getD slots (ends bounds j - 1) 0) 0
+assignedSlot bounds kinds slots j = cond (eqb (lastKind bounds kinds j) kindStore) (getD slots (ends bounds j - 1) 0) 0
 
 abbrev pub assignedSlots : List ℕ → List ℕ → List ℕ → List ℕ → List ℕ
 assignedSlots rows bounds kinds slots = map (assignedSlot bounds kinds slots) rows
@@ -115,7 +84,7 @@ abbrev pub usedBy : List ℕ → ℕ → List ℕ
 usedBy assigned s = onlyIf (ltb (placeIn s assigned) (length assigned)) (placeIn s assigned)
 
 abbrev pub usedAt : List ℕ → List ℕ → List ℕ → ℕ → List ℕ
-usedAt assigned kinds slots i = cond (eqb (getD kinds i 0) 4) (usedBy assigned (getD slots i 0)) []
+usedAt assigned kinds slots i = cond (eqb (getD kinds i 0) kindFetch) (usedBy assigned (getD slots i 0)) []
 
 -- what the equation of statement j uses
 abbrev pub usedOfRow : List ℕ → List ℕ → List ℕ → List ℕ → ℕ → List ℕ

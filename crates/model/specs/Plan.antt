@@ -38,23 +38,23 @@ abbrev pub withOrder : List ℕ → Lent → Lent
 withOrder row l = lent (l .places) (l .rows) (sets (l .order) 0 row)
 
 -- the answer, and the final content of the arguments, the table of uses, the fault list and the three arrays
-pub record Outcome : Type 0 where
+pub record PlanOutcome : Type 0 where
   pub plan : Plan
   pub args : List ℕ
   pub used : List ℕ
   pub faults : List ℕ
   pub arrays : Lent
 
-abbrev pub outcome : Plan → List ℕ → List ℕ → List ℕ → Lent → Outcome
-outcome p args used faults l = record { plan = p; args = args; used = used; faults = faults; arrays = l }
+abbrev pub planOutcome : Plan → List ℕ → List ℕ → List ℕ → Lent → PlanOutcome
+planOutcome p args used faults l = record { plan = p; args = args; used = used; faults = faults; arrays = l }
 
 -- a refusal: its number and the count of faults, the rest 0
 abbrev pub refused : ℕ → ℕ → Plan
 refused n c = record { number = n; count = c; definitions = 0; equations = 0 }
 
 -- faults stand: they are written to the front of the list
-abbrev pub faulted : List Fault → List ℕ → List ℕ → List ℕ → Lent → Outcome
-faulted fs args used faults l = outcome (refused 7 (length fs)) args used (sets faults 0 (faultList fs)) l
+abbrev pub faulted : List Fault → List ℕ → List ℕ → List ℕ → Lent → PlanOutcome
+faulted fs args used faults l = planOutcome (refused 7 (length fs)) args used (sets faults 0 (faultList fs)) l
 
 abbrev pub some : List Fault → Bool
 some fs = ltb 0 (length fs)
@@ -68,9 +68,9 @@ falls bounds j = ltb (ends bounds j) (begins bounds j)
 unfoldable pub inTurn : List ℕ → ℕ → ℕ → Bool
 inTurn bounds n size = eqb (begins bounds 0) 0 && (eqb (begins bounds n) size && not (anyIn (falls bounds) n 0))
 
--- three arrays of these lengths have room for every statement
+-- arrays of these lengths have room for every definition, for every statement, and for the order of these
 unfoldable pub roomy : ℕ → ℕ → ℕ → Bool
-roomy places rows order = leb mostStatements places && (leb mostStatements rows && leb mostStatements order)
+roomy places rows order = leb mostDefinitions places && (leb mostStatements rows && leb mostStatements order)
 
 -- the last six are the lengths of the arguments, the table of uses, the fault list and the three arrays
 unfoldable pub fit : List ℕ → List ℕ → List ℕ → ℕ → ℕ → ℕ → ℕ → ℕ → ℕ → Bool
@@ -85,21 +85,21 @@ fit lines bounds kinds args used faults places rows order =
 -- ---- the table, from its end to its beginning
 
 -- 24: fewer equations are placed than there are; n is the count of definitions
-unfoldable pub closed : List ℕ → ℕ → List ℕ → List ℕ → List ℕ → List ℕ → List ℕ → Lent → Outcome
-closed placed n rows lines slots used faults l =
+unfoldable pub orderedPlan : List ℕ → ℕ → List ℕ → List ℕ → List ℕ → List ℕ → List ℕ → Lent → PlanOutcome
+orderedPlan placed n rows lines slots used faults l =
     cond (ltb (length placed) (length rows)) (faulted (loops placed rows lines) slots used faults (withOrder placed l))
-    (outcome (record { number = 0; count = 0; definitions = n; equations = length rows }) slots used faults (withOrder placed l))
+    (planOutcome (record { number = 0; count = 0; definitions = n; equations = length rows }) slots used faults (withOrder placed l))
 
 -- the equations of these rows, placed by what they use
-unfoldable pub weighed : List ℕ → ℕ → List ℕ → List ℕ → List ℕ → List ℕ → List ℕ → List ℕ → Lent → Outcome
+unfoldable pub weighed : List ℕ → ℕ → List ℕ → List ℕ → List ℕ → List ℕ → List ℕ → List ℕ → Lent → PlanOutcome
 weighed rows n lines bounds kinds slots used faults l =
     let assigned = assignedSlots rows bounds kinds slots in
     let table = usedIn assigned bounds kinds slots rows in
     let starts = startsFrom 0 assigned bounds kinds slots rows in
-    closed (order (length rows) (usesIn starts table)) n rows lines slots used faults l
+    orderedPlan (order (length rows) (usesIn starts table)) n rows lines slots used faults l
 
 -- 22 and 23
-unfoldable pub tested : List ℕ → List ℕ → List ℕ → List ℕ → List ℕ → List ℕ → List ℕ → Lent → Outcome
+unfoldable pub tested : List ℕ → List ℕ → List ℕ → List ℕ → List ℕ → List ℕ → List ℕ → Lent → PlanOutcome
 tested places lines bounds kinds slots used faults l =
     let fs = nameless places lines bounds kinds slots in
     cond (some fs) (faulted fs slots used faults l)
@@ -112,34 +112,31 @@ ownSlots n bounds kinds slots = assignedSlots (equationRows n bounds kinds) boun
 abbrev pub ownUses : ℕ → List ℕ → List ℕ → List ℕ → List ℕ
 ownUses n bounds kinds slots = usedIn (ownSlots n bounds kinds slots) bounds kinds slots (equationRows n bounds kinds)
 
--- the table of uses is written
-unfoldable pub tabled : List ℕ → List ℕ → List ℕ → List ℕ → List ℕ → List ℕ → List ℕ → Lent → Outcome
-tabled places lines bounds kinds slots used faults l =
-    tested places lines bounds kinds slots (sets used 0 (ownUses (length lines) bounds kinds slots)) faults l
-
--- the equations are written
-unfoldable pub named : List ℕ → List ℕ → List ℕ → List ℕ → List ℕ → List ℕ → List ℕ → Lent → Outcome
-named places lines bounds kinds slots used faults l =
-    tabled places lines bounds kinds slots used faults (withRows (equationRows (length lines) bounds kinds) l)
+-- the equations and the table of uses are written
+unfoldable pub linkedPlan : List ℕ → List ℕ → List ℕ → List ℕ → List ℕ → List ℕ → List ℕ → Lent → PlanOutcome
+linkedPlan places lines bounds kinds slots used faults l =
+    tested places lines bounds kinds slots (sets used 0 (ownUses (length lines) bounds kinds slots)) faults
+    (withRows (equationRows (length lines) bounds kinds) l)
 
 -- 21
-unfoldable pub distinct : List ℕ → List ℕ → List ℕ → List ℕ → List ℕ → List ℕ → Lent → Outcome
+unfoldable pub distinct : List ℕ → List ℕ → List ℕ → List ℕ → List ℕ → List ℕ → Lent → PlanOutcome
 distinct lines bounds kinds args used faults l =
     let fs = doubles lines bounds kinds args in
     cond (some fs) (faulted fs args used faults l)
-    (named (placesIn kinds) lines bounds kinds (resolved (keysIn kinds args) kinds args) used faults l)
+    (linkedPlan (placesIn kinds) lines bounds kinds (resolved (keysIn kinds args) kinds args) used faults l)
 
--- the places are written; 6: over 255 definitions, doubles counted
-unfoldable pub sheeted : List ℕ → List ℕ → List ℕ → List ℕ → List ℕ → List ℕ → Lent → Outcome
+-- the places are written; 6: too many definitions, doubles counted
+unfoldable pub sheeted : List ℕ → List ℕ → List ℕ → List ℕ → List ℕ → List ℕ → Lent → PlanOutcome
 sheeted lines bounds kinds args used faults l =
     let m = withPlaces (placesIn kinds) l in
-    cond (ltb mostDefinitions (length (keysIn kinds args))) (outcome (refused 6 0) args used faults m) (distinct lines bounds kinds args used faults m)
+    cond (ltb mostDefinitions (length (keysIn kinds args))) (planOutcome (refused 6 0) args used faults m) (distinct lines bounds kinds args used faults m)
 
-unfoldable pub planned : List ℕ → List ℕ → List ℕ → List ℕ → List ℕ → List ℕ → Lent → Outcome
+unfoldable pub planned : List ℕ → List ℕ → List ℕ → List ℕ → List ℕ → List ℕ → Lent → PlanOutcome
 planned lines bounds kinds args used faults l =
     cond (fit lines bounds kinds (length args) (length used) (length faults) (length (l .places)) (length (l .rows)) (length (l .order)))
-    (sheeted lines bounds kinds args used faults l) (outcome (refused 9 0) args used faults l)
+    (sheeted lines bounds kinds args used faults l) (planOutcome (refused 9 0) args used faults l)
 
 -- THE CONTRACT of `plan`: answer and contents are what is planned. Two outcomes that it allows are equal
 abbrev pub Plans : List ℕ → List ℕ → List ℕ → List ℕ → List ℕ → List ℕ → Lent → Plan → List ℕ → List ℕ → List ℕ → Lent → Type 0
-Plans lines bounds kinds args used faults l p args′ used′ faults′ l′ = outcome p args′ used′ faults′ l′ ≡ planned lines bounds kinds args used faults l
+Plans lines bounds kinds args used faults l p args′ used′ faults′ l′ =
+    planOutcome p args′ used′ faults′ l′ ≡ planned lines bounds kinds args used faults l

@@ -5,32 +5,29 @@ use mathlib.Core.Path.{_≡_}
 use mathlib.Core.Bool.{Bool, not, cond, _&&_, _||_}
 use mathlib.Core.List.{List, [], _∷_, _++_}
 use lib.Dec.{eqb, leb, ltb}
-use lib.ListN.{length, getD, take, drop}
+use lib.ListN.{length, getD, take, drop, replicate}
 use lib.Seq.{sets, slice}
-use Rattle.limits.specs.Limits.{mostStatements, mostDefinitions, textBytes, faultBytes}
+use Rattle.limits.specs.Limits.{mostStatements, mostDefinitions, textBytes, faultBytes, slots}
 use Rattle.laws.specs.Places.{gather, anyIn, onlyIf}
 use Rattle.laws.specs.Counts.{has}
+use Rattle.laws.specs.Put.{Put}
 use Rattle.sheet.specs.Sheet.{Fault, faultList}
 use Rattle.model.specs.Definitions.{placeIn}
 use Rattle.model.specs.Faults.{again, faultIf}
 use Rattle.model.specs.Plan.{ownSlots, ownUses}
 use Rattle.model.specs.declared.names.Walk.{Walk}
-use Rattle.drafts.specs.Kinds.{defines, asks}
+use Rattle.model.specs.declared.stages.Link.{Link}
+use Rattle.drafts.specs.Kinds.{kindConstant, kindFrom, kindFetch, defines, asks}
 use Rattle.drafts.specs.Places.{begins, ends, inStatement, homeOf}
 use Rattle.model.specs.Places.{definedAt, keysIn, placesIn, resolved}
 use Rattle.model.specs.Places.{equationRows, assignedSlots, usedIn, startsFrom}
 
 -- ---- rows that are written
 
--- vs is written from place w on, and r is the place behind
-pub record Put (vs : List ℕ) (w r : ℕ) (buf buf′ : List ℕ) : Type 0 where
-  pub behind : r ≡ w + length vs
-  pub content : buf′ ≡ sets buf w vs
-
 -- the faults are written behind the c that stand there, and there are r now
 pub record Reported (fs : List Fault) (c r : ℕ) (list list′ : List ℕ) : Type 0 where
   pub behind : r ≡ c + length fs
-  pub content : list′ ≡ sets list (faultBytes * c) (faultList fs)
+  pub written : list′ ≡ sets list (faultBytes * c) (faultList fs)
 
 -- ---- a sheet that fits
 
@@ -47,18 +44,9 @@ pub record Sound (lines bounds kinds used : List ℕ) : Type 0 where
   pub first : begins bounds 0 ≡ 0
   pub whole : begins bounds (length lines) ≡ length kinds
 
--- n statements follow each other from draft 0 to the last
-pub record Statements (bounds kinds : List ℕ) (n : ℕ) : Type 0 where
-  pub few : n ≤ mostStatements
-  pub small : length kinds ≤ textBytes
-  pub rises : Rises bounds n
-  pub first : begins bounds 0 ≡ 0
-  pub whole : begins bounds n ≡ length kinds
-
 -- an array holds a row of n numbers at its front
 pub record Holds (array : List ℕ) (n : ℕ) (row : List ℕ) : Type 0 where
   pub long : n ≡ length row
-  pub within : n ≤ mostStatements
   pub room : n ≤ length array
   pub front : take n array ≡ row
 
@@ -73,12 +61,12 @@ pub record Collected (kinds args : List ℕ) (r : ℕ) (keys keys′ places plac
   pub placed : Put (placesIn kinds) 0 r places places′
 
 -- the keys and places of a sheet that fits are at hand
-pub record Keyed (lines bounds kinds args used keys places : List ℕ) (n : ℕ) : Type 0 where
+pub record Keyed (lines bounds kinds args used keys places : List ℕ) : Type 0 where
   pub sound : Sound lines bounds kinds used
   pub wide : length kinds ≤ length args
-  pub few : n ≤ mostDefinitions
+  pub few : length keys ≤ mostDefinitions
   pub named : keys ≡ keysIn kinds args
-  pub placed : Holds places n (placesIn kinds)
+  pub placed : places ≡ placesIn kinds
 
 -- ---- definitions noted behind d others: their keys and their places
 
@@ -90,30 +78,6 @@ pub record Noted (kind key place d r : ℕ) (keys keys′ places places′ : Lis
 -- place i, if it defines a name
 abbrev pub placeAt : List ℕ → ℕ → List ℕ
 placeAt kinds i = onlyIf (defines (getD kinds i 0)) i
-
--- those of the k drafts from place i on
-pub record NotedAll (kinds args : List ℕ) (k i d r : ℕ) (keys keys′ places places′ : List ℕ) : Type 0 where
-  pub named : Put (gather (definedAt kinds args) k i) d r keys keys′
-  pub placed : Put (gather (placeAt kinds) k i) d r places places′
-
--- the one place of statement j that is looked at where it does not begin with a constant: its first, if that is an initial, else its last
-abbrev pub spotOf : List ℕ → List ℕ → ℕ → ℕ
-spotOf bounds kinds j = cond (eqb (getD kinds (begins bounds j) 0) 2) (begins bounds j) (ends bounds j - 1)
-
--- what f gives at the places of statement j that are looked at: all of them, where it begins with a constant
-abbrev pub looked : {A : Type 0} → List ℕ → List ℕ → (ℕ → List A) → ℕ → List A
-looked bounds kinds f j =
-    cond (leb (ends bounds j) (begins bounds j)) []
-    (cond (eqb (getD kinds (begins bounds j) 0) 1) (inStatement bounds f j) (f (spotOf bounds kinds j)))
-
--- those at such places of statement j, and of n statements
-pub record NotedIn (bounds kinds args : List ℕ) (j d r : ℕ) (keys keys′ places places′ : List ℕ) : Type 0 where
-  pub named : Put (looked bounds kinds (definedAt kinds args) j) d r keys keys′
-  pub placed : Put (looked bounds kinds (placeAt kinds) j) d r places places′
-
-pub record NotedBy (bounds kinds args : List ℕ) (n r : ℕ) (keys keys′ places places′ : List ℕ) : Type 0 where
-  pub named : Put (gather (looked bounds kinds (definedAt kinds args)) n 0) 0 r keys keys′
-  pub placed : Put (gather (looked bounds kinds (placeAt kinds)) n 0) 0 r places places′
 
 -- ---- a name is found by hint and links: the hint of a remainder leads to the first key that has it, the link of a key to the next that
 -- has the same
@@ -158,7 +122,7 @@ repeated lines bounds keys places = gather (repeatAt lines bounds keys places) (
 -- ---- names resolved, and whether one is undefined or, as an initial, unfit
 abbrev pub flawedBy : List ℕ → List ℕ → ℕ → ℕ → Bool
 flawedBy places kinds kind slot =
-    (asks kind && ltb (length places) slot) || (eqb kind 16 && not (eqb (getD kinds (homeOf places slot) 0) 1))
+    (asks kind && ltb (length places) slot) || (eqb kind kindFrom && not (eqb (getD kinds (homeOf places slot) 0) kindConstant))
 
 abbrev pub flawedAt : List ℕ → List ℕ → List ℕ → ℕ → Bool
 flawedAt places kinds slots i = flawedBy places kinds (getD kinds i 0) (getD slots i 0)
@@ -172,7 +136,7 @@ abbrev pub ownerIn : List ℕ → ℕ → ℕ
 ownerIn assigned s = cond (ltb (placeIn s assigned) (length assigned)) (placeIn s assigned + 1) 0
 
 pub record Owned (assigned owners : List ℕ) : Type 0 where
-  pub long : length owners ≡ mostStatements + 1
+  pub long : length owners ≡ slots + 1
   pub owner : (s : ℕ) → s < length owners → getD owners s 0 ≡ ownerIn assigned s
 
 -- what place i uses, by the owners
@@ -180,14 +144,14 @@ abbrev pub usedOwner : List ℕ → ℕ → List ℕ
 usedOwner owners s = onlyIf (ltb 0 (getD owners s 0)) (getD owners s 0 - 1)
 
 abbrev pub usedHere : List ℕ → ℕ → ℕ → List ℕ
-usedHere owners kind s = cond (eqb kind 4) (usedOwner owners s) []
+usedHere owners kind s = cond (eqb kind kindFetch) (usedOwner owners s) []
 
 abbrev pub usedFrom : List ℕ → List ℕ → List ℕ → ℕ → List ℕ
 usedFrom owners kinds slots i = usedHere owners (getD kinds i 0) (getD slots i 0)
 
 -- a name in an expression has a slot
-pub record Slotted (kinds slots : List ℕ) : Type 0 where
-  pub slot : (i : ℕ) → getD kinds i 0 ≡ 4 → getD slots i 0 < mostStatements + 1
+pub record Slotted (kinds args : List ℕ) : Type 0 where
+  pub slot : (i : ℕ) → getD kinds i 0 ≡ kindFetch → getD args i 0 < slots + 1
 
 -- ---- names resolved and uses listed, draft by draft
 
@@ -210,7 +174,7 @@ pub record Linking (keys kinds places owners args₀ used₀ : List ℕ) (from w
 
 -- what going over the drafts from a place on, before an end, asks; c numbers are listed
 pub record Walked (keys kinds args : List ℕ) (from end c : ℕ) : Type 0 where
-  pub few : length keys < 256
+  pub few : length keys ≤ mostDefinitions
   pub wide : length kinds ≤ length args
   pub small : length kinds ≤ textBytes
   pub upward : from ≤ end
@@ -220,7 +184,7 @@ pub record Walked (keys kinds args : List ℕ) (from end c : ℕ) : Type 0 where
 -- what going over all drafts asks
 pub record Linkable (lines bounds kinds keys owners args used : List ℕ) : Type 0 where
   pub sound : Sound lines bounds kinds used
-  pub few : length keys < 256
+  pub few : length keys ≤ mostDefinitions
   pub wide : length kinds ≤ length args
   pub owned : Owned (ownSlots (length lines) bounds kinds (resolved keys kinds args)) owners
   pub slotted : Slotted kinds (resolved keys kinds args)
@@ -235,9 +199,22 @@ pub record Linked (lines bounds kinds keys places : List ℕ) (n : Walk) (args a
   pub resolved-so : Resolved keys kinds places args args′ (n .flawed)
   pub tabled-so : Tabled (equationRows (length lines) bounds kinds) bounds kinds args′ (n .count) starts starts′ used used′
 
+-- what linking gives: the equations are at the front of rows, the names are resolved, and what is used is tabled
+pub record Links (lines bounds kinds keys places : List ℕ) (r : Link) (args args′ used used′ rows rows′ starts′ : List ℕ) : Type 0 where
+  pub equations-put : Put (equationRows (length lines) bounds kinds) 0 (r .equations) rows rows′
+  pub linked : Linked lines bounds kinds keys places (record { count = r .used; flawed = r .flawed }) args args′
+      (replicate (mostStatements + 1) 0) starts′ used used′
+
+-- what the search for 22 and 23 asks: no statement ends behind the last draft, and whether a name is flawed is known
+pub record Searched (lines bounds kinds slots places : List ℕ) (flawed : Bool) : Type 0 where
+  pub few : length lines ≤ mostStatements
+  pub inside : (j : ℕ) → j < length lines → ends bounds j ≤ length kinds
+  pub flaw : flawed ≡ anyIn (flawedAt places kinds slots) (length kinds) 0
+
 -- the m equations are held in rows, and what they use at the front of starts and used
 pub record Weighs (lines bounds kinds slots : List ℕ) (m w : ℕ) (starts used rows : List ℕ) : Type 0 where
   pub few : length lines ≤ mostStatements
+  pub few-rows : m ≤ mostStatements
   pub rows-held : Holds rows m (equationRows (length lines) bounds kinds)
   pub starts-room : m + 1 ≤ length starts
   pub starts-held : take (m + 1) starts

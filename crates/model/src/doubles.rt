@@ -5,7 +5,7 @@ ghost use lib.ListN.{length};
 ghost use Rattle.limits.specs.Limits.{mostStatements};
 ghost use Rattle.model.specs.Working.{Reported, Hinted, Rises, before, repeats, repeated};
 use super::hints::find;
-use super::lists::short_at;
+use bits::reads::short_at;
 use super::report::put_fault;
 
 // How many of the places in front stand before an end; those before `from` are known to.
@@ -24,7 +24,7 @@ fn passed(places: &[u16], end: usize, from: usize) -> usize
 }
 
 // Whether one of the keys from a place on, before an end, stands in an earlier place.
-fn is_repeated(keys: &[u64], hints: &[u8], links: &[u8], from: usize, end: usize) -> bool
+fn is_repeated(keys: &[u64], hints: &[u16], links: &[u16], from: usize, end: usize) -> bool
     requires { ⌜ Hinted (now keys) (now hints) (now links) × (end ≤ length (now keys)) ⌝ }
     ensures { λ r. ⌜ r ≡ repeats (now (keys .entry)) from end ⌝ }
 {
@@ -43,8 +43,8 @@ pub(crate) fn report_doubles(
     lines: &[u16],
     bounds: &[u16],
     keys: &[u64],
-    hints: &[u8],
-    links: &[u8],
+    hints: &[u16],
+    links: &[u16],
     places: &[u16],
     faults: &mut [u8],
 ) -> usize

@@ -2,16 +2,20 @@
 ghost use mathlib.Core.Path.{_≡_};
 ghost use Prim.Native.Nat.{_+_, _-_, _≤_, _<_};
 ghost use lib.ListN.{length, replicate};
-ghost use Rattle.limits.specs.Limits.{mostStatements};
+ghost use Rattle.limits.specs.Limits.{mostStatements, mostDefinitions, slots};
 ghost use Rattle.laws.specs.Places.{onlyIf};
 ghost use Rattle.drafts.specs.Places.{ends};
+ghost use Rattle.laws.specs.Put.{Put};
 ghost use Rattle.model.specs.Places.{resolved, isEquation, equationRows, assignedSlot, assignedSlots};
-ghost use Rattle.model.specs.Working.{Put, Hinted, Owned, usedHere};
+ghost use Rattle.model.specs.Working.{Hinted, Owned, usedHere};
 use super::hints::find;
-use super::lists::byte_at;
+use bits::reads::byte_at;
 use super::lists::put_short;
-use super::lists::short_at;
-use super::lists::word_at;
+use bits::reads::short_at;
+use bits::reads::word_at;
+use drafts::FETCH;
+use drafts::STORE;
+use drafts::is_closing;
 
 // The last place of statement j.
 fn last_of(bounds: &[u16], j: usize) -> usize
@@ -33,11 +37,7 @@ pub(crate) fn is_equation(bounds: &[u16], kinds: &[u8], j: usize) -> bool
     if short_at(bounds, j + 1) <= short_at(bounds, j) {
         return false;
     }
-    let kind = byte_at(kinds, last_of(bounds, j));
-    if kind == 13 {
-        return true;
-    }
-    kind == 14
+    is_closing(byte_at(kinds, last_of(bounds, j)))
 }
 
 // Stores a number at place w, if a test holds; the place behind.
@@ -71,16 +71,16 @@ fn assigned_slot(
     bounds: &[u16],
     kinds: &[u8],
     keys: &[u64],
-    hints: &[u8],
-    links: &[u8],
+    hints: &[u16],
+    links: &[u16],
     args: &[u64],
     j: usize,
 ) -> usize
-    requires { ⌜ (j < 65536) × Hinted (now keys) (now hints) (now links) × (length (now keys) < 256) × (length (now kinds) ≤ length (now args)) ⌝ }
+    requires { ⌜ (j < 65536) × Hinted (now keys) (now hints) (now links) × (length (now keys) ≤ mostDefinitions) × (length (now kinds) ≤ length (now args)) ⌝ }
     ensures { λ r. ⌜ r ≡ assignedSlot (now (bounds .entry)) (now (kinds .entry)) (resolved (now (keys .entry)) (now (kinds .entry)) (now (args .entry))) j ⌝ }
 {
     let last = last_of(bounds, j);
-    if byte_at(kinds, last) == 13 {
+    if byte_at(kinds, last) == STORE {
         return find(keys, hints, links, word_at(args, last)) + 1;
     }
     0
@@ -92,13 +92,13 @@ pub(crate) fn note_owners(
     bounds: &[u16],
     kinds: &[u8],
     keys: &[u64],
-    hints: &[u8],
-    links: &[u8],
+    hints: &[u16],
+    links: &[u16],
     args: &[u64],
     owners: &mut [u16],
 )
-    requires { ⌜ (length (now rows) ≤ mostStatements) × (now owners ≡ replicate (mostStatements + 1) 0) × Hinted (now keys) (now hints) (now links) ×
-        (length (now keys) < 256) × (length (now kinds) ≤ length (now args)) ⌝ }
+    requires { ⌜ (length (now rows) ≤ mostStatements) × (now owners ≡ replicate (slots + 1) 0) × Hinted (now keys) (now hints) (now links) ×
+        (length (now keys) ≤ mostDefinitions) × (length (now kinds) ≤ length (now args)) ⌝ }
     ensures { λ _. ⌜ Owned (assignedSlots (now (rows .entry)) (now (bounds .entry)) (now (kinds .entry))
         (resolved (now (keys .entry)) (now (kinds .entry)) (now (args .entry)))) (now (owners .exit)) ⌝ }
 {
@@ -116,7 +116,7 @@ pub(crate) fn put_use(owners: &[u16], kind: u8, slot: u64, used: &mut [u16], w: 
     requires { ⌜ w < 4294967296 ⌝ }
     ensures { λ r. ⌜ Put (usedHere (now (owners .entry)) kind slot) w r (now (used .entry)) (now (used .exit)) ⌝ }
 {
-    if kind != 4 {
+    if kind != FETCH {
         return w;
     }
     let owner = short_at(owners, slot as usize);

@@ -5,7 +5,8 @@ ghost use Prim.Native.Nat.{_≤_};
 ghost use Rattle.limits.specs.Limits.{mostStatements};
 ghost use Rattle.laws.specs.Places.{anyIn};
 ghost use Rattle.model.specs.Plan.{falls, inTurn, roomy, fit};
-use super::lists::short_at;
+use bits::reads::short_at;
+use limits::DEFINITIONS;
 use limits::FAULT_BYTES;
 use limits::STATEMENTS;
 use limits::TEXT_BYTES;
@@ -39,11 +40,11 @@ fn is_in_turn(bounds: &[u16], n: usize, size: usize) -> bool
     is_rising(bounds, n)
 }
 
-// Whether three arrays of these lengths have room for every statement.
+// Whether three arrays of these lengths have room: for every definition, for every statement, and again.
 fn has_room(places: usize, rows: usize, order: usize) -> bool
     ensures { λ r. ⌜ r ≡ roomy places rows order ⌝ }
 {
-    if places < STATEMENTS {
+    if places < DEFINITIONS {
         return false;
     }
     if rows < STATEMENTS {

@@ -17,7 +17,7 @@ use answer::Plan;
 
 // Plans a sheet of which lines and bounds are the statements, kinds and args the drafts. The table of uses is written to used, model
 // faults to the list, the places of the definitions, the equations and their order to the front of the last three, which have room for
-// 256 each; the names of args are resolved, unless one is defined twice.
+// every definition and every statement; the names of args are resolved, unless one is defined twice.
 pub fn plan(
     lines: &[u16],
     bounds: &[u16],
@@ -44,7 +44,7 @@ pub fn plan(
         rows.len(),
         order.len(),
     ) {
-        return stages::define(
+        return stages::run(
             lines,
             bounds,
             kinds,

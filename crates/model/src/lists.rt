@@ -1,28 +1,7 @@
-// Reads that give 0 past an end, and stores that do nothing there.
+// Stores that do nothing past an end.
 ghost use mathlib.Core.Path.{_≡_};
 ghost use Prim.Native.Nat.{_<_};
-ghost use lib.ListN.{getD, set};
-
-// The byte at place i.
-pub(crate) fn byte_at(s: &[u8], i: usize) -> u8
-    ensures { λ r. ⌜ r ≡ getD (now (s .entry)) i 0 ⌝ }
-{
-    if i < s.len() { s[i] } else { 0 }
-}
-
-// The word at place i.
-pub(crate) fn word_at(s: &[u64], i: usize) -> u64
-    ensures { λ r. ⌜ r ≡ getD (now (s .entry)) i 0 ⌝ }
-{
-    if i < s.len() { s[i] } else { 0 }
-}
-
-// The number of two bytes at place i.
-pub(crate) fn short_at(s: &[u16], i: usize) -> usize
-    ensures { λ r. ⌜ (r ≡ getD (now (s .entry)) i 0) × (r < 65536) ⌝ }
-{
-    if i < s.len() { s[i] as usize } else { 0 }
-}
+ghost use lib.ListN.{set};
 
 // Stores a byte at place i.
 pub(crate) fn put_byte(s: &mut [u8], i: usize, v: u8)

@@ -7,66 +7,41 @@ ghost use lib.Dec.{eqb, ltb};
 ghost use lib.ListN.{length, getD};
 ghost use Rattle.limits.specs.Limits.{mostStatements};
 ghost use Rattle.laws.specs.Places.{anyIn};
-ghost use Rattle.drafts.specs.Kinds.{isNamed, asks};
+ghost use Rattle.drafts.specs.Kinds.{kindConstant, kindFrom, asks};
 ghost use Rattle.drafts.specs.Places.{homeOf};
 ghost use Rattle.model.specs.Places.{undefinedAt, unfitAt, nameless};
-ghost use Rattle.model.specs.Working.{Reported, Hinted, flawedBy, Walked, Resolving, Linking, Linkable, Linked, flawOf};
-use super::collect::is_defining;
+ghost use Rattle.model.specs.Working.{Reported, Hinted, flawedBy, Walked, Resolving, Linking, Linkable, Linked, flawOf, Searched};
 use super::equations::is_equation;
 use super::equations::put_if;
 use super::equations::put_use;
 use super::hints::find;
-use super::lists::byte_at;
+use bits::reads::byte_at;
 use super::lists::put_short;
-use super::lists::short_at;
-use super::lists::word_at;
+use bits::reads::short_at;
+use bits::reads::word_at;
+use drafts::CONSTANT;
+use drafts::FROM;
+use drafts::home_of;
+use drafts::is_asking;
+use drafts::is_named;
 use super::report::put_fault;
-
-// Whether the argument of a draft of this kind is a name's key.
-fn is_named(kind: u8) -> bool
-    ensures { λ r. ⌜ r ≡ isNamed kind ⌝ }
-{
-    if is_defining(kind) {
-        return true;
-    }
-    if kind == 4 {
-        return true;
-    }
-    if kind == 14 {
-        return true;
-    }
-    kind == 16
-}
 
 // Whether a draft asks for a name that nothing defines; n is the count of definitions.
 fn is_undefined(n: usize, kind: u8, slot: u64) -> bool
     ensures { λ r. ⌜ r ≡ (asks kind && ltb n slot) ⌝ }
 {
-    if kind == 4 {
-        return (n as u64) < slot;
-    }
-    if kind == 16 {
+    if is_asking(kind) {
         return (n as u64) < slot;
     }
     false
 }
 
-// Where the definition of a slot stands.
-fn home_of(places: &[u16], slot: u64) -> usize
-    ensures { λ r. ⌜ r ≡ homeOf (now (places .entry)) slot ⌝ }
-{
-    if slot == 0 {
-        return short_at(places, 0);
-    }
-    short_at(places, (slot - 1) as usize)
-}
-
 // Whether a draft is an initial's name that is no constant.
 fn is_unfit(places: &[u16], kinds: &[u8], kind: u8, slot: u64) -> bool
-    ensures { λ r. ⌜ r ≡ (eqb kind 16 && not (eqb (getD (now (kinds .entry)) (homeOf (now (places .entry)) slot) 0) 1)) ⌝ }
+    ensures { λ r. ⌜ r ≡ (eqb kind kindFrom && not (eqb (getD (now (kinds .entry)) (homeOf (now (places .entry)) slot) 0) kindConstant)) ⌝ }
 {
-    if kind == 16 {
-        return byte_at(kinds, home_of(places, slot)) != 1;
+    if kind == FROM {
+        return byte_at(kinds, home_of(places, slot)) != CONSTANT;
     }
     false
 }
@@ -91,8 +66,8 @@ pub(crate) struct Walk {
 fn resolve_in(
     kinds: &[u8],
     keys: &[u64],
-    hints: &[u8],
-    links: &[u8],
+    hints: &[u16],
+    links: &[u16],
     places: &[u16],
     owners: &[u16],
     from: usize,
@@ -139,8 +114,8 @@ pub(crate) fn resolve(
     bounds: &[u16],
     kinds: &[u8],
     keys: &[u64],
-    hints: &[u8],
-    links: &[u8],
+    hints: &[u16],
+    links: &[u16],
     places: &[u16],
     owners: &[u16],
     args: &mut [u64],
@@ -204,8 +179,8 @@ fn flaw_in(places: &[u16], kinds: &[u8], slots: &[u64], from: usize, end: usize)
     flaw
 }
 
-// Writes the faults 22 and 23 to the front of the list; how many there are.
-pub(crate) fn report_nameless(
+// Writes the faults 22 and 23, statement by statement; how many there are.
+fn report_nameless(
     lines: &[u16],
     bounds: &[u16],
     places: &[u16],
@@ -231,4 +206,24 @@ pub(crate) fn report_nameless(
         j += 1;
     }
     count
+}
+
+// Writes the faults 22 and 23 to the front of the list; how many there are. Where no name is flawed, no statement is.
+pub(crate) fn report_names(
+    flawed: bool,
+    lines: &[u16],
+    bounds: &[u16],
+    places: &[u16],
+    kinds: &[u8],
+    slots: &[u64],
+    faults: &mut [u8],
+) -> usize
+    requires { ⌜ Searched (now lines) (now bounds) (now kinds) (now slots) (now places) flawed ⌝ }
+    ensures { λ r. ⌜ Reported (nameless (now (places .entry)) (now (lines .entry)) (now (bounds .entry)) (now (kinds .entry)) (now (slots .entry))) 0
+        r (now (faults .entry)) (now (faults .exit)) ⌝ }
+{
+    if flawed {
+        return report_nameless(lines, bounds, places, kinds, slots, faults);
+    }
+    0
 }

@@ -1,14 +1,13 @@
-// The stages of a plan: each goes on where the tests before it are passed.
+// The stages of a plan, one after the other: each returns what it found, and a plan ends where one finds a fault.
 ghost use mathlib.Core.Path.{_≡_};
 ghost use mathlib.Core.List.{List};
-ghost use Prim.Native.Nat.{ℕ, _≤_};
-ghost use lib.ListN.{length, take};
-ghost use Rattle.limits.specs.Limits.{mostStatements};
+ghost use Prim.Native.Nat.{ℕ, _+_, _≤_};
+ghost use lib.ListN.{length, take, replicate};
+ghost use Rattle.limits.specs.Limits.{mostStatements, mostDefinitions};
 ghost use Rattle.order.specs.Greedy.{order};
 ghost use Rattle.order.specs.Table.{Fit, usesIn};
-ghost use Rattle.model.specs.Places.{keysIn, placesIn, resolved, equationRows};
-ghost use Rattle.model.specs.Plan.{lent, refused, outcome, closed, weighed, tested, ownSlots, tabled, named, distinct, sheeted};
-ghost use Rattle.model.specs.Working.{Sound, Holds, Wide, Hinted, Keyed, Owned, Weighs};
+ghost use Rattle.model.specs.Plan.{lent, refused, planOutcome, orderedPlan, sheeted};
+ghost use Rattle.model.specs.Working.{Sound, Holds, Wide, Hinted, Keyed, Links};
 use super::answer::Plan;
 use super::collect::collect;
 use super::doubles::report_doubles;
@@ -17,9 +16,10 @@ use super::equations::note_owners;
 use super::hints::BUCKETS;
 use super::hints::note_hints;
 use super::loops::report_loops;
-use super::names::report_nameless;
+use super::names::report_names;
 use super::names::resolve;
 use limits::DEFINITIONS;
+use limits::SLOTS;
 use limits::STATEMENTS;
 use order::Sorted;
 
@@ -35,8 +35,47 @@ pub(crate) fn refusal(number: u8, count: usize) -> Plan
     }
 }
 
+// What linking gives: how many equations there are, how much they use, and whether a name is flawed.
+pub(crate) struct Link {
+    pub equations: usize,
+    pub used: usize,
+    pub flawed: bool,
+}
+
+// The equations, the names resolved to slots, and what each equation uses.
+fn connect(
+    lines: &[u16],
+    bounds: &[u16],
+    kinds: &[u8],
+    args: &mut [u64],
+    used: &mut [u16],
+    keys: &[u64],
+    hints: &[u16],
+    links: &[u16],
+    places: &[u16],
+    rows: &mut [u16],
+    starts: &mut [u16],
+) -> Link
+    requires { ⌜ Keyed (now lines) (now bounds) (now kinds) (now args) (now used) (now keys) (now places) × Hinted (now keys) (now hints) (now links)
+        × (mostStatements ≤ length (now rows)) × (now starts ≡ replicate (mostStatements + 1) 0) ⌝ }
+    ensures { λ r. ⌜ Links (now (lines .entry)) (now (bounds .entry)) (now (kinds .entry)) (now (keys .entry)) (now (places .entry)) r
+        (now (args .entry)) (now (args .exit)) (now (used .entry)) (now (used .exit)) (now (rows .entry)) (now (rows .exit)) (now (starts .exit)) ⌝ }
+{
+    let m = collect_rows(lines.len(), bounds, kinds, &mut *rows);
+    let mut owners = [0u16; SLOTS + 1];
+    note_owners(&rows[..m], bounds, kinds, keys, hints, links, args, &mut owners);
+    let walk = resolve(
+        lines, bounds, kinds, keys, hints, links, places, &owners, args, starts, used,
+    );
+    Link {
+        equations: m,
+        used: walk.count,
+        flawed: walk.flawed,
+    }
+}
+
 // 24: the m equations of rows are ordered by what they use; there are n definitions.
-fn close(
+fn place(
     starts: &[u16],
     used: &[u16],
     n: usize,
@@ -47,8 +86,8 @@ fn close(
     faults: &mut [u8],
 ) -> Plan
     requires { ⌜ Fit m (now starts) (now used) × Holds (now rows) m (take m (now rows)) × (mostStatements ≤ length (now placed)) ⌝ }
-    ensures { λ r. ⌜ ((slots filled p : List ℕ) → outcome r slots filled (now (faults .exit)) (lent p (now (rows .entry)) (now (placed .exit))) ≡
-        closed (order m (usesIn (now (starts .entry)) (now (used .entry)))) n (take m (now (rows .entry))) (now (lines .entry)) slots filled
+    ensures { λ r. ⌜ ((slots filled p : List ℕ) → planOutcome r slots filled (now (faults .exit)) (lent p (now (rows .entry)) (now (placed .exit))) ≡
+        orderedPlan (order m (usesIn (now (starts .entry)) (now (used .entry)))) n (take m (now (rows .entry))) (now (lines .entry)) slots filled
         (now (faults .entry)) (lent p (now (rows .entry)) (now (placed .entry)))) ⌝ }
 {
     let sorted = order::sort(m, starts, used, &mut *placed);
@@ -67,302 +106,8 @@ fn close(
     }
 }
 
-// The m equations of rows are ordered by what they use, which is tabled: w numbers, and where those of each begin.
-fn weigh(
-    lines: &[u16],
-    bounds: &[u16],
-    kinds: &[u8],
-    slots: &[u64],
-    starts: &[u16],
-    used: &[u16],
-    w: usize,
-    faults: &mut [u8],
-    n: usize,
-    rows: &[u16],
-    m: usize,
-    placed: &mut [u16],
-) -> Plan
-    requires { ⌜ Weighs (now lines) (now bounds) (now kinds) (now slots) m w (now starts) (now used) (now rows) × (mostStatements ≤ length (now placed)) ⌝ }
-    ensures { λ r. ⌜ ((p : List ℕ) → outcome r (now (slots .entry)) (now (used .entry)) (now (faults .exit))
-        (lent p (now (rows .entry)) (now (placed .exit))) ≡ weighed (equationRows (length (now (lines .entry))) (now (bounds .entry))
-        (now (kinds .entry))) n (now (lines .entry)) (now (bounds .entry)) (now (kinds .entry)) (now (slots .entry)) (now (used .entry))
-        (now (faults .entry)) (lent p (now (rows .entry)) (now (placed .entry)))) ⌝ }
-{
-    close(
-        &starts[..m + 1],
-        &used[..w],
-        n,
-        rows,
-        m,
-        placed,
-        lines,
-        faults,
-    )
-}
-
-// 22 and 23.
-fn check_names(
-    lines: &[u16],
-    bounds: &[u16],
-    kinds: &[u8],
-    slots: &[u64],
-    starts: &[u16],
-    used: &[u16],
-    w: usize,
-    faults: &mut [u8],
-    places: &[u16],
-    n: usize,
-    rows: &[u16],
-    m: usize,
-    placed: &mut [u16],
-) -> Plan
-    requires { ⌜ Weighs (now lines) (now bounds) (now kinds) (now slots) m w (now starts) (now used) (now rows) × (mostStatements ≤ length (now placed)) ×
-        Holds (now places) n (placesIn (now kinds)) ⌝ }
-    ensures { λ r. ⌜ outcome r (now (slots .entry)) (now (used .entry)) (now (faults .exit)) (lent (now (places .entry)) (now (rows .entry))
-        (now (placed .exit))) ≡ tested (placesIn (now (kinds .entry))) (now (lines .entry)) (now (bounds .entry)) (now (kinds .entry))
-        (now (slots .entry)) (now (used .entry)) (now (faults .entry)) (lent (now (places .entry)) (now (rows .entry)) (now (placed .entry))) ⌝ }
-{
-    let flaws = report_nameless(lines, bounds, &places[..n], kinds, slots, &mut *faults);
-    if 0 < flaws {
-        return refusal(7, flaws);
-    }
-    weigh(
-        lines,
-        bounds,
-        kinds,
-        slots,
-        starts,
-        used,
-        w,
-        faults,
-        n,
-        rows,
-        m,
-        placed,
-    )
-}
-
-// The names are resolved, and what the m equations of rows use is tabled. Where no name is flawed, no statement is.
-fn link(
-    lines: &[u16],
-    bounds: &[u16],
-    kinds: &[u8],
-    args: &mut [u64],
-    used: &mut [u16],
-    faults: &mut [u8],
-    keys: &[u64],
-    hints: &[u8],
-    links: &[u8],
-    owners: &[u16],
-    places: &[u16],
-    n: usize,
-    rows: &[u16],
-    m: usize,
-    placed: &mut [u16],
-) -> Plan
-    requires { ⌜ Keyed (now lines) (now bounds) (now kinds) (now args) (now used) (now keys) (now places) n ×
-        Hinted (now keys) (now hints) (now links) × Holds (now rows) m (equationRows (length (now lines)) (now bounds) (now kinds)) ×
-        Owned (ownSlots (length (now lines)) (now bounds) (now kinds) (resolved (now keys) (now kinds) (now args))) (now owners) ×
-        (mostStatements ≤ length (now placed)) ⌝ }
-    ensures { λ r. ⌜ outcome r (now (args .exit)) (now (used .exit)) (now (faults .exit)) (lent (now (places .entry)) (now (rows .entry))
-        (now (placed .exit))) ≡ tabled (placesIn (now (kinds .entry))) (now (lines .entry)) (now (bounds .entry)) (now (kinds .entry))
-        (resolved (keysIn (now (kinds .entry)) (now (args .entry))) (now (kinds .entry)) (now (args .entry))) (now (used .entry))
-        (now (faults .entry)) (lent (now (places .entry)) (now (rows .entry)) (now (placed .entry))) ⌝ }
-{
-    let mut starts = [0u16; STATEMENTS + 1];
-    let walk = resolve(
-        lines,
-        bounds,
-        kinds,
-        keys,
-        hints,
-        links,
-        &places[..n],
-        owners,
-        &mut *args,
-        &mut starts,
-        &mut *used,
-    );
-    let w = walk.count;
-    if walk.flawed {
-        return check_names(
-            lines,
-            bounds,
-            kinds,
-            args,
-            &starts,
-            used,
-            w,
-            faults,
-            places,
-            n,
-            rows,
-            m,
-            placed,
-        );
-    }
-    weigh(
-        lines,
-        bounds,
-        kinds,
-        args,
-        &starts,
-        used,
-        w,
-        faults,
-        n,
-        rows,
-        m,
-        placed,
-    )
-}
-
-// The equations, and for each slot the one that assigns it.
-fn settle(
-    lines: &[u16],
-    bounds: &[u16],
-    kinds: &[u8],
-    args: &mut [u64],
-    used: &mut [u16],
-    faults: &mut [u8],
-    keys: &[u64],
-    hints: &[u8],
-    links: &[u8],
-    places: &[u16],
-    n: usize,
-    rows: &mut [u16],
-    placed: &mut [u16],
-) -> Plan
-    requires { ⌜ Keyed (now lines) (now bounds) (now kinds) (now args) (now used) (now keys) (now places) n ×
-        Hinted (now keys) (now hints) (now links) × Wide (now rows) (now placed) ⌝ }
-    ensures { λ r. ⌜ outcome r (now (args .exit)) (now (used .exit)) (now (faults .exit)) (lent (now (places .entry)) (now (rows .exit))
-        (now (placed .exit))) ≡ named (placesIn (now (kinds .entry))) (now (lines .entry)) (now (bounds .entry)) (now (kinds .entry))
-        (resolved (keysIn (now (kinds .entry)) (now (args .entry))) (now (kinds .entry)) (now (args .entry))) (now (used .entry))
-        (now (faults .entry)) (lent (now (places .entry)) (now (rows .entry)) (now (placed .entry))) ⌝ }
-{
-    let m = collect_rows(lines.len(), bounds, kinds, &mut *rows);
-    let mut owners = [0u16; STATEMENTS + 1];
-    note_owners(
-        &rows[..m],
-        bounds,
-        kinds,
-        keys,
-        hints,
-        links,
-        args,
-        &mut owners,
-    );
-    link(
-        lines,
-        bounds,
-        kinds,
-        args,
-        used,
-        faults,
-        keys,
-        hints,
-        links,
-        &owners,
-        places,
-        n,
-        rows,
-        m,
-        placed,
-    )
-}
-
-// 21.
-fn check_doubles(
-    lines: &[u16],
-    bounds: &[u16],
-    kinds: &[u8],
-    args: &mut [u64],
-    used: &mut [u16],
-    faults: &mut [u8],
-    keys: &[u64],
-    hints: &[u8],
-    links: &[u8],
-    places: &[u16],
-    n: usize,
-    rows: &mut [u16],
-    placed: &mut [u16],
-) -> Plan
-    requires { ⌜ Keyed (now lines) (now bounds) (now kinds) (now args) (now used) (now keys) (now places) n ×
-        Hinted (now keys) (now hints) (now links) × Wide (now rows) (now placed) ⌝ }
-    ensures { λ r. ⌜ outcome r (now (args .exit)) (now (used .exit)) (now (faults .exit)) (lent (now (places .entry)) (now (rows .exit))
-        (now (placed .exit))) ≡ distinct (now (lines .entry)) (now (bounds .entry)) (now (kinds .entry)) (now (args .entry)) (now (used .entry))
-        (now (faults .entry)) (lent (now (places .entry)) (now (rows .entry)) (now (placed .entry))) ⌝ }
-{
-    let doubles = report_doubles(
-        lines,
-        bounds,
-        keys,
-        hints,
-        links,
-        &places[..n],
-        &mut *faults,
-    );
-    if 0 < doubles {
-        return refusal(7, doubles);
-    }
-    settle(
-        lines,
-        bounds,
-        kinds,
-        args,
-        used,
-        faults,
-        keys,
-        hints,
-        links,
-        places,
-        n,
-        rows,
-        placed,
-    )
-}
-
-// The hints and links by which names are found.
-fn hint(
-    lines: &[u16],
-    bounds: &[u16],
-    kinds: &[u8],
-    args: &mut [u64],
-    used: &mut [u16],
-    faults: &mut [u8],
-    keys: &[u64],
-    places: &[u16],
-    n: usize,
-    rows: &mut [u16],
-    placed: &mut [u16],
-) -> Plan
-    requires { ⌜ Keyed (now lines) (now bounds) (now kinds) (now args) (now used) (now keys) (now places) n × Wide (now rows) (now placed) ⌝ }
-    ensures { λ r. ⌜ outcome r (now (args .exit)) (now (used .exit)) (now (faults .exit)) (lent (now (places .entry)) (now (rows .exit))
-        (now (placed .exit))) ≡ distinct (now (lines .entry)) (now (bounds .entry)) (now (kinds .entry)) (now (args .entry)) (now (used .entry))
-        (now (faults .entry)) (lent (now (places .entry)) (now (rows .entry)) (now (placed .entry))) ⌝ }
-{
-    let mut hints = [0u8; BUCKETS];
-    let mut links = [0u8; STATEMENTS];
-    note_hints(keys, &mut hints, &mut links);
-    check_doubles(
-        lines,
-        bounds,
-        kinds,
-        args,
-        used,
-        faults,
-        keys,
-        &hints,
-        &links,
-        places,
-        n,
-        rows,
-        placed,
-    )
-}
-
-// The definitions, and 6.
-pub(crate) fn define(
+// All stages: the definitions, 6; 21; the names linked, 22 and 23; the order, 24.
+pub(crate) fn run(
     lines: &[u16],
     bounds: &[u16],
     kinds: &[u8],
@@ -374,27 +119,67 @@ pub(crate) fn define(
     placed: &mut [u16],
 ) -> Plan
     requires { ⌜ Sound (now lines) (now bounds) (now kinds) (now used) × (length (now kinds) ≤ length (now args)) ×
-        (mostStatements ≤ length (now places)) × Wide (now rows) (now placed) ⌝ }
-    ensures { λ r. ⌜ outcome r (now (args .exit)) (now (used .exit)) (now (faults .exit)) (lent (now (places .exit)) (now (rows .exit))
+        (mostDefinitions ≤ length (now places)) × Wide (now rows) (now placed) ⌝ }
+    ensures { λ r. ⌜ planOutcome r (now (args .exit)) (now (used .exit)) (now (faults .exit)) (lent (now (places .exit)) (now (rows .exit))
         (now (placed .exit))) ≡ sheeted (now (lines .entry)) (now (bounds .entry)) (now (kinds .entry)) (now (args .entry)) (now (used .entry))
         (now (faults .entry)) (lent (now (places .entry)) (now (rows .entry)) (now (placed .entry))) ⌝ }
 {
-    let mut keys = [0u64; STATEMENTS];
-    let n = collect(lines.len(), bounds, kinds, args, &mut keys, &mut *places);
+    let mut keys = [0u64; DEFINITIONS];
+    let n = collect(kinds, args, &mut keys, &mut *places);
     if DEFINITIONS < n {
         return refusal(6, 0);
     }
-    hint(
+    let mut hints = [0u16; BUCKETS];
+    let mut links = [0u16; DEFINITIONS];
+    note_hints(&keys[..n], &mut hints, &mut links);
+    let doubles = report_doubles(
+        lines,
+        bounds,
+        &keys[..n],
+        &hints,
+        &links,
+        &places[..n],
+        &mut *faults,
+    );
+    if 0 < doubles {
+        return refusal(7, doubles);
+    }
+    let mut starts = [0u16; STATEMENTS + 1];
+    let linked = connect(
         lines,
         bounds,
         kinds,
-        args,
-        used,
-        faults,
+        &mut *args,
+        &mut *used,
         &keys[..n],
-        places,
+        &hints,
+        &links,
+        &places[..n],
+        &mut *rows,
+        &mut starts,
+    );
+    let m = linked.equations;
+    let w = linked.used;
+    let flaws = report_names(
+        linked.flawed,
+        lines,
+        bounds,
+        &places[..n],
+        kinds,
+        args,
+        &mut *faults,
+    );
+    if 0 < flaws {
+        return refusal(7, flaws);
+    }
+    place(
+        &starts[..m + 1],
+        &used[..w],
         n,
         rows,
+        m,
         placed,
+        lines,
+        faults,
     )
 }

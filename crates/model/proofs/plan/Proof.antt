@@ -11,8 +11,8 @@ use Rattle.model.proofs.plan.Tie as tie
 abbrev S : tie.After-fits2 → tie.Start
 S k = k .before .before .before .before .before .before .before .before .before .before
 
-define-requires : tie.Need-define-requires
-define-requires c κs =
+run-requires : tie.Need-run-requires
+run-requires c κs =
     let test = c .before .before .before .before .before .before in
     let k = test .before in
     let a = S k .args in
@@ -28,7 +28,7 @@ returns c =
     let a = S k .args in
     let told = sym (k .fits2 .ensures) ∙ test .if1 .taken in
     planned-fit (a .lines .now) (a .bounds .now) (a .kinds .now) (a .args .now) (a .used .now) (a .faults .now)
-    (lent (a .places .now) (a .rows .now) (a .order .now)) told (done .define .ensures)
+    (lent (a .places .now) (a .rows .now) (a .order .now)) told (done .run .ensures)
 
 returns-2 : tie.Need-returns-2
 returns-2 c =
@@ -42,7 +42,7 @@ plan-spec =
     tie.close
     (tie.spec
     (λ c κs. search needs)
-    define-requires
+    run-requires
     (λ c. search needs)
     (λ c. search needs)
     (λ c. search needs)

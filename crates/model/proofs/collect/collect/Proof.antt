@@ -1,36 +1,49 @@
--- What was looked at is all that there is, or all drafts are gone over.
-use mathlib.Core.Path.{_∙_}
+-- The loop goes over the drafts.
+use Prim.Native.Nat.{_-_}
 use borrow.Author.Needs.{needs}
-use Rattle.model.proofs.Collecting.{collected-all, collected-again}
+use lib.ListN.{length}
+use Rattle.model.proofs.Collecting.{Collecting, collecting-first, collecting-next, collecting-last}
 use Rattle.model.proofs.collect.collect.Statement.{statement}
 use Rattle.model.proofs.collect.collect.Tie as tie
 
--- where the function begins, from where the statements are noted
-abbrev S : tie.After-note-statements → tie.Start
-S k = k .before .before .before .before .before .before .before .before
+abbrev Inv-loop : tie.InvT-loop
+Inv-loop kinds args keys₀ places₀ d₀ i₀ keys places d i = Collecting kinds args keys₀ places₀ d i keys places
 
-returns : tie.Need-returns
-returns c =
-    let count = c .before in
-    let k = count .before .before .before .before .before in
-    collected-all (S k .pre) (k .note-statements .ensures) (c .if1 .taken ∙ count .count-definitions .ensures)
+abbrev μ-loop : tie.MeasureT-loop
+μ-loop kinds args keys₀ places₀ d₀ i₀ keys places d i = length kinds - i
 
-returns-2 : tie.Need-returns-2
-returns-2 c =
-    let run = c .before .before .before .before in
-    let k = run .before .before .before .before .before .before .before .before .before in
-    collected-again (S k .pre) (k .note-statements .ensures) (run .note-run .ensures)
+loop-holds : tie.Need-loop-holds Inv-loop μ-loop
+loop-holds c = collecting-first _ _ _ _
+
+loop-again : tie.Need-loop-again Inv-loop μ-loop
+loop-again c =
+    let noting = c .before .before .before .before in
+    let word = noting .before .before .before in
+    let test = word .before .before in
+    collecting-next (test .before .loop .inv) (test .loop-test .taken) (word .word-at .ensures) (noting .note .ensures)
+
+same-length : tie.Need-same-length Inv-loop μ-loop
+same-length c = c .before .loop .inv .named .long
+
+same-length-2 : tie.Need-same-length-2 Inv-loop μ-loop
+same-length-2 c = c .before .loop .inv .placed .long
+
+returns : tie.Need-returns Inv-loop μ-loop
+returns c = collecting-last (c .before .loop .inv) (c .loop-test .left)
 
 pub collect-spec : {M : Type 1} → statement M
 collect-spec =
     tie.close
     (tie.spec
+    Inv-loop
+    μ-loop
+    loop-holds
+    (λ c. search needs)
     (λ c κs. search needs)
     (λ c κs. search needs)
     (λ c. search needs)
     (λ c. search needs)
-    returns
-    (λ c κs. search needs)
-    (λ c. search needs)
-    (λ c. search needs)
-    returns-2)
+    loop-again
+    same-length
+    same-length-2
+    returns)

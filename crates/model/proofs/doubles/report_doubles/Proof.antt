@@ -31,7 +31,7 @@ returns c =
     let a = s .args in
     let e = repeated-none (a .keys .now) (a .lines .now) (a .bounds .now) (a .places .now) (s .pre .1)
     (sym (c .before .is-repeated .ensures) ∙ not-true _ (c .if1 .taken)) in
-    record { behind = rw e; content = rw e }
+    record { behind = rw e; written = rw e }
 
 passed-requires : tie.Need-passed-requires Inv-loop μ-loop
 passed-requires c κs = omega arith
@@ -65,7 +65,7 @@ put-fault-requires : tie.Need-put-fault-requires Inv-loop μ-loop
 put-fault-requires c κs =
     let at = c .before .before .before .before .before .before in
     let s = at .before .before .before .before .before .before .before .before .before .before .before .before in
-    (c .before .short-at3 .ensures .1, omega (arith, at .loop .inv .1 .few, at .loop .inv .1 .within, s .pre .3))
+    omega (arith, at .loop .inv .1 .few, at .loop .inv .1 .within, s .pre .3)
 
 loop-again : tie.Need-loop-again Inv-loop μ-loop
 loop-again c =

@@ -1,6 +1,8 @@
 -- A statement with drafts is one by its last kind.
+use mathlib.Core.Path.{ap, _∙_}
 use borrow.Author.Needs.{needs}
-use Rattle.model.proofs.Rowing.{last-kind, equation-empty, equation-store, equation-other}
+use Rattle.drafts.specs.Kinds.{closes}
+use Rattle.model.proofs.Rowing.{last-kind, equation-empty, equation-last}
 use Rattle.model.proofs.equations.is_equation.Statement.{statement}
 use Rattle.model.proofs.equations.is_equation.Tie as tie
 
@@ -15,17 +17,8 @@ returns-2 c =
     let test = kind .before .before in
     let s = test .before .before .before .before .before .args in
     let last = last-kind (s .bounds .now) (s .kinds .now) (s .j) (kind .byte-at .ensures) (kind .before .last-of .ensures) in
-    equation-store (s .bounds .now) (s .kinds .now) (s .j) (test .before .short-at2 .ensures .0) (test .before .before .short-at .ensures .0)
-    (test .if1 .left) last (c .if2 .taken)
-
-returns-3 : tie.Need-returns-3
-returns-3 c =
-    let kind = c .before in
-    let test = kind .before .before in
-    let s = test .before .before .before .before .before .args in
-    let last = last-kind (s .bounds .now) (s .kinds .now) (s .j) (kind .byte-at .ensures) (kind .before .last-of .ensures) in
-    equation-other (s .bounds .now) (s .kinds .now) (s .j) (test .before .short-at2 .ensures .0) (test .before .before .short-at .ensures .0)
-    (test .if1 .left) last (c .if2 .left)
+    equation-last (s .bounds .now) (s .kinds .now) (s .j) (test .before .short-at2 .ensures .0)
+    (test .before .before .short-at .ensures .0) (test .if1 .left) (c .is-closing .ensures ∙ ap closes last)
 
 pub is-equation-spec : {M : Type 1} → statement M
 is-equation-spec =
@@ -37,5 +30,5 @@ is-equation-spec =
     returns
     (λ c κs. search needs)
     (λ c κs. search needs)
-    returns-2
-    returns-3)
+    (λ c κs. search needs)
+    returns-2)

@@ -16,7 +16,7 @@ loop-holds : tie.Need-loop-holds Inv-loop μ-loop
 loop-holds c =
     let bucket = c .before .bucket .ensures in
     let s = c .before .before .before .before .before in
-    sought-first (s .pre) (bucket .0) (bucket .1) (c .byte-at .ensures)
+    sought-first (s .pre) (bucket .0) (bucket .1) (c .short-at .ensures .0)
 
 shared-slice-read-if1 : tie.Need-shared-slice-read-if1 Inv-loop μ-loop
 shared-slice-read-if1 c = omega (arith, c .before .loop-test .taken, c .before .before .loop .inv .within)
@@ -31,13 +31,13 @@ loop-less : tie.Need-loop-less Inv-loop μ-loop
 loop-less c =
     let at = c .before .before .before .before in
     let s = at .before .before .before .before .before .before in
-    sought-less (s .pre) (at .loop .inv) (c .before .before .before .loop-test .taken) (c .byte-at2 .ensures)
+    sought-less (s .pre) (at .loop .inv) (c .before .before .before .loop-test .taken) (c .short-at2 .ensures .0)
 
 loop-again : tie.Need-loop-again Inv-loop μ-loop
 loop-again c =
     let at = c .before .before .before .before in
     let s = at .before .before .before .before .before .before in
-    sought-next (s .pre) (at .loop .inv) (c .before .before .before .loop-test .taken) (c .before .if1 .left) (c .byte-at2 .ensures)
+    sought-next (s .pre) (at .loop .inv) (c .before .before .before .loop-test .taken) (c .before .if1 .left) (c .short-at2 .ensures .0)
 
 returns-2 : tie.Need-returns-2 Inv-loop μ-loop
 returns-2 c = sought-none (c .before .loop .inv) (c .loop-test .left)
@@ -50,7 +50,6 @@ find-spec =
     μ-loop
     (λ c κs. search needs)
     (λ c κs. search needs)
-    (λ c. search needs)
     loop-holds
     (λ c. search needs)
     (λ c. search needs)
@@ -59,7 +58,6 @@ find-spec =
     returns
     (λ c. search needs)
     (λ c κs. search needs)
-    (λ c. search needs)
     loop-less
     loop-again
     returns-2)

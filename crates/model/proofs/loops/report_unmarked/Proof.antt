@@ -25,7 +25,7 @@ put-fault-requires : tie.Need-put-fault-requires Inv-loop μ-loop
 put-fault-requires c κs =
     let at = c .before .before .before .before .before in
     let s = at .before .before .before .before .before in
-    (c .before .before .short-at2 .ensures .1, omega (arith, at .loop .inv .few, at .loop .inv .within, s .pre))
+    omega (arith, at .loop .inv .few, at .loop .inv .within, s .pre)
 
 loop-again : tie.Need-loop-again Inv-loop μ-loop
 loop-again c =

@@ -1,16 +1,18 @@
--- Only a name in an expression and a name as initial ask.
-use borrow.Author.Tests.{eq-eqb, ne-eqb}
+-- Only what asks for a name can be undefined.
+use borrow.Author.Needs.{needs}
 use Rattle.model.proofs.names.is_undefined.Statement.{statement}
 use Rattle.model.proofs.names.is_undefined.Tie as tie
 
 returns : tie.Need-returns
-returns c = rw (eq-eqb _ 4 (c .if1 .taken))
+returns c = rw (← c .before .is-asking .ensures, c .if1 .taken)
 
 returns-2 : tie.Need-returns-2
-returns-2 c = rw (ne-eqb _ 4 (c .before .if1 .left), eq-eqb _ 16 (c .if2 .taken))
-
-returns-3 : tie.Need-returns-3
-returns-3 c = rw (ne-eqb _ 4 (c .before .if1 .left), ne-eqb _ 16 (c .if2 .left))
+returns-2 c = rw (← c .before .is-asking .ensures, c .if1 .left)
 
 pub is-undefined-spec : {M : Type 1} → statement M
-is-undefined-spec = tie.close (tie.spec returns returns-2 returns-3)
+is-undefined-spec =
+    tie.close
+    (tie.spec
+    (λ c κs. search needs)
+    returns
+    returns-2)

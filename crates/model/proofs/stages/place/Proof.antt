@@ -2,8 +2,8 @@
 use native.Mathlib.Omega.{arith}
 use borrow.Author.Needs.{needs}
 use Rattle.model.proofs.Staging.{prefix-length, sorts-fit, sorts-long, sorts-short, sorts-whole}
-use Rattle.model.proofs.stages.close.Statement.{statement}
-use Rattle.model.proofs.stages.close.Tie as tie
+use Rattle.model.proofs.stages.place.Statement.{statement}
+use Rattle.model.proofs.stages.place.Tie as tie
 
 -- where the function begins, from where the table is sorted
 abbrev S : tie.After-sort → tie.Start
@@ -39,8 +39,8 @@ returns-3 c =
     let placed = c .before .before .sorted .given .1 in
     sorts-whole (k .sort .ensures) (s .pre .0) (s .pre .2) (s .args .n) (s .args .lines .now) (s .args .faults .now) placed (c .if1 .left) (s .pre .1)
 
-pub close-spec : {M : Type 1} → statement M
-close-spec =
+pub place-spec : {M : Type 1} → statement M
+place-spec =
     tie.close
     (tie.spec
     (λ c κs. search needs)
