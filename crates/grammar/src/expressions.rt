@@ -6,7 +6,6 @@ ghost use Rattle.grammar.specs.Look.{Opening};
 ghost use Rattle.grammar.specs.Grammar.{expr, term, factor, opened, list};
 ghost use Rattle.grammar.specs.Codes.{wantOf, kindOpening};
 ghost use Rattle.grammar.specs.Contract.{opDrafts, PutsOp, Ready, Parses};
-use bits::reads::byte_at;
 use super::faces::Face;
 use super::faces::add_op;
 use super::faces::closer_of;
@@ -15,6 +14,7 @@ use super::faces::leaf_arg;
 use super::faces::mul_op;
 use super::faces::sign_op;
 use super::faces::skip_of;
+use bits::reads::byte_at;
 
 // How reading a part ends: code 0 and the places of the next token and of the next draft; or a fault's code, its token's place, and 0.
 // The fields are of one width, so that no bytes lie between them.

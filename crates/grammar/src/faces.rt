@@ -86,9 +86,18 @@ pub(crate) fn face_of(k: u8) -> Face
         NAME => Face::One { kind: FETCH },
         TIME => Face::One { kind: CLOCK },
         b'(' => Face::Group,
-        INSW => Face::Function { count: 3, kind: drafts::INSW },
-        LIMIT => Face::Function { count: 3, kind: drafts::LIMIT },
-        COMPAR => Face::Function { count: 2, kind: drafts::COMPAR },
+        INSW => Face::Function {
+            count: 3,
+            kind: drafts::INSW,
+        },
+        LIMIT => Face::Function {
+            count: 3,
+            kind: drafts::LIMIT,
+        },
+        COMPAR => Face::Function {
+            count: 2,
+            kind: drafts::COMPAR,
+        },
         _ => Face::Nothing,
     }
 }

@@ -6,11 +6,11 @@ ghost use Rattle.tokens.specs.Held.{heldRow};
 ghost use Rattle.drafts.specs.Tree.{Initial};
 ghost use Rattle.grammar.specs.Parser.{assigned, rated, integrated, statement, calls};
 ghost use Rattle.grammar.specs.Contract.{Ready, Within, Meets, Lists, numberAt, initialAt};
-use bits::reads::byte_at;
 use super::expressions::Part;
 use super::expressions::emit;
 use super::expressions::expression;
 use super::faces::skip_of;
+use bits::reads::byte_at;
 
 // A constant's or an initial's value as a draft, with the place of the next token; or the place where it is missing.
 pub enum Value {

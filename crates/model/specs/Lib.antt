@@ -1,6 +1,8 @@
+-- the paper
 pub mod Definitions
 pub mod Faults
+pub mod Text
+-- as code holds it
 pub mod Places
 pub mod Working
 pub mod Plan
-pub mod Text

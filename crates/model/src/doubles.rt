@@ -5,8 +5,8 @@ ghost use lib.ListN.{length};
 ghost use Rattle.limits.specs.Limits.{mostStatements};
 ghost use Rattle.model.specs.Working.{Reported, Hinted, Rises, before, repeats, repeated};
 use super::hints::find;
-use bits::reads::short_at;
 use super::report::put_fault;
+use bits::reads::short_at;
 
 // How many of the places in front stand before an end; those before `from` are known to.
 fn passed(places: &[u16], end: usize, from: usize) -> usize

@@ -5,10 +5,10 @@ ghost use lib.ListN.{length, replicate};
 ghost use Rattle.limits.specs.Limits.{mostStatements};
 ghost use Rattle.model.specs.Places.{loops};
 ghost use Rattle.model.specs.Working.{Reported, Marked, unmarked};
-use bits::reads::byte_at;
 use super::lists::put_byte;
-use bits::reads::short_at;
 use super::report::put_fault;
+use bits::reads::byte_at;
+use bits::reads::short_at;
 use limits::STATEMENTS;
 
 // Marks the equations that are placed.

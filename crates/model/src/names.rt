@@ -15,8 +15,9 @@ use super::equations::is_equation;
 use super::equations::put_if;
 use super::equations::put_use;
 use super::hints::find;
-use bits::reads::byte_at;
 use super::lists::put_short;
+use super::report::put_fault;
+use bits::reads::byte_at;
 use bits::reads::short_at;
 use bits::reads::word_at;
 use drafts::CONSTANT;
@@ -24,7 +25,6 @@ use drafts::FROM;
 use drafts::home_of;
 use drafts::is_asking;
 use drafts::is_named;
-use super::report::put_fault;
 
 // Whether a draft asks for a name that nothing defines; n is the count of definitions.
 fn is_undefined(n: usize, kind: u8, slot: u64) -> bool

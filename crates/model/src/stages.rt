@@ -63,9 +63,28 @@ fn connect(
 {
     let m = collect_rows(lines.len(), bounds, kinds, &mut *rows);
     let mut owners = [0u16; SLOTS + 1];
-    note_owners(&rows[..m], bounds, kinds, keys, hints, links, args, &mut owners);
+    note_owners(
+        &rows[..m],
+        bounds,
+        kinds,
+        keys,
+        hints,
+        links,
+        args,
+        &mut owners,
+    );
     let walk = resolve(
-        lines, bounds, kinds, keys, hints, links, places, &owners, args, starts, used,
+        lines,
+        bounds,
+        kinds,
+        keys,
+        hints,
+        links,
+        places,
+        &owners,
+        args,
+        starts,
+        used,
     );
     Link {
         equations: m,

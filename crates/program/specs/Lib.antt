@@ -1,2 +1,4 @@
+-- the paper
 pub mod Program
+-- as code holds it
 pub mod Written

@@ -1,15 +1,16 @@
 -- The program as code writes it: by place, over the arrays of a sheet whose names are resolved. Every read past an end gives 0.
 use Prim.Native.Nat.{ℕ, suc, _+_, _-_, _*_, _/_, _%_, min}
 use mathlib.Core.Path.{_≡_}
-use mathlib.Core.Bool.{Bool, cond, _&&_, _||_}
+use mathlib.Core.Bool.{cond}
 use mathlib.Core.List.{List, [], _∷_, _++_}
-use lib.Dec.{eqb, leb}
+use lib.Dec.{eqb}
 use lib.ListN.{length, getD, take}
 use lib.Seq.{sets}
 use Rattle.limits.specs.Limits.{recordBytes}
 use Rattle.laws.specs.Places.{gather}
 use Rattle.bits.specs.Low.{lowBytes}
-use Rattle.drafts.specs.Places.{homeOf, begins, ends, inStatement}
+use Rattle.drafts.specs.Kinds.{kindConstant, kindInitial, kindFrom, kindPush, kindFetch, kindClock, isStep, writes}
+use Rattle.drafts.specs.Places.{begins, ends, inStatement, firstKind, homeOf}
 
 -- the sixteen bytes of a record
 abbrev pub fieldBytes : ℕ → ℕ → ℕ → ℕ → List ℕ
@@ -19,19 +20,16 @@ fieldBytes kind slot line bits = kind ∷ 0 ∷ (lowBytes 2 slot ++ (lowBytes 4 
 abbrev pub headOf : ℕ → ℕ → ℕ → ℕ
 headOf kind slot line = kind + 65536 * (slot % 65536) + 4294967296 * (line % 4294967296)
 
--- ---- which drafts write a record: all but a value behind a constant or an initial
-abbrev pub writes : ℕ → Bool
-writes k = leb 1 k && (leb k 14 || eqb k 17)
-
+-- ---- how many records drafts write
 unfoldable pub recordCount : List ℕ → ℕ
 recordCount [] = 0
 recordCount (k ∷ kinds) = cond (writes k) (suc (recordCount kinds)) (recordCount kinds)
 
 -- ---- the value behind a constant or an initial at place i: its bits, or those behind the constant that the name is
 abbrev pub valueAt : List ℕ → List ℕ → List ℕ → ℕ → ℕ
-valueAt places kinds slots i = cond (eqb (getD kinds (i + 1) 0) 16) (getD slots (homeOf places (getD slots (i + 1) 0) + 1) 0) (getD slots (i + 1) 0)
+valueAt places kinds slots i = cond (eqb (getD kinds (i + 1) 0) kindFrom) (getD slots (homeOf places (getD slots (i + 1) 0) + 1) 0) (getD slots (i + 1) 0)
 
--- the record of a constant (kind 1) or of an initial (kind 2), of the phase
+-- the record of a constant or of an initial, of the phase
 abbrev pub settingAt : ℕ → List ℕ → List ℕ → List ℕ → ℕ → ℕ → List ℕ
 settingAt phase places kinds slots line i =
     cond (eqb (getD kinds i 0) phase) (fieldBytes phase (getD slots i 0) line (valueAt places kinds slots i)) []
@@ -39,21 +37,20 @@ settingAt phase places kinds slots line i =
 -- the record of a draft of an expression, or of a store or derivative
 abbrev pub stepBytes : ℕ → ℕ → ℕ → List ℕ
 stepBytes kind arg line =
-    cond (eqb kind 3) (fieldBytes 3 0 line arg)
-    (cond (eqb kind 17) (fieldBytes 4 0 line 0)
-    (cond (leb 4 kind && leb kind 14) (fieldBytes kind arg line 0) []))
+    cond (eqb kind kindPush) (fieldBytes kindPush 0 line arg)
+    (cond (eqb kind kindClock) (fieldBytes kindFetch 0 line 0) (cond (isStep kind) (fieldBytes kind arg line 0) []))
 
 abbrev pub stepAt : List ℕ → List ℕ → ℕ → ℕ → List ℕ
 stepAt kinds slots line i = stepBytes (getD kinds i 0) (getD slots i 0) line
 
 -- of n drafts of a statement so many can be a setting of the phase: an initial is only ever the first
 abbrev pub reach : ℕ → ℕ → ℕ
-reach phase n = cond (eqb phase 2) (min 1 n) n
+reach phase n = cond (eqb phase kindInitial) (min 1 n) n
 
 -- ---- of a statement: its settings of a phase, where it begins with one; its steps
 abbrev pub settingsOf : ℕ → List ℕ → List ℕ → List ℕ → List ℕ → List ℕ → ℕ → List ℕ
 settingsOf phase places lines bounds kinds slots j =
-    cond (eqb (getD kinds (begins bounds j) 0) phase)
+    cond (eqb (firstKind bounds kinds j) phase)
     (gather (settingAt phase places kinds slots (getD lines j 0)) (reach phase (ends bounds j - begins bounds j)) (begins bounds j)) []
 
 abbrev pub stepsOf : List ℕ → List ℕ → List ℕ → List ℕ → ℕ → List ℕ
@@ -65,11 +62,11 @@ orderedSteps rows lines bounds kinds slots [] = []
 orderedSteps rows lines bounds kinds slots (r ∷ order) =
     stepsOf lines bounds kinds slots (getD rows r 0) ++ orderedSteps rows lines bounds kinds slots order
 
--- first all of kind 1 in text order, then all of kind 2 likewise, then each ordered statement
+-- first all constants in text order, then all initials likewise, then each ordered statement
 unfoldable pub writtenProgram : List ℕ → List ℕ → List ℕ → List ℕ → List ℕ → List ℕ → List ℕ → List ℕ
 writtenProgram places rows lines bounds kinds slots order =
-    gather (settingsOf 1 places lines bounds kinds slots) (length lines) 0
-    ++ (gather (settingsOf 2 places lines bounds kinds slots) (length lines) 0 ++ orderedSteps rows lines bounds kinds slots order)
+    gather (settingsOf kindConstant places lines bounds kinds slots) (length lines) 0
+    ++ (gather (settingsOf kindInitial places lines bounds kinds slots) (length lines) 0 ++ orderedSteps rows lines bounds kinds slots order)
 
 -- ---- what a function that writes says of the bytes that it is lent
 

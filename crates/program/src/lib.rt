@@ -3,51 +3,23 @@ ghost use mathlib.Core.Path.{_≡_};
 ghost use Prim.Native.Nat.{_-_, _≤_, _<_};
 ghost use lib.ListN.{length, getD};
 ghost use lib.Seq.{sets};
-ghost use Rattle.laws.specs.Counts.{once};
 ghost use Rattle.laws.specs.Places.{gather};
-ghost use Rattle.drafts.specs.Places.{homeOf};
-ghost use Rattle.drafts.specs.Kinds.{writes};
 ghost use Rattle.program.specs.Written.{fieldBytes, headOf, recordCount, valueAt, settingAt, reach, settingsOf};
 ghost use Rattle.program.specs.Written.{stepBytes, stepsOf, orderedSteps, writtenProgram, fitting, Fills};
 use bits::put_eight;
+use bits::reads::byte_at;
+use bits::reads::short_at;
+use bits::reads::word_at;
+use drafts::CLOCK;
+use drafts::CONSTANT;
+use drafts::FETCH;
+use drafts::FROM;
+use drafts::INITIAL;
+use drafts::PUSH;
+use drafts::RATE;
+use drafts::home_of;
+use drafts::records_of;
 use limits::RECORD_BYTES;
-
-// The byte at a place, 0 past the end.
-fn byte_at(s: &[u8], i: usize) -> u8
-    ensures { λ r. ⌜ r ≡ getD (now (s .entry)) i 0 ⌝ }
-{
-    if i < s.len() { s[i] } else { 0 }
-}
-
-// The number of two bytes at a place, 0 past the end.
-fn half_at(s: &[u16], i: usize) -> usize
-    ensures { λ r. ⌜ (r ≡ getD (now (s .entry)) i 0) × (r < 65536) ⌝ }
-{
-    if i < s.len() { s[i] as usize } else { 0 }
-}
-
-// The number of eight bytes at a place, 0 past the end.
-fn word_at(s: &[u64], i: usize) -> u64
-    ensures { λ r. ⌜ r ≡ getD (now (s .entry)) i 0 ⌝ }
-{
-    if i < s.len() { s[i] } else { 0 }
-}
-
-// How many records a draft of this kind writes: one or none.
-fn records_of(kind: u8) -> usize
-    ensures { λ r. ⌜ (r ≡ once (writes kind)) × (r ≤ 1) ⌝ }
-{
-    if kind < 1 {
-        return 0;
-    }
-    if kind <= 14 {
-        return 1;
-    }
-    if kind == 17 {
-        return 1;
-    }
-    0
-}
 
 // How many records the drafts of these kinds write.
 pub fn count_records(kinds: &[u8]) -> usize
@@ -90,23 +62,13 @@ fn put_record(kind: u8, slot: u64, line: u64, bits: u64, out: &mut [u8], w: usiz
     end
 }
 
-// The place at which a slot is defined.
-fn home_of(places: &[u16], slot: u64) -> usize
-    ensures { λ r. ⌜ (r ≡ homeOf (now (places .entry)) slot) × (r < 65536) ⌝ }
-{
-    if slot == 0 {
-        return half_at(places, 0);
-    }
-    half_at(places, (slot - 1) as usize)
-}
-
 // The bits of the value behind a constant or an initial.
 fn value_at(places: &[u16], kinds: &[u8], slots: &[u64], i: usize) -> u64
     requires { ⌜ i < 65536 ⌝ }
     ensures { λ r. ⌜ r ≡ valueAt (now (places .entry)) (now (kinds .entry)) (now (slots .entry)) i ⌝ }
 {
     let v = word_at(slots, i + 1);
-    if byte_at(kinds, i + 1) == 16 {
+    if byte_at(kinds, i + 1) == FROM {
         return word_at(slots, home_of(places, v) + 1);
     }
     v
@@ -138,7 +100,7 @@ fn put_setting(
 fn setting_end(phase: u8, from: usize, end: usize) -> usize
     ensures { λ r. ⌜ (r - from ≡ reach phase (end - from)) × (r ≤ end) ⌝ }
 {
-    if phase != 2 {
+    if phase != INITIAL {
         return end;
     }
     if from < end {
@@ -164,12 +126,12 @@ fn put_settings(
         Fills (settingsOf phase (now (places .entry)) (now (lines .entry)) (now (bounds .entry)) (now (kinds .entry)) (now (slots .entry)) j)
         at r (now (out .entry)) (now (out .exit)) ⌝ }
 {
-    let mut i = half_at(bounds, j);
+    let mut i = short_at(bounds, j);
     if byte_at(kinds, i) != phase {
         return at;
     }
-    let line = half_at(lines, j) as u64;
-    let end = setting_end(phase, i, half_at(bounds, j + 1));
+    let line = short_at(lines, j) as u64;
+    let end = setting_end(phase, i, short_at(bounds, j + 1));
     let mut w = at;
     while i < end {
         w = put_setting(phase, places, kinds, slots, line, i, &mut *out, w);
@@ -210,16 +172,16 @@ fn put_step(kind: u8, arg: u64, line: u64, out: &mut [u8], w: usize) -> usize
     requires { ⌜ w ≤ length (now out) ⌝ }
     ensures { λ r. ⌜ Fills (stepBytes kind arg line) w r (now (out .entry)) (now (out .exit)) ⌝ }
 {
-    if kind == 3 {
-        return put_record(3, 0, line, arg, out, w);
+    if kind == PUSH {
+        return put_record(PUSH, 0, line, arg, out, w);
     }
-    if kind == 17 {
-        return put_record(4, 0, line, 0, out, w);
+    if kind == CLOCK {
+        return put_record(FETCH, 0, line, 0, out, w);
     }
-    if kind < 4 {
+    if kind < FETCH {
         return w;
     }
-    if 14 < kind {
+    if RATE < kind {
         return w;
     }
     put_record(kind, arg, line, 0, out, w)
@@ -240,9 +202,9 @@ fn put_steps(
         Fills (stepsOf (now (lines .entry)) (now (bounds .entry)) (now (kinds .entry)) (now (slots .entry)) j)
         at r (now (out .entry)) (now (out .exit)) ⌝ }
 {
-    let line = half_at(lines, j) as u64;
-    let end = half_at(bounds, j + 1);
-    let mut i = half_at(bounds, j);
+    let line = short_at(lines, j) as u64;
+    let end = short_at(bounds, j + 1);
+    let mut i = short_at(bounds, j);
     let mut w = at;
     while i < end {
         w = put_step(byte_at(kinds, i), word_at(slots, i), line, &mut *out, w);
@@ -270,7 +232,7 @@ fn put_ordered(
     let mut w = at;
     let mut q: usize = 0;
     while q < order.len() {
-        let j = half_at(rows, half_at(order, q));
+        let j = short_at(rows, short_at(order, q));
         w = put_steps(lines, bounds, kinds, slots, j, &mut *out, w);
         q += 1;
     }
@@ -294,7 +256,7 @@ pub fn put_program(
         let q = fitting (length (now (out .entry))) p in
         (r ≡ length q) × (now (out .exit) ≡ sets (now (out .entry)) 0 q)) ⌝ }
 {
-    let a = put_all_settings(1, places, lines, bounds, kinds, slots, &mut *out, 0);
-    let b = put_all_settings(2, places, lines, bounds, kinds, slots, &mut *out, a);
+    let a = put_all_settings(CONSTANT, places, lines, bounds, kinds, slots, &mut *out, 0);
+    let b = put_all_settings(INITIAL, places, lines, bounds, kinds, slots, &mut *out, a);
     put_ordered(rows, lines, bounds, kinds, slots, order, out, b)
 }

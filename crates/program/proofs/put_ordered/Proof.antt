@@ -29,7 +29,7 @@ loop-again c =
     let h = c .before .before .before .before in
     let t = h .before .before in
     filling-next (t .before .loop .inv) (t .loop-test .taken)
-    (rw (← (h .before .half-at .ensures .0), ← (h .half-at2 .ensures .0)) (c .before .before .put-steps .ensures))
+    (rw (← (h .before .short-at .ensures .0), ← (h .short-at2 .ensures .0)) (c .before .before .put-steps .ensures))
 
 same-length : tie.Need-same-length Inv-loop μ-loop
 same-length c = c .before .loop .inv .long

@@ -16,7 +16,7 @@ abbrev μ-loop : tie.MeasureT-loop
 loop-holds : tie.Need-loop-holds Inv-loop μ-loop
 loop-holds c =
     let s = c .before .before .before .before .before .before .before .before in
-    filling-first _ _ _ _ _ (whole-step-at (s .args .kinds .now) (s .args .slots .now) (c .before .before .half-at .result)) (s .pre .1)
+    filling-first _ _ _ _ _ (whole-step-at (s .args .kinds .now) (s .args .slots .now) (c .before .before .short-at .result)) (s .pre .1)
 
 put-step-requires : tie.Need-put-step-requires Inv-loop μ-loop
 put-step-requires c κs = c .before .before .before .before .loop .inv .within
@@ -34,7 +34,7 @@ same-length c = c .before .loop .inv .long
 returns : tie.Need-returns Inv-loop μ-loop
 returns c =
     let h = c .before .before in
-    rw (← (h .half-at3 .ensures .0), ← (h .before .half-at2 .ensures .0), ← (h .before .before .half-at .ensures .0))
+    rw (← (h .short-at3 .ensures .0), ← (h .before .short-at2 .ensures .0), ← (h .before .before .short-at .ensures .0))
     (filling-all (c .before .loop .inv) (c .loop-test .left))
 
 pub put-steps-spec : {M : Type 1} → statement M

@@ -1,9 +1,0 @@
-use borrow.Author.Needs.{needs}
-use Rattle.program.proofs.home_of.Statement.{statement}
-use Rattle.program.proofs.home_of.Tie as tie
-
-returns : tie.Need-returns
-returns c = rw (c .before .if1 .taken) (c .half-at .ensures)
-
-pub home-of-spec : {M : Type 1} → statement M
-home-of-spec = tie.close (tie.spec (λ c κs. search needs) returns (λ c. search needs) (λ c κs. search needs) (λ c. search needs))
