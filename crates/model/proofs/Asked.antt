@@ -20,7 +20,7 @@ use Rattle.sheet.specs.Sheet.{Numbered, Fault}
 use Rattle.sheet.specs.Layout.{draftsIn}
 use Rattle.model.specs.Definitions.{Def, definedBy, definitions, placeIn}
 use Rattle.model.specs.Faults.{initialNames, constantKeys, within, nameFault, nameFaultOf, nameFaults}
-use Rattle.drafts.specs.Kinds.{asks}
+use Rattle.drafts.specs.Kinds.{kindConstant, kindFetch, kindFrom, asks}
 use Rattle.drafts.specs.Places.{homeOf}
 use Rattle.model.specs.Places.{undefinedAt, unfitAt, namesAt, nameless}
 use Rattle.model.proofs.Drafts.{noDraft, expressionDrafts, expression-names, Home, homeOfDef}
@@ -50,8 +50,8 @@ abbrev marks : (ℕ → Bool) → List ℕ → List (Unit {0})
 marks F ks = concat-map (λ k. mark (F k)) ks
 
 -- ---- a test G of drafts that is F of a name in an expression, I of an initial's name, and false of all others
-module _ (G : Draft → Bool) (F I : ℕ → Bool) (four : (a : ℕ) → G (draft 4 a) ≡ F a) (sixteen : (a : ℕ) → G (draft 16 a) ≡ I a)
-    (rest : (k a : ℕ) → eqb k 4 ≡ false → eqb k 16 ≡ false → G (draft k a) ≡ false) where
+module _ (G : Draft → Bool) (F I : ℕ → Bool) (four : (a : ℕ) → G (draft kindFetch a) ≡ F a) (sixteen : (a : ℕ) → G (draft kindFrom a) ≡ I a)
+    (rest : (k a : ℕ) → eqb k kindFetch ≡ false → eqb k kindFrom ≡ false → G (draft k a) ≡ false) where
   -- constants have no marks
   constants-marks : (cs : List Constant) → concat-map (λ d. mark (G d)) (concat-map constantDrafts cs) ≡ []
   unfolding concat-map
@@ -133,13 +133,13 @@ module _ (ss : List Numbered) where
 
   -- ---- an initial's name that is no constant, as a test of names, of places and of drafts
   abbrev other : ℕ → Bool
-  other k = not (eqb (getD (sheetKinds ss) (placeOf k) 0) 1)
+  other k = not (eqb (getD (sheetKinds ss) (placeOf k) 0) kindConstant)
 
   abbrev unfitIn : ℕ → Bool
   unfitIn i = unfitAt (sheetPlaces ss) (sheetKinds ss) (sheetSlots ss) i
 
   abbrev unfit : Draft → Bool
-  unfit d = eqb (d .kind) 16 && not (eqb (getD (sheetKinds ss) (homeOf (sheetPlaces ss) (slotOf ks d)) 0) 1)
+  unfit d = eqb (d .kind) kindFrom && not (eqb (getD (sheetKinds ss) (homeOf (sheetPlaces ss) (slotOf ks d)) 0) kindConstant)
 
   unfit-at : (i : ℕ) → unfitIn i ≡ unfit (getD (draftsIn ss) i noDraft)
   unfit-at i = rw (kind-at (draftsIn ss) i, slot-at ks (draftsIn ss) i)

@@ -16,7 +16,7 @@ use Rattle.drafts.specs.Tree.{constants, assignment, state}
 use Rattle.drafts.specs.Items.{Item, push, fetch, clock, negate, apply-two, apply-three, postfix}
 use Rattle.drafts.specs.Drafts.{Draft, draft, draftItem, draftsOf}
 use Rattle.model.specs.Definitions.{What, constant, assigned, integral, Def, definedBy, keys}
-use Rattle.drafts.specs.Kinds.{defines}
+use Rattle.drafts.specs.Kinds.{kindNumber, kindConstant, kindInitial, kindFetch, kindStore, kindRate, kindFrom, defines}
 
 -- what is read past the end
 abbrev pub noDraft : Draft
@@ -26,7 +26,7 @@ noDraft = draft 0 0
 
 -- a kind that neither defines a name nor is that of an initial's name
 abbrev pub Plain : ℕ → Type 0
-Plain k = (defines k ≡ false) × (eqb k 16 ≡ false) × (eqb k 1 ≡ false) × (eqb k 2 ≡ false)
+Plain k = (defines k ≡ false) × (eqb k kindFrom ≡ false) × (eqb k kindConstant ≡ false) × (eqb k kindInitial ≡ false)
 
 -- the name that an item fetches
 abbrev fetched : Item → List ℕ
@@ -38,8 +38,8 @@ fetched (apply-two o) = []
 fetched (apply-three o) = []
 
 -- what is given for a name's draft and for every other plain one is given for each item
-by-item : (P : Item → Draft → Type 0) → ((k : ℕ) → Plain 4 → P (fetch k) (draft 4 k))
-    → ((x : Item) (k a : ℕ) → Plain k → eqb k 4 ≡ false → fetched x ≡ [] → P x (draft k a)) → (x : Item) → P x (draftItem x)
+by-item : (P : Item → Draft → Type 0) → ((k : ℕ) → Plain kindFetch → P (fetch k) (draft kindFetch k))
+    → ((x : Item) (k a : ℕ) → Plain k → eqb k kindFetch ≡ false → fetched x ≡ [] → P x (draft k a)) → (x : Item) → P x (draftItem x)
 by-item P four rest (push x) = rest (push x) 3 (toBits binary64 x) (refl, refl, refl, refl) refl refl
 by-item P four rest (fetch k) = four k (refl, refl, refl, refl)
 by-item P four rest clock = rest clock 17 0 (refl, refl, refl, refl) refl refl
@@ -96,8 +96,8 @@ expression-none G none e z =
     sym (along-one G noDraft (expressionDrafts e ++ (z ∷ [])) []) ∙ along-expression (λ l. G (getD l 0 noDraft)) (λ k a l p. none k a p) e z []
 
 -- what gives something for names alone gives it for the names of the expression, and then for the draft behind it
-pub expression-names : {B : Type 0} (G : Draft → List B) (F : ℕ → List B) → ((a : ℕ) → G (draft 4 a) ≡ F a)
-    → ((k a : ℕ) → Plain k → eqb k 4 ≡ false → G (draft k a) ≡ [])
+pub expression-names : {B : Type 0} (G : Draft → List B) (F : ℕ → List B) → ((a : ℕ) → G (draft kindFetch a) ≡ F a)
+    → ((k a : ℕ) → Plain k → eqb k kindFetch ≡ false → G (draft k a) ≡ [])
     → (e : Tree) (z : Draft) → concat-map G (expressionDrafts e ++ (z ∷ [])) ≡ concat-map F (names e) ++ (G z ++ [])
 unfolding concat-map
 expression-names G F four rest e z =
@@ -126,9 +126,9 @@ pub defined-keys : (l : ℕ) (x : Says) → concat-map keyOf (draftsOf x) ≡ ke
 unfolding concat-map
 defined-keys l (constants []) = refl
 defined-keys l (constants (c ∷ cs)) = ap (_∷_ (c .key)) (defined-keys l (constants cs))
-defined-keys l (assignment k e) = expression-none keyOf key-none e (draft 13 k)
-defined-keys l (state k (plain x) e) = ap (_∷_ k) (expression-none keyOf key-none e (draft 14 k))
-defined-keys l (state k (from c) e) = ap (_∷_ k) (expression-none keyOf key-none e (draft 14 k))
+defined-keys l (assignment k e) = expression-none keyOf key-none e (draft kindStore k)
+defined-keys l (state k (plain x) e) = ap (_∷_ k) (expression-none keyOf key-none e (draft kindRate k))
+defined-keys l (state k (from c) e) = ap (_∷_ k) (expression-none keyOf key-none e (draft kindRate k))
 
 -- ---- where a name is defined: the draft that defines it and, of a constant, the draft behind that
 pub record Home : Type 0 where
@@ -137,7 +137,7 @@ pub record Home : Type 0 where
 
 -- of a draft and the one behind it
 abbrev pub home : Draft → Draft → Home
-home d b = record { own = d; behind = cond (eqb (d .kind) 1) b noDraft }
+home d b = record { own = d; behind = cond (eqb (d .kind) kindConstant) b noDraft }
 
 -- of a draft with all that stands behind it
 abbrev pub homesAt : List Draft → List Home
@@ -145,13 +145,13 @@ homesAt l = onlyIf (defines (getD l 0 noDraft .kind)) (home (getD l 0 noDraft) (
 
 -- of a definition: the kind of its draft
 abbrev pub kindOfWhat : What → ℕ
-kindOfWhat (constant x) = 1
-kindOfWhat (assigned e) = 13
-kindOfWhat (integral i e) = 2
+kindOfWhat (constant x) = kindConstant
+kindOfWhat (assigned e) = kindStore
+kindOfWhat (integral i e) = kindInitial
 
 -- what stands behind a constant's
 abbrev pub behindWhat : What → Draft
-behindWhat (constant x) = draft 0 (toBits binary64 x)
+behindWhat (constant x) = draft kindNumber (toBits binary64 x)
 behindWhat (assigned e) = noDraft
 behindWhat (integral i e) = noDraft
 
@@ -170,7 +170,7 @@ homes-none k a l p = rw (p .0)
 pub defined-homes : (l : ℕ) (x : Says) (q : List Draft) → along homesAt (draftsOf x) q ≡ map homeOfDef (definedBy l x)
 unfolding along concat-map
 defined-homes l (constants []) q = refl
-defined-homes l (constants (c ∷ cs)) q = ap (_∷_ (home (draft 1 (c .key)) (draft 0 (toBits binary64 (c .worth))))) (defined-homes l (constants cs) q)
-defined-homes l (assignment k e) q = along-expression homesAt homes-none e (draft 13 k) q
-defined-homes l (state k (plain x) e) q = ap (_∷_ (home (draft 2 k) noDraft)) (along-expression homesAt homes-none e (draft 14 k) q)
-defined-homes l (state k (from c) e) q = ap (_∷_ (home (draft 2 k) noDraft)) (along-expression homesAt homes-none e (draft 14 k) q)
+defined-homes l (constants (c ∷ cs)) q = ap (_∷_ (home (draft kindConstant (c .key)) (draft kindNumber (toBits binary64 (c .worth))))) (defined-homes l (constants cs) q)
+defined-homes l (assignment k e) q = along-expression homesAt homes-none e (draft kindStore k) q
+defined-homes l (state k (plain x) e) q = ap (_∷_ (home (draft kindInitial k) noDraft)) (along-expression homesAt homes-none e (draft kindRate k) q)
+defined-homes l (state k (from c) e) q = ap (_∷_ (home (draft kindInitial k) noDraft)) (along-expression homesAt homes-none e (draft kindRate k) q)

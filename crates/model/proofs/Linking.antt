@@ -12,7 +12,7 @@ use Rattle.laws.proofs.Tests.{cond-ind}
 use Rattle.laws.proofs.Bools.{or-false}
 use Rattle.laws.proofs.Sets.{sets-append}
 use Rattle.laws.proofs.Gathers.{gather-more, gather-none, gather-same}
-use Rattle.drafts.specs.Kinds.{defines, isNamed}
+use Rattle.drafts.specs.Kinds.{kindFetch, defines, isNamed}
 use Rattle.drafts.specs.Places.{begins, ends, inStatement}
 use Rattle.laws.specs.Put.{Put}
 use Rattle.model.specs.Places.{resolvedAt, resolved, isEquation, equationRows}
@@ -42,12 +42,12 @@ put-none w buf = record { behind = omega arith; written = refl }
 used-one : (owners : List ℕ) (kind slot : ℕ) → length (usedHere owners kind slot) ≤ 1
 used-one owners kind slot =
     let o = getD owners slot 0 in
-    cond-ind (λ (l : List ℕ). length l ≤ 1) (eqb kind 4) (usedOwner owners slot) [] (λ _. only-length (ltb 0 o) (o - 1)) (λ _. omega arith)
+    cond-ind (λ (l : List ℕ). length l ≤ 1) (eqb kind kindFetch) (usedOwner owners slot) [] (λ _. only-length (ltb 0 o) (o - 1)) (λ _. omega arith)
 
 used-other : (owners : List ℕ) (kind slot : ℕ) → isNamed kind ≡ false → usedHere owners kind slot ≡ []
 used-other owners kind slot n =
     let a = or-false (defines kind) _ n .1 in
-    let b = or-false (eqb kind 4) _ a .0 in
+    let b = or-false (eqb kind kindFetch) _ a .0 in
     rw b
 
 abbrev pub walk : ℕ → Bool → Walk
@@ -169,7 +169,7 @@ module _ (bounds kinds slots owners assigned : List ℕ) (same : (i : ℕ) → u
       go : (b : Bool) → m ≡ cond b (length owners) 0
           → inStatement bounds (usedFrom (take m owners) kinds slots) j ≡ cond b (inStatement bounds (usedAt assigned kinds slots) j) []
       go true q = rw (q, take-all (length owners) owners (omega arith)) (gather-same _ _ count begin (λ i _ _. same i))
-      go false q = rw q (gather-none (usedFrom [] kinds slots) count begin (λ i _ _. none (getD slots i 0) (eqb (getD kinds i 0) 4)))
+      go false q = rw q (gather-none (usedFrom [] kinds slots) count begin (λ i _ _. none (getD slots i 0) (eqb (getD kinds i 0) kindFetch)))
 
 pub record Stating (lines bounds kinds keys places args₀ starts₀ used₀ : List ℕ) (n : Walk) (r j : ℕ) (args starts used : List ℕ) : Type 0 where
   pub within : j ≤ length lines

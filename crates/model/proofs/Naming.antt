@@ -16,7 +16,7 @@ use Rattle.laws.proofs.Runs.{held as stands}
 use Rattle.laws.proofs.Gathers.{any-step, any-stop, any-pass, any-done}
 use Rattle.model.specs.Definitions.{placeIn}
 use Rattle.model.specs.Faults.{faultIf, nameFault}
-use Rattle.drafts.specs.Kinds.{defines, isNamed, asks}
+use Rattle.drafts.specs.Kinds.{kindConstant, kindFetch, kindStore, kindRate, kindFrom, defines, isNamed, asks}
 use Rattle.drafts.specs.Places.{homeOf, begins, ends, anyOf}
 use Rattle.model.specs.Places.{resolvedAt, resolved, undefinedAt, unfitAt, namesAt}
 use Rattle.model.specs.Working.{flawedBy, flawedAt, Resolved, Resolving, flawOf}
@@ -42,8 +42,8 @@ pub undefined-read : (n : ℕ) {kind slot a b : ℕ} → kind ≡ a → slot ≡
 undefined-read n p q = ap₂ (λ (k s : ℕ). asks k && ltb n s) p q
 
 pub unfit-read : (places kinds : List ℕ) {kind slot a b : ℕ} → kind ≡ a → slot ≡ b
-    → (eqb kind 16 && not (eqb (getD kinds (homeOf places slot) 0) 1)) ≡ (eqb a 16 && not (eqb (getD kinds (homeOf places b) 0) 1))
-unfit-read places kinds p q = ap₂ (λ (k s : ℕ). eqb k 16 && not (eqb (getD kinds (homeOf places s) 0) 1)) p q
+    → (eqb kind kindFrom && not (eqb (getD kinds (homeOf places slot) 0) kindConstant)) ≡ (eqb a kindFrom && not (eqb (getD kinds (homeOf places b) 0) kindConstant))
+unfit-read places kinds p q = ap₂ (λ (k s : ℕ). eqb k kindFrom && not (eqb (getD kinds (homeOf places s) 0) kindConstant)) p q
 
 -- ---- a slot: one more than the place of a name, and what is no name
 pub slot-named : (keys : List ℕ) (kind arg : ℕ) {r : ℕ} → isNamed kind ≡ true → r ≡ placeIn arg keys → r + 1 ≡ resolvedAt keys kind arg
@@ -67,7 +67,7 @@ resolved-at keys (k ∷ kinds) (a ∷ args) (suc i) h l = resolved-at keys kinds
 pub slot-stored : (keys kinds args : List ℕ) (i : ℕ) {kind r a : ℕ} → length kinds ≤ length args → kind ≡ getD kinds i 0 → kind ≡ 13
     → a ≡ getD args i 0 → r ≡ placeIn a keys → r + 1 ≡ getD (resolved keys kinds args) i 0
 slot-stored keys kinds args i {kind} {r} {a} l k e p q =
-    let stored : getD kinds i 0 ≡ 13 = sym k ∙ e in
+    let stored : getD kinds i 0 ≡ kindStore = sym k ∙ e in
     let value : getD (resolved keys kinds args) i 0 ≡ suc (placeIn (getD args i 0) keys) =
     resolved-at keys kinds args i (stands 13 kinds i refl stored) l ∙ ap (λ (j : ℕ). resolvedAt keys j (getD args i 0)) stored in
     let same : r ≡ placeIn (getD args i 0) keys = q ∙ ap (λ (x : ℕ). placeIn x keys) p in
@@ -77,8 +77,8 @@ slot-stored keys kinds args i {kind} {r} {a} l k e p q =
 other-clear : (places kinds : List ℕ) (kind slot : ℕ) → isNamed kind ≡ false → flawedBy places kinds kind slot ≡ false
 other-clear places kinds kind slot n =
     let a = or-false (defines kind) _ n .1 in
-    let b = or-false (eqb kind 4) _ a in
-    let d = or-false (eqb kind 14) _ (b .1) in
+    let b = or-false (eqb kind kindFetch) _ a in
+    let d = or-false (eqb kind kindRate) _ (b .1) in
     rw (b .0, d .1)
 
 -- ---- the drafts before place i are resolved, and those that are flawed are noted

@@ -5,6 +5,7 @@ use mathlib.Core.Bool.{Bool, true, false, cond}
 use mathlib.Core.Logic.{⊎-elim}
 use mathlib.Core.List.{List, [], _∷_, map}
 use native.Mathlib.Omega.{arith}
+use Rattle.drafts.specs.Kinds.{kindFetch}
 use borrow.Author.Tests.{eq-eqb, ne-eqb, lt-ltb}
 use lib.Dec.{ltb, leb·suc-suc}
 use lib.ListN.{length, getD, set, drop, replicate, length-set, length-map, length-replicate, getD-replicate, drop-of-length-le}
@@ -122,9 +123,9 @@ owner-used assigned owners s e = rw e (go (ltb (placeIn s assigned) (length assi
 pub used-same : {assigned owners kinds slots : List ℕ} → Owned assigned owners → Slotted kinds slots → (i : ℕ)
     → usedFrom owners kinds slots i ≡ usedAt assigned kinds slots i
 used-same {assigned} {owners} {kinds} {slots} o s i =
-    ⊎-elim (λ (e : getD kinds i 0 ≡ 4). named e) (λ (n : getD kinds i 0 ≡ 4 → ⊥). rw (ne-eqb (getD kinds i 0) 4 n)) (eq-or-ne (getD kinds i 0) 4)
+    ⊎-elim (λ (e : getD kinds i 0 ≡ kindFetch). named e) (λ (n : getD kinds i 0 ≡ kindFetch → ⊥). rw (ne-eqb (getD kinds i 0) kindFetch n)) (eq-or-ne (getD kinds i 0) 4)
   where
-    named : getD kinds i 0 ≡ 4 → usedFrom owners kinds slots i ≡ usedAt assigned kinds slots i
+    named : getD kinds i 0 ≡ kindFetch → usedFrom owners kinds slots i ≡ usedAt assigned kinds slots i
     named e =
-        rw (eq-eqb (getD kinds i 0) 4 e)
+        rw (eq-eqb (getD kinds i 0) kindFetch e)
         (owner-used assigned owners (getD slots i 0) (o .owner (getD slots i 0) (omega (arith, o .long, s .slot i e))))

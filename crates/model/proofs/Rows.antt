@@ -4,6 +4,7 @@ use mathlib.Core.Path.{_≡_, refl, sym, ap, _∙_}
 use mathlib.Core.Bool.{Bool, true, false, cond, _||_}
 use mathlib.Core.List.{List, [], _∷_, _++_, map, append-nil}
 use native.Mathlib.Omega.{arith}
+use Rattle.drafts.specs.Kinds.{kindNumber, kindConstant, kindInitial, kindFetch, kindStore, kindRate}
 use borrow.Author.Tests.{lt-ltb, le-ltb}
 use lib.Dec.{eqb}
 use lib.ListN.{length, getD, length-append, length-map}
@@ -37,9 +38,9 @@ abbrev pub usedByNames : List ℕ → List ℕ → List ℕ → List ℕ
 usedByNames assigned ks ns = concat-map (λ k. usedBy assigned (suc (placeIn k ks))) ns
 
 -- the last draft of constants is a value
-constants-end : (c : Constant) (cs : List Constant) → (m : List Draft) × (x : ℕ) × (concat-map constantDrafts (c ∷ cs) ≡ m ++ (draft 0 x ∷ []))
+constants-end : (c : Constant) (cs : List Constant) → (m : List Draft) × (x : ℕ) × (concat-map constantDrafts (c ∷ cs) ≡ m ++ (draft kindNumber x ∷ []))
 unfolding concat-map
-constants-end c [] = (draft 1 (c .key) ∷ [], _, refl)
+constants-end c [] = (draft kindConstant (c .key) ∷ [], _, refl)
 constants-end c (d ∷ cs) =
     let r = constants-end d cs in
     let f = constantDrafts c in
@@ -53,7 +54,7 @@ speaks (state k i e) = true
 
 -- the drafts of a state statement, all but the last
 abbrev stateFront : ℕ → Initial → Tree → List Draft
-stateFront k i t = draft 2 k ∷ initialDraft i ∷ expressionDrafts t
+stateFront k i t = draft kindInitial k ∷ initialDraft i ∷ expressionDrafts t
 
 module _ (ss : List Numbered) where
   abbrev ds : List Def
@@ -89,9 +90,9 @@ module _ (ss : List Numbered) where
     is-equation (constants []) e =
         let l : end ≤ begin = omega (arith, begins-at ss a s b p, ends-at ss a s b p, ap (λ x. length (draftsOf x)) e) in
         rw (le-ltb begin end l)
-    is-equation (constants (c ∷ cs)) e = let r = constants-end c cs in ends-with (r .0) (draft 0 (r .1)) (ap draftsOf e ∙ r .2)
-    is-equation (assignment k t) e = ends-with (expressionDrafts t) (draft 13 k) (ap draftsOf e)
-    is-equation (state k i t) e = ends-with (stateFront k i t) (draft 14 k) (ap draftsOf e)
+    is-equation (constants (c ∷ cs)) e = let r = constants-end c cs in ends-with (r .0) (draft kindNumber (r .1)) (ap draftsOf e ∙ r .2)
+    is-equation (assignment k t) e = ends-with (expressionDrafts t) (draft kindStore k) (ap draftsOf e)
+    is-equation (state k i t) e = ends-with (stateFront k i t) (draft kindRate k) (ap draftsOf e)
 
   -- WHAT STANDS AT EACH ROW: h gives at each equation's statement what H says of the equation
   pub rows-by : {B : Type 0} (h : ℕ → B) (H : Equation → B)
@@ -140,8 +141,8 @@ module _ (ss : List Numbered) where
   -- THE SLOTS that the equations assign
   pub row-slots : map assignedAt (sheetRows ss) ≡ map (slotFor ks) (equations ds)
   row-slots =
-      rows-by assignedAt (slotFor ks) (λ a s b p k t e. last-slot a s b p (expressionDrafts t) (draft 13 k) (ap draftsOf e))
-      (λ a s b p k i t e. last-slot a s b p (stateFront k i t) (draft 14 k) (ap draftsOf e))
+      rows-by assignedAt (slotFor ks) (λ a s b p k t e. last-slot a s b p (expressionDrafts t) (draft kindStore k) (ap draftsOf e))
+      (λ a s b p k i t e. last-slot a s b p (stateFront k i t) (draft kindRate k) (ap draftsOf e))
 
   -- ---- what each equation uses, by the slots that are assigned
   module _ (assigned : List ℕ) where
@@ -150,7 +151,7 @@ module _ (ss : List Numbered) where
 
     -- of a draft
     abbrev usedByDraft : Draft → List ℕ
-    usedByDraft d = cond (eqb (d .kind) 4) (usedBy assigned (slotOf ks d)) []
+    usedByDraft d = cond (eqb (d .kind) kindFetch) (usedBy assigned (slotOf ks d)) []
 
     -- of an expression with one draft behind it
     used-ending : (t : Tree) (z k : ℕ) → eqb z 4 ≡ false

@@ -13,6 +13,7 @@ use Rattle.laws.proofs.Tests.{cond-ind}
 use Rattle.laws.proofs.Lists.{concat-append}
 use Rattle.laws.proofs.Along.{startsAt, length-starts, start-at, end-at, part-at}
 use Rattle.laws.proofs.Members.{at-in, Below, below-concat, below-gather, below-only}
+use Rattle.drafts.specs.Kinds.{kindFetch}
 use Rattle.model.specs.Definitions.{placeIn}
 use Rattle.model.specs.Places.{assignedSlot, assignedSlots, usedBy, usedAt, usedOfRow, usedIn, startsFrom}
 
@@ -66,7 +67,7 @@ module _ (bounds kinds slots rows : List ℕ) where
     where
       one : (i : ℕ) → Below (length assignedOf) (usedAt assignedOf kinds slots i)
       one i =
-          cond-ind (Below (length assignedOf)) (eqb (getD kinds i 0) 4) (usedBy assignedOf (getD slots i 0)) []
+          cond-ind (Below (length assignedOf)) (eqb (getD kinds i 0) kindFetch) (usedBy assignedOf (getD slots i 0)) []
           (λ t. below-only (length assignedOf) (placeIn (getD slots i 0) assignedOf)) (λ t j h. absurd (omega arith))
 
   -- the same by place

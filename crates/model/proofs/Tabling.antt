@@ -15,6 +15,7 @@ use Rattle.laws.proofs.Tests.{cond-ind, eq-or-ne}
 use Rattle.laws.proofs.Members.{Below, below-append, below-gather, below-only, at-in}
 use Rattle.laws.proofs.Gathers.{gather-add, gather-short}
 use Rattle.order.specs.Table.{Fit}
+use Rattle.drafts.specs.Kinds.{kindFetch}
 use Rattle.model.specs.Definitions.{placeIn}
 use Rattle.drafts.specs.Places.{begins, ends}
 use Rattle.model.specs.Places.{isEquation, equationRows, assignedSlot, assignedSlots, usedBy, usedAt, usedOfRow, usedIn, startsFrom}
@@ -51,13 +52,13 @@ module _ (assigned bounds kinds slots : List ℕ) where
   used-single : (i : ℕ) → length (usedAt assigned kinds slots i) ≤ 1
   used-single i =
       let p = placeIn (getD slots i 0) assigned in
-      cond-ind (λ (l : List ℕ). length l ≤ 1) (eqb (getD kinds i 0) 4) (usedBy assigned (getD slots i 0)) []
+      cond-ind (λ (l : List ℕ). length l ≤ 1) (eqb (getD kinds i 0) kindFetch) (usedBy assigned (getD slots i 0)) []
       (λ _. only-length (ltb p (length assigned)) p) (λ _. omega arith)
 
   used-at-below : (i : ℕ) → Below (length assigned) (usedAt assigned kinds slots i)
   unfolding count
   used-at-below i =
-      cond-ind (Below (length assigned)) (eqb (getD kinds i 0) 4) (usedBy assigned (getD slots i 0)) []
+      cond-ind (Below (length assigned)) (eqb (getD kinds i 0) kindFetch) (usedBy assigned (getD slots i 0)) []
       (λ _. below-only (length assigned) (placeIn (getD slots i 0) assigned)) (λ _. λ j h. absurd (omega arith))
 
   used-below : (rows : List ℕ) → Below (length assigned) (usedIn assigned bounds kinds slots rows)

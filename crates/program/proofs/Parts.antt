@@ -14,7 +14,7 @@ use Rattle.laws.specs.Places.{gather}
 use Rattle.laws.proofs.Tests.{cond-ind}
 use Rattle.laws.proofs.Gathers.{gather-shift}
 use Rattle.drafts.specs.Places.{begins, ends}
-use Rattle.drafts.specs.Kinds.{writes}
+use Rattle.drafts.specs.Kinds.{kindPush, kindFetch, kindClock, isStep, writes}
 use Rattle.program.specs.Written.{fieldBytes, recordCount, valueAt, settingAt, reach, settingsOf, stepBytes, stepAt, stepsOf, orderedSteps}
 use Rattle.program.proofs.Puts.{Whole, whole-gather, length-record}
 
@@ -38,9 +38,9 @@ whole-all-settings phase places lines bounds kinds slots = whole-gather _ (whole
 
 whole-step : (k x line : ℕ) → Whole (stepBytes k x line)
 whole-step k x line =
-    cond-ind Whole (eqb k 3) _ _ (λ _. whole-record 3 0 line x)
-    (λ _. cond-ind Whole (eqb k 17) _ _ (λ _. whole-record 4 0 line 0)
-    (λ _. cond-ind Whole (leb 4 k && leb k 14) _ [] (λ _. whole-record k x line 0) (λ _. omega arith)))
+    cond-ind Whole (eqb k kindPush) _ _ (λ _. whole-record kindPush 0 line x)
+    (λ _. cond-ind Whole (eqb k kindClock) _ _ (λ _. whole-record kindFetch 0 line 0)
+    (λ _. cond-ind Whole (isStep k) _ [] (λ _. whole-record k x line 0) (λ _. omega arith)))
 
 pub whole-step-at : (kinds slots : List ℕ) (line i : ℕ) → Whole (stepAt kinds slots line i)
 whole-step-at kinds slots line i = whole-step (getD kinds i 0) (getD slots i 0) line
@@ -63,26 +63,26 @@ module _ (phase : ℕ) (places lines bounds kinds slots : List ℕ) (j : ℕ) {i
 -- ---- the record of a step, by its kind
 module _ (k x line : ℕ) where
   -- a number is pushed
-  pub step-value : k ≡ 3 → stepBytes k x line ≡ fieldBytes 3 0 line x
-  step-value e = rw (eq-eqb k 3 e)
+  pub step-value : k ≡ 3 → stepBytes k x line ≡ fieldBytes kindPush 0 line x
+  step-value e = rw (eq-eqb k kindPush e)
 
   module _ (a : k ≡ 3 → ⊥) where
     -- TIME is slot 0
-    pub step-clock : k ≡ 17 → stepBytes k x line ≡ fieldBytes 4 0 line 0
-    step-clock e = rw (ne-eqb k 3 a, eq-eqb k 17 e)
+    pub step-clock : k ≡ 17 → stepBytes k x line ≡ fieldBytes kindFetch 0 line 0
+    step-clock e = rw (ne-eqb k kindPush a, eq-eqb k kindClock e)
 
     module _ (b : k ≡ 17 → ⊥) where
       -- constants, initials and values write nothing here
       pub step-below : k < 4 → stepBytes k x line ≡ []
-      step-below h = rw (ne-eqb k 3 a, ne-eqb k 17 b, lt-leb 4 k h)
+      step-below h = rw (ne-eqb k kindPush a, ne-eqb k kindClock b, lt-leb 4 k h)
 
       -- nor does a kind that is no record's
       pub step-above : 14 < k → stepBytes k x line ≡ []
-      step-above h = rw (ne-eqb k 3 a, ne-eqb k 17 b, le-leb 4 k (omega arith), lt-leb k 14 h)
+      step-above h = rw (ne-eqb k kindPush a, ne-eqb k kindClock b, le-leb 4 k (omega arith), lt-leb k 14 h)
 
       -- all others are written as they are
       pub step-plain : 4 ≤ k → k ≤ 14 → stepBytes k x line ≡ fieldBytes k x line 0
-      step-plain g h = rw (ne-eqb k 3 a, ne-eqb k 17 b, le-leb 4 k g, le-leb k 14 h)
+      step-plain g h = rw (ne-eqb k kindPush a, ne-eqb k kindClock b, le-leb 4 k g, le-leb k 14 h)
 
 -- the steps of the ordered statements, gathered over the places of the order
 pub ordered-gather : (rows lines bounds kinds slots order : List ℕ)

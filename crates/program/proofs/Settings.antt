@@ -6,6 +6,7 @@ use mathlib.Core.Logic.{_⊎_, inl, inr, ⊎-elim}
 use mathlib.Core.List.{List, [], _∷_, _++_, append-assoc, append-nil}
 use native.Mathlib.Nat.{add-zero}
 use native.Mathlib.Omega.{arith}
+use Rattle.drafts.specs.Kinds.{kindNumber, kindConstant, kindInitial, kindStore, kindRate, kindFrom}
 use borrow.Author.Tests.{eq-eqb, ne-eqb}
 use lib.Dec.{eqb}
 use lib.ListN.{length, getD, take, drop, length-map, take-append-drop, drop-of-length-le}
@@ -102,7 +103,7 @@ module _ (ss : List Numbered) where
 
   -- the value of a draft behind a constant or an initial
   abbrev valueOf : Draft → ℕ
-  valueOf d = cond (eqb (d .kind) 16) (getD (sheetSlots ss) (homeOf (sheetPlaces ss) (slotOf ks d) + 1) 0) (slotOf ks d)
+  valueOf d = cond (eqb (d .kind) kindFrom) (getD (sheetSlots ss) (homeOf (sheetPlaces ss) (slotOf ks d) + 1) 0) (slotOf ks d)
 
   -- the setting of a draft with all that stands behind it
   abbrev settingOf : ℕ → ℕ → List Draft → List ℕ
@@ -151,19 +152,19 @@ module _ (ss : List Numbered) where
       ∙ sym (ap (concat-map recBytes) (concat-concat f definedIn ss) ∙ concat-concat recBytes (λ s. concat-map f (definedIn s)) ss))
 
   -- ---- constants: plain drafts have no setting
-  constant-none : (l k a : ℕ) (x : List Draft) → Plain k → settingOf 1 l (draft k a ∷ x) ≡ []
+  constant-none : (l k a : ℕ) (x : List Draft) → Plain k → settingOf kindConstant l (draft k a ∷ x) ≡ []
   constant-none l k a x p = rw (p .2)
 
   -- a statement has those of its constants
   constant-settings : (l : ℕ) (x : Says) (q : List Draft)
-      → along (settingOf 1 l) (draftsOf x) q ≡ concat-map recBytes (concat-map (λ (d : Def). constantRecs ds d (d .what)) (definedBy l x))
+      → along (settingOf kindConstant l) (draftsOf x) q ≡ concat-map recBytes (concat-map (λ (d : Def). constantRecs ds d (d .what)) (definedBy l x))
   unfolding along concat-map recBytes
   constant-settings l (constants []) q = refl
   constant-settings l (constants (c ∷ cs)) q =
-      ap (λ r. fieldBytes 1 (slotIn ds (c .key)) l (toBits binary64 (c .worth)) ++ r) (constant-settings l (constants cs) q)
-  constant-settings l (assignment k t) q = along-expression (settingOf 1 l) (constant-none l) t (draft 13 k) q
-  constant-settings l (state k (plain x) t) q = along-expression (settingOf 1 l) (constant-none l) t (draft 14 k) q
-  constant-settings l (state k (from c) t) q = along-expression (settingOf 1 l) (constant-none l) t (draft 14 k) q
+      ap (λ r. fieldBytes kindConstant (slotIn ds (c .key)) l (toBits binary64 (c .worth)) ++ r) (constant-settings l (constants cs) q)
+  constant-settings l (assignment k t) q = along-expression (settingOf kindConstant l) (constant-none l) t (draft kindStore k) q
+  constant-settings l (state k (plain x) t) q = along-expression (settingOf kindConstant l) (constant-none l) t (draft kindRate k) q
+  constant-settings l (state k (from c) t) q = along-expression (settingOf kindConstant l) (constant-none l) t (draft kindRate k) q
 
   -- a statement that has a constant begins with one
   constants-begun : Begun 1
@@ -172,7 +173,7 @@ module _ (ss : List Numbered) where
   constants-begun l (constants (c ∷ cs)) q =
       let m = draftsOf (constants (c ∷ cs)) in
       let all : length m ≤ length m = omega arith in
-      inr (refl, ap (λ r. along (settingOf 1 l) r q) (drop-of-length-le m all))
+      inr (refl, ap (λ r. along (settingOf kindConstant l) r q) (drop-of-length-le m all))
   constants-begun l (assignment k t) q = inl (constant-settings l (assignment k t) q)
   constants-begun l (state k i t) q = inl (constant-settings l (state k i t) q)
 
@@ -184,7 +185,7 @@ module _ (ss : List Numbered) where
       (λ a s b p. settings-at 1 constants-begun a s b p ∙ constant-settings (s .line) (s .says) (draftsIn b))
 
   -- ---- states: plain drafts have no setting
-  initial-none : (l k a : ℕ) (x : List Draft) → Plain k → settingOf 2 l (draft k a ∷ x) ≡ []
+  initial-none : (l k a : ℕ) (x : List Draft) → Plain k → settingOf kindInitial l (draft k a ∷ x) ≡ []
   initial-none l k a x p = rw (p .3)
 
   -- the value behind an initial, if the statement has one, is the initial's
@@ -195,18 +196,18 @@ module _ (ss : List Numbered) where
 
   -- a statement has that of its state
   initial-settings : (l : ℕ) (x : Says) → Valued x → (q : List Draft)
-      → along (settingOf 2 l) (draftsOf x) q ≡ concat-map recBytes (concat-map (λ (d : Def). initialRecs ds d (d .what)) (definedBy l x))
+      → along (settingOf kindInitial l) (draftsOf x) q ≡ concat-map recBytes (concat-map (λ (d : Def). initialRecs ds d (d .what)) (definedBy l x))
   unfolding along concat-map recBytes
   initial-settings l (constants []) v q = refl
   initial-settings l (constants (c ∷ cs)) v q = initial-settings l (constants cs) tt q
-  initial-settings l (assignment k t) v q = along-expression (settingOf 2 l) (initial-none l) t (draft 13 k) q
+  initial-settings l (assignment k t) v q = along-expression (settingOf kindInitial l) (initial-none l) t (draft kindStore k) q
   initial-settings l (state k (plain x) t) v q =
-      ap₂ (λ n r. fieldBytes 2 (slotIn ds k) l n ++ r) v (along-expression (settingOf 2 l) (initial-none l) t (draft 14 k) q)
+      ap₂ (λ n r. fieldBytes kindInitial (slotIn ds k) l n ++ r) v (along-expression (settingOf kindInitial l) (initial-none l) t (draft kindRate k) q)
   initial-settings l (state k (from c) t) v q =
-      ap₂ (λ n r. fieldBytes 2 (slotIn ds k) l n ++ r) v (along-expression (settingOf 2 l) (initial-none l) t (draft 14 k) q)
+      ap₂ (λ n r. fieldBytes kindInitial (slotIn ds k) l n ++ r) v (along-expression (settingOf kindInitial l) (initial-none l) t (draft kindRate k) q)
 
   -- constants have none
-  no-initials : (l : ℕ) (cs : List Constant) (q : List Draft) → along (settingOf 2 l) (draftsOf (constants cs)) q ≡ []
+  no-initials : (l : ℕ) (cs : List Constant) (q : List Draft) → along (settingOf kindInitial l) (draftsOf (constants cs)) q ≡ []
   unfolding along concat-map
   no-initials l [] q = refl
   no-initials l (c ∷ cs) q = no-initials l cs q
@@ -218,21 +219,21 @@ module _ (ss : List Numbered) where
   state-begun l (assignment k t) q = inl (initial-settings l (assignment k t) tt q)
   state-begun l (state k i t) q = inr (refl, rw (reach-first _) (behind i))
     where
-      behind : (i : Initial) → along (settingOf 2 l) (initialDraft i ∷ (expressionDrafts t ++ (draft 14 k ∷ []))) q ≡ []
-      behind (plain x) = along-expression (settingOf 2 l) (initial-none l) t (draft 14 k) q
-      behind (from c) = along-expression (settingOf 2 l) (initial-none l) t (draft 14 k) q
+      behind : (i : Initial) → along (settingOf kindInitial l) (initialDraft i ∷ (expressionDrafts t ++ (draft kindRate k ∷ []))) q ≡ []
+      behind (plain x) = along-expression (settingOf kindInitial l) (initial-none l) t (draft kindRate k) q
+      behind (from c) = along-expression (settingOf kindInitial l) (initial-none l) t (draft kindRate k) q
 
   -- ---- where names stand once and there is no 22 and no 23
   module _ (distinct : Once ks) (clean : nameFaults ds ds ≡ []) where
     -- behind a name's home stands the value of its constant
-    named-value : (c : ℕ) → c ∈ ks → c ∈ constantKeys ds → valueOf (draft 16 c) ≡ toBits binary64 (valueIn ds c)
+    named-value : (c : ℕ) → c ∈ ks → c ∈ constantKeys ds → valueOf (draft kindFrom c) ≡ toBits binary64 (valueIn ds c)
     named-value c h m =
         let at = homeOf (sheetPlaces ss) (suc (placeIn c ks)) in
         let d = definitionOf ds c in
         let w = constant-what (d .what) (sym (constant-at ds distinct c h) ∙ in-has c (constantKeys ds) m) in
         let e : homeAt ss at ≡ homeOfWhat (d .key) (constant (w .0)) = home-of ss c h ∙ ap (homeOfWhat (d .key)) (w .1) in
         let k : getD (draftsIn ss) at noDraft .kind ≡ 1 = ap (λ (x : Home). x .own .kind) e in
-        let b : getD (draftsIn ss) (at + 1) noDraft ≡ draft 0 (toBits binary64 (w .0)) = rw k at (ap (λ (x : Home). x .behind) e) in
+        let b : getD (draftsIn ss) (at + 1) noDraft ≡ draft kindNumber (toBits binary64 (w .0)) = rw k at (ap (λ (x : Home). x .behind) e) in
         slot-at ks (draftsIn ss) (at + 1) ∙ ap (slotOf ks) b ∙ ap (toBits binary64) (sym (value-of ds c (w .0) h (w .1)))
 
     -- so each initial has its value

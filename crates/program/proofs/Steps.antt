@@ -7,6 +7,7 @@ use Rattle.laws.specs.Lists.{concat-map}
 use Rattle.laws.proofs.Lists.{concat-append}
 use Rattle.laws.proofs.Concats.{map-append, concat-concat, concat-mapped, concat-same, concat-same-in}
 use Rattle.laws.proofs.Members.{Below}
+use Rattle.drafts.specs.Kinds.{kindStore, kindRate}
 use Rattle.drafts.specs.Tree.{plus, minus, times, over, compar, insw, limit, Tree, Initial, plain, from, Says, assignment, state}
 use Rattle.drafts.specs.Items.{Item, push, fetch, clock, negate, apply-two, apply-three, postfix}
 use Rattle.drafts.specs.Drafts.{Draft, draft, draftItem, draftsOf}
@@ -57,7 +58,7 @@ step-ending ds l t z i e =
 
 -- a state statement's first two drafts are no steps
 step-state : (ds : List Def) (l k : ℕ) (i : Initial) (t : Tree)
-    → concat-map (stepOf ds l) (draftsOf (state k i t)) ≡ concat-map (stepOf ds l) (expressionDrafts t ++ (draft 14 k ∷ []))
+    → concat-map (stepOf ds l) (draftsOf (state k i t)) ≡ concat-map (stepOf ds l) (expressionDrafts t ++ (draft kindRate k ∷ []))
 unfolding concat-map
 step-state ds l k (plain x) t = refl
 step-state ds l k (from c) t = refl
@@ -95,9 +96,9 @@ module _ (ss : List Numbered) where
   unfolding recBytes
   row-steps =
       rows-by ss stepsIn bytesOf
-      (λ a s b p k t e. steps-at a s b p (assignment k t) e ∙ step-ending ds (s .line) t (draft 13 k) (Store (slotIn ds k)) refl)
+      (λ a s b p k t e. steps-at a s b p (assignment k t) e ∙ step-ending ds (s .line) t (draft kindStore k) (Store (slotIn ds k)) refl)
       (λ a s b p k i t e.
-      steps-at a s b p (state k i t) e ∙ step-state ds (s .line) k i t ∙ step-ending ds (s .line) t (draft 14 k) (Deriv (slotIn ds k)) refl)
+      steps-at a s b p (state k i t) e ∙ step-state ds (s .line) k i t ∙ step-ending ds (s .line) t (draft kindRate k) (Deriv (slotIn ds k)) refl)
 
   -- THE STEPS, in an order of the equations
   pub steps-of : (q : List ℕ) → Below (length (sheetRows ss)) q
