@@ -19,10 +19,10 @@ use Rattle.tokens.specs.declared.Token.{Token}
 use Rattle.tokens.specs.declared.Token.the-variants.{Name, Mark, Number, End, Bad}
 use Rattle.tokens.specs.Bytes.{isMark, isWord, wordAt}
 use Rattle.tokens.specs.Token.{cutAt}
-use Rattle.tokens.specs.Symbol.{Symbol, mark, number, name, word, named}
+use Rattle.tokens.specs.Symbol.{Symbol, mark, number, name, word, symbolNamed}
 use Rattle.tokens.specs.Row.{Placed, whole, Row, closed, onto, ahead, rowFrom, rowOf, symbols}
 use Rattle.tokens.proofs.Sound.{Inside, NameIn, Sound, cut-sound, cut-end, name-bytes}
-use Rattle.tokens.proofs.Words.{named-ind, name-key}
+use Rattle.tokens.proofs.Words.{symbol-ind, name-key}
 use Rattle.tokens.proofs.Keys.{key-above, key-below}
 
 -- ---- how many cuts are made does not matter
@@ -30,7 +30,7 @@ use Rattle.tokens.proofs.Keys.{key-above, key-below}
 -- what follows a good token decides the row that it begins
 ahead-same : (s : List ℕ) (lo : ℕ) (t : Token) (at next : ℕ) (r r′ : Row) → Sound s lo t next → (Inside s lo next → r ≡ r′)
     → ahead s t at r ≡ ahead s t at r′
-ahead-same s lo (Name p n) at next r r′ x f = ap (onto (named (take n (drop p s))) at) (f (x .0))
+ahead-same s lo (Name p n) at next r r′ x f = ap (onto (symbolNamed (take n (drop p s))) at) (f (x .0))
 ahead-same s lo (Mark b) at next r r′ x f = ap (onto (mark b) at) (f (x .0))
 ahead-same s lo (Number v) at next r r′ x f = ap (onto (number v) at) (f (x .0))
 ahead-same s lo End at next r r′ x f = refl
@@ -94,15 +94,15 @@ row-short s = omega (arith, from-short (suc (length s)) s 0)
 abbrev pub Fine : Symbol → Type 0
 Fine (mark b) = isMark b ≡ true
 Fine (number x) = T (finite x) × T (fits binary64 x)
-Fine (name k) = (n : List ℕ) × (named n ≡ name k) × (run isWord n ≡ n) × (0 < length n) × (length n ≤ nameBytes)
+Fine (name k) = (n : List ℕ) × (symbolNamed n ≡ name k) × (run isWord n ≡ n) × (0 < length n) × (length n ≤ nameBytes)
 Fine (word w) = Unit {0}
 
 -- a name of letters and digits is fine, or a reserved word
-name-fine : (n : List ℕ) → run isWord n ≡ n → 0 < length n → length n ≤ nameBytes → Fine (named n)
-name-fine n t h k = named-ind n (λ (x : Symbol). named n ≡ x → Fine x) (λ _ _. tt) (λ e. (n, e, t, h, k)) refl
+name-fine : (n : List ℕ) → run isWord n ≡ n → 0 < length n → length n ≤ nameBytes → Fine (symbolNamed n)
+name-fine n t h k = symbol-ind n (λ (x : Symbol). symbolNamed n ≡ x → Fine x) (λ _ _. tt) (λ e. (n, e, t, h, k)) refl
 
 -- a token that was found is so
-found-fine : (s : List ℕ) (p n next : ℕ) → NameIn s p n next → Fine (named (take n (drop p s)))
+found-fine : (s : List ℕ) (p n next : ℕ) → NameIn s p n next → Fine (symbolNamed (take n (drop p s)))
 found-fine s p n next x =
     rw (name-bytes s p n next x) (name-fine (wordAt s p) (run-run isWord (drop p s)) (omega (arith, x .some, x .count)) (omega (arith, x .few, x .count)))
 
@@ -114,7 +114,7 @@ either t at r h f q m = ⊎-elim (λ e. subst (λ (x : Placed). Fine (x .symbol)
 -- so all tokens of a row are fine where those behind its first are
 ahead-fine : (s : List ℕ) (lo : ℕ) (t : Token) (at next : ℕ) (r : Row) → Sound s lo t next
     → ((q : Placed) → List·Memᴰ q (r .tokens) → Fine (q .symbol)) → (q : Placed) → List·Memᴰ q (ahead s t at r .tokens) → Fine (q .symbol)
-ahead-fine s lo (Name p n) at next r x f = either (named (take n (drop p s))) at r (found-fine s p n next (x .1)) f
+ahead-fine s lo (Name p n) at next r x f = either (symbolNamed (take n (drop p s))) at r (found-fine s p n next (x .1)) f
 ahead-fine s lo (Mark b) at next r x f = either (mark b) at r (x .1) f
 ahead-fine s lo (Number v) at next r x f = either (number v) at r (x .1, x .2) f
 ahead-fine s lo End at next r x f = λ q m. absurd (List·Memᴰ·not-nil m)

@@ -16,7 +16,7 @@ use Rattle.tokens.specs.declared.Held.{Held}
 use Rattle.tokens.specs.declared.Step.{Step}
 use Rattle.tokens.specs.declared.Step.the-variants.{Good, Over, Refused}
 use Rattle.tokens.specs.declared.RowEnd.the-variants.{NoRoom, Tokens, Fault}
-use Rattle.tokens.specs.Symbol.{Symbol, mark, number, named}
+use Rattle.tokens.specs.Symbol.{Symbol, mark, number, symbolNamed}
 use Rattle.tokens.specs.Held.{kindOf, argOf}
 use Rattle.tokens.specs.Token.{cutAt}
 use Rattle.tokens.specs.Row.{Close, whole, bad, closed, onto, ahead, rowOf}
@@ -36,8 +36,8 @@ module _ (s : List ℕ) (from : ℕ) (c : Cut) (read : c ≡ cutAt s from) (t : 
   told-step = ap (λ (x : Token). stepOf s x (c .at) (c .next)) (sym is) ∙ ap (λ (x : Cut). stepOf s (x .token) (x .at) (x .next)) read
 
 -- a name's part of the text
-pub part-bytes : (s : List ℕ) (p n : ℕ) (h : Held) → h ≡ heldAs (named (take (p + n - p) (drop p s))) → h ≡ heldAs (named (take n (drop p s)))
-part-bytes s p n h e = let f : p + n - p ≡ n = omega arith in e ∙ ap (λ (k : ℕ). heldAs (named (take k (drop p s)))) f
+pub part-bytes : (s : List ℕ) (p n : ℕ) (h : Held) → h ≡ heldAs (symbolNamed (take (p + n - p) (drop p s))) → h ≡ heldAs (symbolNamed (take n (drop p s)))
+part-bytes s p n h e = let f : p + n - p ≡ n = omega arith in e ∙ ap (λ (k : ℕ). heldAs (symbolNamed (take k (drop p s)))) f
 
 -- ---- a row from a step
 
@@ -58,7 +58,7 @@ Follows s from (Refused code at) = rest s from ≡ closed (bad code at)
 -- by the token of the cut
 follows : (s : List ℕ) (from : ℕ) (t : Token) (at next : ℕ) → Sound s from t next → rest s from ≡ ahead s t at (rest s next)
     → Follows s from (stepOf s t at next)
-follows s from (Name p n) at next x e = record { symbol = named (take n (drop p s)); at = at; inside = x .0; held = refl; row = e }
+follows s from (Name p n) at next x e = record { symbol = symbolNamed (take n (drop p s)); at = at; inside = x .0; held = refl; row = e }
 follows s from (Mark b) at next x e = record { symbol = mark b; at = at; inside = x .0; held = refl; row = e }
 follows s from (Number v) at next x e = record { symbol = number v; at = at; inside = x .0; held = refl; row = e }
 follows s from End at next x e = e

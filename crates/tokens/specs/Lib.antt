@@ -3,6 +3,7 @@ pub mod Number
 pub mod Token
 pub mod Symbol
 pub mod Row
+pub mod Kinds
 pub mod Held
 pub mod Names
 pub mod Capped

@@ -6,7 +6,7 @@ use Rattle.tokens.specs.declared.Token.{Token}
 use Rattle.tokens.specs.declared.Token.the-variants.{Name, Mark, Number, End, Bad}
 use Rattle.tokens.specs.declared.Cut.{Cut}
 use Rattle.tokens.specs.Token.{cutAt}
-use Rattle.tokens.specs.Symbol.{Symbol, mark, number, named}
+use Rattle.tokens.specs.Symbol.{Symbol, mark, number, symbolNamed}
 
 -- a token as the grammar sees it, and the place of its first byte
 pub record Placed : Type 0 where
@@ -30,7 +30,7 @@ onto t at r = record { tokens = record { symbol = t; at = at } ∷ r .tokens; cl
 
 -- the token of a cut before what follows it; the end and a bad token close the row
 abbrev pub ahead : List ℕ → Token → ℕ → Row → Row
-ahead s (Name p n) at r = onto (named (take n (drop p s))) at r
+ahead s (Name p n) at r = onto (symbolNamed (take n (drop p s))) at r
 ahead s (Mark b) at r = onto (mark b) at r
 ahead s (Number x) at r = onto (number x) at r
 ahead s End at r = closed whole

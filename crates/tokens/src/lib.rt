@@ -1,6 +1,6 @@
 // Tokens: a name, a mark, or a number with its float value.
 ghost use mathlib.Core.Path.{_≡_};
-ghost use mathlib.Core.Bool.{_&&_, _||_};
+ghost use mathlib.Core.Bool.{cond, _&&_, _||_};
 ghost use Prim.Native.Nat.{_+_, _*_, _-_, _≤_, _<_, min};
 ghost use lib.Dec.{leb};
 ghost use lib.ListN.{length, getD, take};
@@ -10,8 +10,8 @@ ghost use Rattle.bits.specs.Low.{lowWord};
 ghost use Rattle.tokens.specs.Bytes.{isDigit, isLetter, isPoint, isWord, isMark, spacesAt};
 ghost use Rattle.tokens.specs.Number.{tenTo, numberOf, digitsFrom, signEnd, exponentFrom};
 ghost use Rattle.tokens.specs.Token.{badAt, numberAt, nameAt, cutAt};
-ghost use Rattle.tokens.specs.Symbol.{named};
-ghost use Rattle.tokens.specs.Held.{threeOf, Front};
+ghost use Rattle.tokens.specs.Symbol.{symbolNamed};
+ghost use Rattle.tokens.specs.Held.{threeOf, kindNamed};
 ghost use Rattle.tokens.specs.Names.{nameCount, nameToken, nameNext};
 ghost use Rattle.tokens.specs.Capped.{cap, decimalAt, capped, powerOf};
 ghost use Rattle.tokens.specs.Steps.{heldAs, stepAt};
@@ -492,137 +492,59 @@ fn key_of(name: &[u8]) -> u64
     three_at(name, 0) + 16777216 * three_at(name, 3)
 }
 
-// The number that the first four bytes of a name or word are.
-fn four_of(s: &[u8]) -> u64
-    requires { ⌜ 4 ≤ length (now s) ⌝ }
-    ensures { λ r. ⌜ Front (now (s .entry)) 4 r ⌝ }
-{
-    wide(s[0]) + 256 * wide(s[1]) + 65536 * wide(s[2]) + 16777216 * wide(s[3])
-}
-
-// The number that the first five bytes are.
-fn five_of(s: &[u8]) -> u64
-    requires { ⌜ 5 ≤ length (now s) ⌝ }
-    ensures { λ r. ⌜ Front (now (s .entry)) 5 r ⌝ }
-{
-    four_of(s) + 4294967296 * wide(s[4])
-}
-
-// The number that the first six bytes are.
-fn six_of(s: &[u8]) -> u64
-    requires { ⌜ 6 ≤ length (now s) ⌝ }
-    ensures { λ r. ⌜ Front (now (s .entry)) 6 r ⌝ }
-{
-    five_of(s) + 1099511627776 * wide(s[5])
-}
-
-// Whether a name of four bytes is a word of four: their bytes are the same, compared all at once.
-fn spells_four(name: &[u8], word: &[u8]) -> bool
-    requires { ⌜ (length (now name) ≡ 4) × (length (now word) ≡ 4) ⌝ }
+// Whether a name is a word: each byte is the same.
+fn spells(name: &[u8], word: &[u8]) -> bool
     ensures { λ r. ⌜ r ≡ sameBytes (now (name .entry)) (now (word .entry)) ⌝ }
 {
-    four_of(name) == four_of(word)
+    if name.len() != word.len() {
+        return false;
+    }
+    let mut i: usize = 0;
+    while i < word.len() {
+        if name[i] != word[i] {
+            return false;
+        }
+        i += 1;
+    }
+    true
 }
 
-// Whether a name of five bytes is a word of five: their bytes are the same, compared all at once.
-fn spells_five(name: &[u8], word: &[u8]) -> bool
-    requires { ⌜ (length (now name) ≡ 5) × (length (now word) ≡ 5) ⌝ }
-    ensures { λ r. ⌜ r ≡ sameBytes (now (name .entry)) (now (word .entry)) ⌝ }
+// A word's kind where a name spells the word, else another.
+fn kind_or(name: &[u8], word: &[u8], kind: u8, other: u8) -> u8
+    ensures { λ r. ⌜ r ≡ cond (sameBytes (now (name .entry)) (now (word .entry))) kind other ⌝ }
 {
-    five_of(name) == five_of(word)
+    if spells(name, word) { kind } else { other }
 }
 
-// Whether a name of six bytes is a word of six: their bytes are the same, compared all at once.
-fn spells_six(name: &[u8], word: &[u8]) -> bool
-    requires { ⌜ (length (now name) ≡ 6) × (length (now word) ≡ 6) ⌝ }
-    ensures { λ r. ⌜ r ≡ sameBytes (now (name .entry)) (now (word .entry)) ⌝ }
+// The kind of a name: that of the reserved word that it spells, or a name's. The words stand from the last to the first.
+fn kind_of(name: &[u8]) -> u8
+    ensures { λ r. ⌜ r ≡ kindNamed (now (name .entry)) ⌝ }
 {
-    six_of(name) == six_of(word)
-}
-
-// A reserved word as it is held.
-fn word(kind: u8) -> Held
-    ensures { λ r. ⌜ r ≡ record { kind = kind; arg = 0 } ⌝ }
-{
-    Held { kind: kind, arg: 0 }
-}
-
-// A name of four bytes as it is held: TIME, INSW, or a name.
-fn held_four(name: &[u8]) -> Held
-    requires { ⌜ length (now name) ≡ 4 ⌝ }
-    ensures { λ r. ⌜ r ≡ heldAs (named (now (name .entry))) ⌝ }
-{
-    if spells_four(name, b"TIME") {
-        return word(TIME);
-    }
-    if spells_four(name, b"INSW") {
-        return word(INSW);
-    }
-    Held {
-        kind: NAME,
-        arg: four_of(name),
-    }
-}
-
-// A name of five bytes as it is held: CONST, PARAM, INCON, LIMIT, or a name.
-fn held_five(name: &[u8]) -> Held
-    requires { ⌜ length (now name) ≡ 5 ⌝ }
-    ensures { λ r. ⌜ r ≡ heldAs (named (now (name .entry))) ⌝ }
-{
-    if spells_five(name, b"CONST") {
-        return word(CONST);
-    }
-    if spells_five(name, b"PARAM") {
-        return word(PARAM);
-    }
-    if spells_five(name, b"INCON") {
-        return word(INCON);
-    }
-    if spells_five(name, b"LIMIT") {
-        return word(LIMIT);
-    }
-    Held {
-        kind: NAME,
-        arg: five_of(name),
-    }
-}
-
-// A name of six bytes as it is held: INTGRL, COMPAR, or a name.
-fn held_six(name: &[u8]) -> Held
-    requires { ⌜ length (now name) ≡ 6 ⌝ }
-    ensures { λ r. ⌜ r ≡ heldAs (named (now (name .entry))) ⌝ }
-{
-    if spells_six(name, b"INTGRL") {
-        return word(INTGRL);
-    }
-    if spells_six(name, b"COMPAR") {
-        return word(COMPAR);
-    }
-    Held {
-        kind: NAME,
-        arg: six_of(name),
-    }
+    let mut k = NAME;
+    k = kind_or(name, b"COMPAR", COMPAR, k);
+    k = kind_or(name, b"LIMIT", LIMIT, k);
+    k = kind_or(name, b"INSW", INSW, k);
+    k = kind_or(name, b"TIME", TIME, k);
+    k = kind_or(name, b"INTGRL", INTGRL, k);
+    k = kind_or(name, b"INCON", INCON, k);
+    k = kind_or(name, b"PARAM", PARAM, k);
+    k = kind_or(name, b"CONST", CONST, k);
+    k
 }
 
 // A name or a reserved word as it is held.
 fn held_name(name: &[u8]) -> Held
     requires { ⌜ length (now name) ≤ nameBytes ⌝ }
-    ensures { λ r. ⌜ r ≡ heldAs (named (now (name .entry))) ⌝ }
+    ensures { λ r. ⌜ r ≡ heldAs (symbolNamed (now (name .entry))) ⌝ }
 {
-    let n = name.len();
-    if n == 4 {
-        return held_four(name);
+    let kind = kind_of(name);
+    if kind == NAME {
+        return Held {
+            kind: NAME,
+            arg: key_of(name),
+        };
     }
-    if n == 5 {
-        return held_five(name);
-    }
-    if n == 6 {
-        return held_six(name);
-    }
-    Held {
-        kind: NAME,
-        arg: key_of(name),
-    }
+    Held { kind: kind, arg: 0 }
 }
 
 // What one cut gives a row: a token as it is held and the place where the next begins, the end, or a bad token's code and place.
