@@ -15,13 +15,13 @@ use Rattle.laws.proofs.Tests.{cond-ind, and-true, lt-or-ge}
 use Rattle.laws.proofs.Runs.{run-short, run-run, all-pass}
 use Rattle.laws.specs.Runs.{run}
 use Rattle.limits.specs.Limits.{mostDigits, mostTens, exponentDigits}
-use Rattle.tokens.specs.declared.Decimal.{Decimal}
-use Rattle.tokens.specs.declared.Mantissa.{Mantissa}
+use Rattle.tokens.specs.declared.number.Decimal.{Decimal}
+use Rattle.tokens.specs.declared.number.Mantissa.{Mantissa}
 use Rattle.tokens.specs.declared.Cut.{Cut}
 use Rattle.tokens.specs.declared.Token.{Token}
 use Rattle.tokens.specs.declared.Token.the-variants.{Number, Bad}
-use Rattle.tokens.specs.declared.Power.{Power}
-use Rattle.tokens.specs.declared.Power.the-variants.{Of, Wrong}
+use Rattle.tokens.specs.declared.number.Power.{Power}
+use Rattle.tokens.specs.declared.number.Power.the-variants.{Of, Wrong}
 use Rattle.tokens.specs.Bytes.{digitsAt, isDigit, isWord, isPoint}
 use Rattle.tokens.specs.Number.{decimal, Digits, plainDigits, pointDigits, digitsFrom}
 use Rattle.tokens.specs.Number.{Exponent, exponent, wrong, signEnd, exponentOf, exponentFrom, tenTo, scaled, inRange, numberOf}

@@ -12,9 +12,9 @@ use lib.Seq.{sets}
 use Rattle.tokens.specs.declared.Token.{Token}
 use Rattle.tokens.specs.declared.Token.the-variants.{Name, Mark, Number, End, Bad}
 use Rattle.tokens.specs.declared.Cut.{Cut}
-use Rattle.tokens.specs.declared.Held.{Held}
-use Rattle.tokens.specs.declared.Step.{Step}
-use Rattle.tokens.specs.declared.Step.the-variants.{Good, Over, Refused}
+use Rattle.tokens.specs.declared.step.Held.{Held}
+use Rattle.tokens.specs.declared.step.Step.{Step}
+use Rattle.tokens.specs.declared.step.Step.the-variants.{Good, Over, Refused}
 use Rattle.tokens.specs.declared.RowEnd.the-variants.{NoRoom, Tokens, Fault}
 use Rattle.tokens.specs.Symbol.{Symbol, mark, number, symbolNamed}
 use Rattle.tokens.specs.Held.{kindOf, argOf}

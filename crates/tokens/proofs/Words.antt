@@ -10,7 +10,7 @@ use Rattle.laws.specs.Lists.{sameBytes}
 use Rattle.laws.proofs.Tests.{cond-ind}
 use Rattle.limits.specs.Limits.{nameBytes}
 use Rattle.bits.specs.Low.{lowWord}
-use Rattle.tokens.specs.declared.Held.{Held}
+use Rattle.tokens.specs.declared.step.Held.{Held}
 use Rattle.tokens.specs.Symbol.{Word, CONST, PARAM, INCON, INTGRL, TIME, INSW, LIMIT, COMPAR, Reserved, reserved, lookUp}
 use Rattle.tokens.specs.Symbol.{Symbol, name, word, keyOf, symbolNamed}
 use Rattle.tokens.specs.Kinds.{nameKind, wordKind}

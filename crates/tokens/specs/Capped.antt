@@ -4,10 +4,10 @@ use mathlib.Core.Bool.{true, false}
 use mathlib.Core.List.{List}
 use lib.ListN.{length, getD}
 use Rattle.limits.specs.Limits.{mostDigits}
-use Rattle.tokens.specs.declared.Decimal.{Decimal}
-use Rattle.tokens.specs.declared.Mantissa.{Mantissa}
-use Rattle.tokens.specs.declared.Power.{Power}
-use Rattle.tokens.specs.declared.Power.the-variants.{Of, Wrong}
+use Rattle.tokens.specs.declared.number.Decimal.{Decimal}
+use Rattle.tokens.specs.declared.number.Mantissa.{Mantissa}
+use Rattle.tokens.specs.declared.number.Power.{Power}
+use Rattle.tokens.specs.declared.number.Power.the-variants.{Of, Wrong}
 use Rattle.tokens.specs.Bytes.{digitsAt}
 use Rattle.tokens.specs.Number.{Digits, decimal, Exponent, exponent, wrong}
 

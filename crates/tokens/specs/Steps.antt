@@ -4,9 +4,9 @@ use mathlib.Core.List.{List}
 use lib.ListN.{take, drop}
 use Rattle.tokens.specs.declared.Token.{Token}
 use Rattle.tokens.specs.declared.Token.the-variants.{Name, Mark, Number, End, Bad}
-use Rattle.tokens.specs.declared.Held.{Held}
-use Rattle.tokens.specs.declared.Step.{Step}
-use Rattle.tokens.specs.declared.Step.the-variants.{Good, Over, Refused}
+use Rattle.tokens.specs.declared.step.Held.{Held}
+use Rattle.tokens.specs.declared.step.Step.{Step}
+use Rattle.tokens.specs.declared.step.Step.the-variants.{Good, Over, Refused}
 use Rattle.tokens.specs.Symbol.{Symbol, mark, number, symbolNamed}
 use Rattle.tokens.specs.Held.{kindOf, argOf}
 use Rattle.tokens.specs.Token.{cutAt}

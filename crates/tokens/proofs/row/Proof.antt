@@ -5,8 +5,8 @@ use mathlib.Core.List.{List}
 use native.Mathlib.Omega.{arith}
 use borrow.Author.Needs.{needs}
 use lib.ListN.{length}
-use Rattle.tokens.specs.declared.Held.{Held}
-use Rattle.tokens.specs.declared.Step.the-variants.{Good}
+use Rattle.tokens.specs.declared.step.Held.{Held}
+use Rattle.tokens.specs.declared.step.Step.the-variants.{Good}
 use Rattle.tokens.specs.Steps.{stepAt}
 use Rattle.tokens.proofs.Sound.{Inside}
 use Rattle.tokens.proofs.Steps.{Turn, no-kinds, no-args, turn-first, turn-over, turn-refused, turn-inside, turn-next}
