@@ -9,7 +9,7 @@ use lib.ListN.{length, drop}
 use Rattle.deck.specs.Lines.{Line, cut, linesOf, dotted, passed}
 use Rattle.deck.specs.Reading.{State, fresh, inside, goes-on, ends, after, ended, left, reading}
 use Rattle.deck.specs.Survey.{sizesOf, begun, tallied}
-use Rattle.deck.specs.declared.Tally.{Tally}
+use Rattle.deck.specs.declared.counts.Tally.{Tally}
 use Rattle.deck.proofs.Bytes.{lineOf, LineAt, lines-end}
 
 -- whether a statement is open
