@@ -7,7 +7,6 @@ pub mod Searches
 pub mod Marking
 pub mod Queues
 pub mod Flagging
-pub mod Seeking
 pub mod Settling
 pub mod Going
 pub mod Answers

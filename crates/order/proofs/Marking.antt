@@ -26,11 +26,11 @@ implied true b f = f refl
 implied false b f = refl
 
 -- any mark but 0 is one
-marked-yes : (m : List ℕ) (j : ℕ) → (getD m j 0 ≡ 0 → ⊥) → marked m j ≡ true
+pub marked-yes : (m : List ℕ) (j : ℕ) → (getD m j 0 ≡ 0 → ⊥) → marked m j ≡ true
 marked-yes m j h = lt-ltb 0 (getD m j 0) (⊎-elim (λ e. absurd (h e)) (λ (e : getD m j 0 ≡ 0 → ⊥). omega arith) (eq-or-ne (getD m j 0) 0))
 
 -- 0 is none
-marked-no : (m : List ℕ) (j : ℕ) → getD m j 0 ≡ 0 → marked m j ≡ false
+pub marked-no : (m : List ℕ) (j : ℕ) → getD m j 0 ≡ 0 → marked m j ≡ false
 marked-no m j e = le-ltb 0 (getD m j 0) (omega arith)
 
 -- ---- the statement j, which is used at place p
