@@ -8,7 +8,7 @@ use Rattle.deck.specs.Lines.{Line}
 use Rattle.deck.specs.Joined.{partOf}
 use Rattle.deck.specs.Faults.{at-start, at-end, Flaw, none, flaw}
 
--- the code, or 0: by the count of lines, whether the statement is closed, and whether a line has more than 72 bytes
+-- the code, or 0: by the count of lines, whether the statement is closed, and whether a line has more than cardBytes bytes
 abbrev pub sizeCode : ℕ → Bool → Bool → ℕ
 sizeCode k closed long = cond closed (cond (ltb mostCards k) 12 (cond long 13 0)) 11
 
@@ -21,6 +21,6 @@ unfoldable pub spaced : List Line → List ℕ
 spaced [] = []
 spaced (l ∷ ls) = 32 ∷ (partOf l ++ spaced ls)
 
--- the most bytes of a joined text without such a fault: parts of 72 bytes, with a space between each two
+-- the most bytes of a joined text without such a fault: mostCards parts of cardBytes bytes, with a space between each two
 abbrev pub joinedRoom : ℕ
 joinedRoom = mostCards * suc cardBytes - 1

@@ -23,7 +23,7 @@ pub record Passes (t : List ℕ) (at i : ℕ) : Type 0 where
   pub upto : i ≤ length t
   pub same : i + width (drop i t) ≡ at + width (drop at t)
 
--- inside the statement that starts at start with line first: k of its lines are read, and long says whether one has more than 72 bytes
+-- inside the statement that starts at start with line first: k of its lines are read, and long says whether one has more than cardBytes bytes
 unfoldable pub runOf : ℕ → ℕ → ℕ → ℕ → Bool → List Line → Found
 runOf first start at k long [] = Statement first start k false long (record { at = at; line = first + k })
 runOf first start at k long (l ∷ ls) =

@@ -1,8 +1,8 @@
 -- The loops that settle statements: all at first, then those that wait for the one just placed.
 use mathlib.Core.Path.{_≡_, refl, sym, ap, subst, _∙_}
 use mathlib.Core.Bool.{Bool, true, false}
-use mathlib.Core.List.{List, [], _∷_}
-use Prim.Native.Nat.{ℕ, zero, suc, _+_, _≤_, _<_, min}
+use mathlib.Core.List.{List, []}
+use Prim.Native.Nat.{ℕ, suc, _+_, _≤_, _<_, min}
 use native.Mathlib.Nat.{not-suc-le-zero}
 use native.Mathlib.Omega.{arith}
 use lib.Dec.{eqb}
@@ -10,6 +10,7 @@ use lib.ListN.{length, getD, set, length-set, replicate, length-replicate, getD-
 use lib.Seq.{getD-set-same, getD-set-other}
 use Rattle.limits.specs.Limits.{mostStatements}
 use Rattle.laws.specs.Counts.{once, count}
+use Rattle.laws.proofs.Stores.{count-set}
 use Rattle.laws.proofs.Counts.{once-same, once-other}
 use Rattle.order.specs.Table.{Fit}
 use Rattle.order.specs.Marks.{none, Leads, State, Settles, Blank, Woken, Awake}
@@ -72,13 +73,6 @@ module _ {n k : ℕ} {s u m f c h l v c′ h′ l′ v′ : List ℕ} (t : Fit n
 pub begin-last : {n k : ℕ} {s u m f c h l v : List ℕ} → Beginning n k s u m f c h l v → k ≡ n → State n n s u m f c h l v none none
 begin-last {n} {k} {s} {u} {m} {f} {c} {h} {l} {v} g e = subst (λ (i : ℕ). State n i s u m f c h l v none none) e (g .state)
 
--- ---- how often j stands in a row of which one place is another
-pub count-set : (j : ℕ) (l : List ℕ) (x a : ℕ) → x < length l → count j (set l x a) + once (eqb j (getD l x 0)) ≡ count j l + once (eqb j a)
-unfolding count
-count-set j [] x a h = absurd (not-suc-le-zero h)
-count-set j (b ∷ l) zero a h = omega arith
-count-set j (b ∷ l) (suc x) a h = omega (arith, count-set j l x a (omega arith))
-
 -- ---- those that wait for j, from x on
 pub record Waking (n : ℕ) (s u m f c h l v : List ℕ) (j low : ℕ) (x early : ℕ) : Type 0 where
   pub fit : Fit n s u
@@ -127,7 +121,7 @@ module _ {n : ℕ} {s u m f c h l v : List ℕ} {j low x early : ℕ} (g : Wakin
     less-none : suc (count j (set v x none)) ≡ count j v
     less-none =
         let away = once-other j none (λ e. omega (arith, g .one, g .fit .few)) in
-        omega (arith, count-set j v x none long, ap (λ k. once (eqb j k)) (waking-one .1), once-same j, away)
+        omega (arith, count-set j none v x long, ap (λ k. once (eqb j k)) (waking-one .1), once-same j, away)
 
     module _ {c′ h′ l′ v′ : List ℕ} where
       -- it is ready
@@ -188,7 +182,7 @@ module _ {n : ℕ} {s u m f c h l v : List ℕ} {j low x early : ℕ} (g : Wakin
           let q = k .0 in
           let lw : x < length (set v x none) = omega (arith, length-set v x none, long) in
           rw (k .6)
-          (omega (arith, less-none, count-set j (set v x none) x q lw, once-other j q (λ e. omega (arith, g .mark, k .3, ap (λ i. getD m i 0) e))))
+          (omega (arith, less-none, count-set j q (set v x none) x lw, once-other j q (λ e. omega (arith, g .mark, k .3, ap (λ i. getD m i 0) e))))
 
 -- ---- the arrays at first
 pub blank : (n : ℕ) (s u : List ℕ) → n ≤ mostStatements
@@ -207,7 +201,7 @@ blank n s u few =
                   heads-size = size none;
                   links-size = size 0;
                   waits-size = size none;
-                  row = λ _. [];
+                  queue = λ _. [];
                   own = λ z. absurd (omega arith);
                   shut = λ z. absurd (omega arith);
                   others = λ q hq _. at none q hq;

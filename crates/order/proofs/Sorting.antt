@@ -1,20 +1,20 @@
 -- What the greedy order is.
 use mathlib.Core.Path.{_≡_, refl, sym, ap, _∙_}
 use mathlib.Core.Bool.{Bool, true, false, not, _&&_, _||_}
-use mathlib.Core.Logic.{_⊎_, inl, inr, ⊎-elim, _↔_}
+use mathlib.Core.Logic.{_⊎_, inl, ⊎-elim, _↔_}
 use mathlib.Core.List.{List, [], _∷_, _++_, append-assoc, append-nil, map}
 use Prim.Native.Nat.{ℕ, zero, suc, _+_, _-_, _≤_, _<_}
 use native.Mathlib.Nat.{eq-or-lt-of-le}
 use native.Mathlib.Omega.{arith}
 use borrow.Author.Tests.{ltb-true, ltb-false, not-true, not-false}
 use lib.Dec.{ltb}
-use lib.ListN.{length, getD, take, length-append, List·getD-append}
+use lib.ListN.{length, take, length-append, List·getD-append}
 use lib.Seq.{take-append-le, take-at, getD-at, take-length}
 use Rattle.laws.specs.Counts.{count, _∈_, has}
 use Rattle.laws.proofs.Tests.{bool-cases, not-both, lt-or-ge, eq-or-ne, cond-ind, and-true, and-false, or-blocked}
 use Rattle.laws.proofs.Counts.{count-append, once-other, count-cons-same, count-snoc-same, count-snoc-other, has-true, has-false, place-of}
-use Rattle.order.specs.Order.{Permutation, _≼_, EachAfter, Good, First, Chain, Unsortable}
-use Rattle.order.specs.Greedy.{all, first, ready, next, place, order, LeftOver, leftOver}
+use Rattle.order.specs.Order.{Permutation, _≼_, EachAfter, Good, Chain, Unsortable}
+use Rattle.order.specs.Greedy.{all, first, ready, next, place, order, LeftOver}
 use Rattle.order.proofs.Dictionary.{≼-prefix, ≼-append, ≼-antisym, ≼-map}
 
 -- ---- `all` and `first`
@@ -213,7 +213,7 @@ module _ (n : ℕ) (uses : ℕ → ℕ → Bool) where
   unfolding order
   order-stuck = stuck n [] (omega (arith, free-nil n))
 
-  -- ---- T1: what is left over is what an endless chain starts at
+  -- ---- what is left over is what an endless chain starts at
   walk : (k i : ℕ) → LeftOver n uses i → (l : List ℕ) × (length l ≡ k) × Chain n uses i l
   walk zero i o = ([], refl, o .0)
   walk (suc k) i o =
@@ -248,7 +248,7 @@ module _ (n : ℕ) (uses : ℕ → ℕ → Bool) where
     ),
   )
 
-  -- ---- T2 and T3
+  -- ---- a good order exists exactly if nothing is left over
   in-order : ((i : ℕ) → LeftOver n uses i → ⊥) → (i : ℕ) → i < n → i ∈ order n uses
   in-order h i hi = ⊎-elim (λ g. g) (λ g. absurd (h i (hi, omega arith))) (lt-or-ge 0 (count i (order n uses)))
 
@@ -300,10 +300,7 @@ module _ (n : ℕ) (uses : ℕ → ℕ → Bool) where
             (omega (arith, g .perm .within i (o .0))),
       )
 
-  pub none-left-iff : ((i : ℕ) → LeftOver n uses i → ⊥) ↔ (q : List ℕ) × Good n uses q
-  none-left-iff = (λ h. (order n uses, order-good h), λ w. good-none-left (w .0) (w .1))
-
-  -- ---- T3
+  -- ---- the order is first of all good ones
   place-front : (k : ℕ) (l : List ℕ) → (r : List ℕ) × (place n uses k l ≡ l ++ r)
   unfolding place
   place-front zero l = ([], sym (append-nil l))

@@ -1,18 +1,15 @@
 -- Demand 2 on statements that use one another: unsortable exactly if no order has every value set before use; otherwise the order is the
 -- first of all such orders.
-use mathlib.Core.Path.{_≡_, refl, sym, _∙_}
-use mathlib.Core.Bool.{Bool, true, false}
+use mathlib.Core.Path.{_≡_}
+use mathlib.Core.Bool.{Bool, false}
 use mathlib.Core.Logic.{⊎-elim, _↔_}
 use mathlib.Core.List.{List, map}
 use Prim.Native.Nat.{ℕ, _<_}
-use native.Mathlib.Omega.{arith}
-use borrow.Author.Tests.{le-ltb}
-use Rattle.laws.specs.Counts.{count}
 use Rattle.laws.proofs.Tests.{bool-cases, not-both}
-use Rattle.order.specs.Order.{_≼_, Good, First, Unsortable, unsortable}
-use Rattle.order.specs.Greedy.{order, LeftOver, leftOver}
+use Rattle.order.specs.Order.{_≼_, Good, First, unsortable}
+use Rattle.order.specs.Greedy.{order, LeftOver}
 use Rattle.order.proofs.Sorting.{left-over-iff, order-good, good-none-left, order-first, order-first-lines, order-unique}
-use Rattle.order.proofs.Chains.{unsortable-iff, left-over-unsortable}
+use Rattle.order.proofs.Chains.{unsortable-iff}
 
 module _ (n : ℕ) (uses : ℕ → ℕ → Bool) where
   -- no statement is unsortable

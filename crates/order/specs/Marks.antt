@@ -48,12 +48,12 @@ pub record Lists (n : ℕ) (heads links waits : List ℕ) (p x : ℕ) : Type 0 w
   pub heads-size : length heads ≡ mostStatements
   pub links-size : length links ≡ mostStatements
   pub waits-size : length waits ≡ mostStatements
-  pub row : ℕ → List ℕ
-  pub own : p < n → Leads links x (row p)
+  pub queue : ℕ → List ℕ
+  pub own : p < n → Leads links x (queue p)
   pub shut : p < n → getD heads p 0 ≡ none
-  pub others : (q : ℕ) → q < n → (q ≡ p → ⊥) → Leads links (getD heads q 0) (row q)
-  pub stands : (i q : ℕ) → i < n → q < n → count i (row q) ≡ once (eqb (getD waits i 0) q)
-  pub only : (i q : ℕ) → q < n → i ∈ row q → i < n
+  pub others : (q : ℕ) → q < n → (q ≡ p → ⊥) → Leads links (getD heads q 0) (queue q)
+  pub stands : (i q : ℕ) → i < n → q < n → count i (queue q) ≡ once (eqb (getD waits i 0) q)
+  pub only : (i q : ℕ) → q < n → i ∈ queue q → i < n
 
 -- ---- who is ready
 

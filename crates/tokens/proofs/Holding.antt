@@ -11,7 +11,7 @@ use lib.Ieee.Bits.{ofBits-toBits}
 use Rattle.tokens.specs.Symbol.{Symbol, mark, number, name, word}
 use Rattle.tokens.specs.Kinds.{lastKind}
 use Rattle.tokens.specs.Held.{kindOf, argOf, symbolOf, heldRow}
-use Rattle.tokens.proofs.Words.{word-back}
+use Rattle.tokens.proofs.Words.{symbol-word}
 
 -- as many tokens as kinds
 pub held-length : (ks us : List ℕ) → length us ≡ length ks → length (heldRow ks us) ≡ length ks
@@ -45,7 +45,7 @@ symbol-back : (t : Symbol) → Holds t → symbolOf (kindOf t) (argOf t) ≡ t
 symbol-back (mark b) h = rw (lt-ltb lastKind b h)
 symbol-back (number x) h = ap number (ofBits-toBits binary64 x h)
 symbol-back (name k) h = refl
-symbol-back (word w) h = word-back w 0
+symbol-back (word w) h = symbol-word w 0
 
 -- and so does the row
 pub held-back : (ts : List Symbol) → AllHold ts → heldRow (map kindOf ts) (map argOf ts) ≡ ts

@@ -43,12 +43,6 @@ key-injective (x ∷ xs) (y ∷ ys) t u e =
     let b : lowWord xs ≡ lowWord ys = omega arith in
     ap₂ _∷_ a (key-injective xs ys (all-pass isWord x xs t .1) (all-pass isWord y ys u .1) b)
 
--- a key is above 0
-pub key-above : (n : List ℕ) → run isWord n ≡ n → 0 < length n → 0 < keyOf n
-unfolding lowWord
-key-above [] t h = absurd (let z : ⊥ = omega arith in z)
-key-above (x ∷ xs) t h = omega (arith, first-byte x xs t)
-
 -- and has no more bytes than the name
 pub key-below : (n : List ℕ) → run isWord n ≡ n → keyOf n < 256 ^ length n
 unfolding lowWord

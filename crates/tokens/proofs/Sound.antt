@@ -1,16 +1,16 @@
 -- What every cut gives: a good token lies inside the text, the next place is behind it, and it is what its kind says.
 use Prim.Native.Nat.{ℕ, _+_, _≤_, _<_}
-use mathlib.Core.Path.{_≡_, refl, ap, _∙_}
+use mathlib.Core.Path.{_≡_, refl, ap}
 use mathlib.Core.Bool.{Bool, true, false, _||_, _&&_}
 use mathlib.Core.List.{List}
 use native.Mathlib.Omega.{arith}
 use borrow.Author.Tests.{ltb-false, leb-false, le-leb, eqb-false}
 use lib.Dec.{T, eqb, leb, ltb}
-use lib.ListN.{length, getD, take, drop}
+use lib.ListN.{length, getD}
 use lib.Ieee.{binary64, fits}
 use lib.Ieee.Scale.{finite}
 use Rattle.laws.proofs.Tests.{cond-ind}
-use Rattle.laws.proofs.Runs.{inside, run-more, run-room, run-take}
+use Rattle.laws.proofs.Runs.{inside, run-more, run-room}
 use Rattle.limits.specs.Limits.{nameBytes, exponentDigits}
 use Rattle.tokens.specs.declared.Token.{Token}
 use Rattle.tokens.specs.declared.Token.the-variants.{Name, Mark, Number, End, Bad}
@@ -26,16 +26,14 @@ pub record Inside (s : List ℕ) (lo next : ℕ) : Type 0 where
   pub onward : lo < next
   pub room : next ≤ length s
 
--- a name is the longest run of letters and digits at its place
-pub record NameIn (s : List ℕ) (p n next : ℕ) : Type 0 where
-  pub count : n ≡ length (wordAt s p)
-  pub some : 0 < n
+-- a name has not too many bytes, and ends where the next place is
+pub record NameIn (p n next : ℕ) : Type 0 where
   pub few : n ≤ nameBytes
   pub ends : next ≡ p + n
 
 -- what holds of a cut from lo on, by its token
 abbrev pub Sound : List ℕ → ℕ → Token → ℕ → Type 0
-Sound s lo (Name p n) next = Inside s lo next × NameIn s p n next
+Sound s lo (Name p n) next = Inside s lo next × NameIn p n next
 Sound s lo (Mark b) next = Inside s lo next × (isMark b ≡ true)
 Sound s lo (Number x) next = Inside s lo next × T (finite x) × T (fits binary64 x)
 Sound s lo End next = Unit {0}
@@ -128,7 +126,7 @@ module _ (s : List ℕ) (lo : ℕ) where
       cond-ind Good (ltb nameBytes n) (badAt 15 at) (cutOf (Name at n) at (at + n)) (λ _. tt)
       (λ t. (
         record { onward = omega arith; room = run-room isWord s at (omega arith) },
-        record { count = refl; some = omega arith; few = ltb-false nameBytes n t; ends = refl },
+        record { few = ltb-false nameBytes n t; ends = refl },
       ))
 
   -- each token that can start at a place
@@ -156,7 +154,3 @@ cut-end s from h =
     let at = from + length (spacesAt s from) in
     let k : length s ≤ at = omega arith in
     rw (le-leb (length s) at k)
-
--- a name's bytes are that run
-pub name-bytes : (s : List ℕ) (p n next : ℕ) → NameIn s p n next → take n (drop p s) ≡ wordAt s p
-name-bytes s p n next x = ap (λ (k : ℕ). take k (drop p s)) (x .count) ∙ run-take isWord (drop p s)

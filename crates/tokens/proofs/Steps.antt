@@ -19,7 +19,7 @@ use Rattle.tokens.specs.declared.RowEnd.the-variants.{NoRoom, Tokens, Fa
 use Rattle.tokens.specs.Symbol.{Symbol, mark, number, symbolNamed}
 use Rattle.tokens.specs.Held.{kindOf, argOf}
 use Rattle.tokens.specs.Token.{cutAt}
-use Rattle.tokens.specs.Row.{Close, whole, bad, closed, onto, ahead, rowOf}
+use Rattle.tokens.specs.Row.{Close, all-good, bad, bare, onto, ahead, rowOf}
 use Rattle.tokens.specs.Steps.{heldAs, stepOf, stepAt}
 use Rattle.tokens.specs.Written.{closeEnd, rowEnd, kindsOf, argsOf, roomy, Written}
 use Rattle.tokens.proofs.Sound.{Inside, Sound, cut-sound}
@@ -52,8 +52,8 @@ pub record Taken (s : List ℕ) (from : ℕ) (h : Held) (next : ℕ) : Type 0 wh
 -- the end, and a bad token
 abbrev Follows : List ℕ → ℕ → Step → Type 0
 Follows s from (Good h next) = Taken s from h next
-Follows s from Over = rest s from ≡ closed whole
-Follows s from (Refused code at) = rest s from ≡ closed (bad code at)
+Follows s from Over = rest s from ≡ bare all-good
+Follows s from (Refused code at) = rest s from ≡ bare (bad code at)
 
 -- by the token of the cut
 follows : (s : List ℕ) (from : ℕ) (t : Token) (at next : ℕ) → Sound s from t next → rest s from ≡ ahead s t at (rest s next)
@@ -101,8 +101,8 @@ module _ (s ks₀ us₀ ks us : List ℕ) (from n : ℕ) (t : Turn s ks₀ us₀
   full : roomy s ks₀ us₀ ≡ true
   full = rw (le-leb (length s) (length ks₀) (t .room .0), le-leb (length s) (length us₀) (t .room .1))
 
-  -- the row is closed: all of it is written
-  closing : (c : Close) → rest s from ≡ closed c → Written s ks₀ us₀ (closeEnd c n) ks us
+  -- no token is left: all of the row is written
+  closing : (c : Close) → rest s from ≡ bare c → Written s ks₀ us₀ (closeEnd c n) ks us
   closing c e =
       let all : closeEnd c (n + 0) ≡ rowEnd (rowOf s) = rw e at (t .answer) in
       let ks-all : ks ≡ sets ks₀ 0 (kindsOf (rowOf s)) = rw e at (t .kinds) in
@@ -111,7 +111,7 @@ module _ (s ks₀ us₀ ks us : List ℕ) (from n : ℕ) (t : Turn s ks₀ us₀
 
   -- at the end of the text
   pub turn-over : Over ≡ stepAt s from → Written s ks₀ us₀ (Tokens n) ks us
-  turn-over e = closing whole (says s from Over e)
+  turn-over e = closing all-good (says s from Over e)
 
   -- at a bad token
   pub turn-refused : (code at : ℕ) → Refused code at ≡ stepAt s from → Written s ks₀ us₀ (Fault code n at) ks us

@@ -55,7 +55,7 @@ exactly-value (inf s) n t = absurd t
 exactly-value (fin true m e) n t = absurd t
 exactly-value (fin false m e) n t = (refl, eqb→eq (m * up e * 1) (n * down e) t)
 
--- an f64 holds each power of ten up to 10 ^ 22
+-- an f64 holds each power of ten up to 10 ^ mostTens
 pub ten-exact : (k : ℕ) → k ≤ mostTens → HasValue (tenTo k) false (10 ^ k) 1
 unfolding exactly tenTo ofInt
 ten-exact k h = exactly-value (tenTo k) (10 ^ k) (all-at (λ (j : ℕ). exactly (tenTo j) (10 ^ j)) (suc mostTens) tt k (suc-le-suc h))
@@ -68,7 +68,7 @@ cross-mul P Q a b E D p q =
     mul-one (P * Q)
     ∙ ap (λ (x : ℕ). x * Q) (sym (mul-one P) ∙ p)
     ∙ ap (λ (x : ℕ). a * E * x) (sym (mul-one Q) ∙ q)
-    ∙ simp (mul-assoc, mul-comm, mul-left-comm)
+    ∙ simp (mul-assoc, mul-left-comm)
 
 -- a product of whole numbers that are held exactly is rounded once
 pub mul-round : (f : Format) (x y : Float) (a b : ℕ) → HasValue x false a 1 → HasValue y false b 1 → mul f x y ≡ round f false (a * b) 1
@@ -148,11 +148,15 @@ finite-under (inf false) (inf t) p q h = absurd q
 finite-under (inf false) (fin t n d) p q h = absurd h
 finite-under (fin s m e) y p q h = tt
 
--- at most 10 ^ 37 is finite
-round-finite : (a c : ℕ) → 0 < c → a ≤ 10 ^ 37 * c → T (finite (round binary64 false a c))
+-- the largest product
+abbrev largest : ℕ
+largest = mostDigits * 10 ^ mostTens
+
+-- what is at most that is finite
+round-finite : (a c : ℕ) → 0 < c → a ≤ largest * c → T (finite (round binary64 false a c))
 round-finite a c C h =
-    finite-under (round binary64 false a c) (round binary64 false (10 ^ 37) 1) (round-plain binary64 a c) (unfold round in tt)
-    (round-mono binary64 a c (10 ^ 37) 1 C (lit< tt) (le-trans (le-of-eq (mul-one a)) h))
+    finite-under (round binary64 false a c) (round binary64 false largest 1) (round-plain binary64 a c) (unfold round in tt)
+    (round-mono binary64 a c largest 1 C (lit< tt) (le-trans (le-of-eq (mul-one a)) h))
 
 -- the product is finite
 product-finite : (m k : ℕ) → m ≤ mostDigits → k ≤ mostTens → T (finite (mul binary64 (ofInt binary64 (pos m)) (tenTo k)))
@@ -165,7 +169,7 @@ product-finite m k h l =
 quotient-finite : (m k : ℕ) → m ≤ mostDigits → k ≤ mostTens → T (finite (div binary64 (ofInt binary64 (pos m)) (tenTo k)))
 quotient-finite m k h l =
     let C : 1 ≤ 10 ^ k = one-le-pow k 10 (lit< tt) in
-    let one : 10 ^ 37 ≤ 10 ^ 37 * 10 ^ k = le-trans (le-of-eq (sym (mul-one (10 ^ 37)))) (mul-le-mul-left (10 ^ 37) C) in
+    let one : largest ≤ largest * 10 ^ k = le-trans (le-of-eq (sym (mul-one largest))) (mul-le-mul-left largest C) in
     rw (quotient m k h l) (round-finite m (10 ^ k) C (le-trans (le-trans h (lit≤ tt)) one))
 
 -- ---- the value of a number in range

@@ -47,24 +47,24 @@ lookup-more f other ws n r k x e h = e ∙ ap (cond (sameBytes n (r .spelling)) 
 -- ---- the kinds of words
 
 -- a word's kind is its own
-pub word-back : (w : Word) (a : ℕ) → symbolOf (wordKind w) a ≡ word w
-word-back CONST a = refl
-word-back PARAM a = refl
-word-back INCON a = refl
-word-back INTGRL a = refl
-word-back TIME a = refl
-word-back INSW a = refl
-word-back LIMIT a = refl
-word-back COMPAR a = refl
+pub symbol-word : (w : Word) (a : ℕ) → symbolOf (wordKind w) a ≡ word w
+symbol-word CONST a = refl
+symbol-word PARAM a = refl
+symbol-word INCON a = refl
+symbol-word INTGRL a = refl
+symbol-word TIME a = refl
+symbol-word INSW a = refl
+symbol-word LIMIT a = refl
+symbol-word COMPAR a = refl
 
 -- and not a name's
 no-name : (w : Word) → wordKind w ≡ nameKind → ⊥
 no-name w e =
-    let same : name 0 ≡ word w = sym (ap (λ (k : ℕ). symbolOf k 0) e) ∙ word-back w 0 in
+    let same : name 0 ≡ word w = sym (ap (λ (k : ℕ). symbolOf k 0) e) ∙ symbol-word w 0 in
     let z : _≡_ {A = ℕ} 0 1 = cc in
     omega arith
 
--- six bytes as two times three
+-- the key of nameBytes bytes as two times three
 pub key-threes : (n : List ℕ) → lowWord (take nameBytes n) ≡ threeOf n 0 + 16777216 * threeOf n 3
 unfolding lowWord
 key-threes [] = omega arith

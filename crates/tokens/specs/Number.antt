@@ -3,13 +3,13 @@ use Prim.Native.Nat.{ℕ, _+_, _*_, _-_, _^_}
 use mathlib.Core.List.{List, [], _∷_, _++_}
 use mathlib.Core.Bool.{Bool, true, false, _&&_, _||_, cond}
 use lib.ListN.{length, getD}
-use lib.Dec.{eqb, leb, ltb}
+use lib.Dec.{eqb, leb}
 use lib.IntN.{pos}
 use lib.Ieee.{Float, binary64, mul, div, ofInt}
 use Rattle.limits.specs.Limits.{mostDigits, mostTens, exponentDigits}
 use Rattle.tokens.specs.declared.Token.{Token}
-use Rattle.tokens.specs.declared.Token.the-variants.{Name, Mark, Number, End, Bad}
-use Rattle.tokens.specs.Bytes.{isWord, isPoint, digitsAt}
+use Rattle.tokens.specs.declared.Token.the-variants.{Number, Bad}
+use Rattle.tokens.specs.Bytes.{isPoint, digitsAt}
 
 -- digits read as a whole number, behind the number a
 unfoldable pub decimal : ℕ → List ℕ → ℕ
@@ -64,7 +64,7 @@ unfoldable pub scaled : ℕ → ℕ → ℕ → Float
 scaled m up down =
     cond (leb down up) (mul binary64 (ofInt binary64 (pos m)) (tenTo (up - down))) (div binary64 (ofInt binary64 (pos m)) (tenTo (down - up)))
 
--- m is at most 999,999,999,999,999 and k is from -22 to 22
+-- m is at most mostDigits, and k is at most mostTens from 0
 abbrev pub inRange : ℕ → ℕ → ℕ → Bool
 inRange m up down = leb m mostDigits && (leb up (down + mostTens) && leb down (up + mostTens))
 

@@ -73,7 +73,7 @@ fn three_at(name: &[u8], i: usize) -> u64
     a + 256 * b + 65536 * c
 }
 
-// The number that the first six bytes of a name are, or as many as there are.
+// The key of a name: the number that its first NAME_BYTES bytes are, two times three, or as many as there are.
 pub fn key_of(name: &[u8]) -> u64
     ensures { λ r. ⌜ r ≡ lowWord (take nameBytes (now (name .entry))) ⌝ }
 {

@@ -1,6 +1,5 @@
 -- The invariant: what is counted and what is left to count are all.
 use Prim.Native.Nat.{_-_}
-use native.Mathlib.Omega.{arith}
 use borrow.Author.Needs.{needs}
 use lib.ListN.{length}
 use Rattle.deck.proofs.Ends.{Counts, counts-first, counts-next, counts-last}

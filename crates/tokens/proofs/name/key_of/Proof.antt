@@ -1,5 +1,4 @@
--- Six bytes are two times three.
-use mathlib.Core.Path.{sym, _∙_}
+-- As many bytes as a name may have are two times three.
 use native.Mathlib.Omega.{arith}
 use borrow.Author.Needs.{needs}
 use Rattle.tokens.proofs.Words.{key-threes}

@@ -1,10 +1,9 @@
 use Prim.Native.Nat.{ℕ}
-use mathlib.Core.Path.{_≡_, sym, ap, _∙_}
+use mathlib.Core.Path.{_≡_, sym, _∙_}
 use mathlib.Core.Bool.{Bool, _||_}
 use mathlib.Core.List.{List}
 use native.Mathlib.Omega.{arith}
 use borrow.Author.Needs.{needs}
-use lib.ListN.{getD}
 use Rattle.tokens.specs.declared.number.Mantissa.{Mantissa}
 use Rattle.tokens.specs.declared.number.Power.{Power}
 use Rattle.tokens.specs.declared.number.Power.the-variants.{Wrong}

@@ -2,6 +2,7 @@
 use lib.Ieee
 use native.Mathlib.Omega.{arith}
 use mathlib.Core.Path.{_≡_}
+use Rattle.limits.specs.Limits.{mostTens}
 use Rattle.tokens.specs.Number.{tenTo}
 use Rattle.tokens.proofs.Tens.{NoneOf, none-below}
 use Rattle.tokens.proofs.number.ten.Statement.{statement}
@@ -99,7 +100,7 @@ returns-23 : tie.Need-returns-23
 unfolding Ieee.ofBits Ieee.ofInt tenTo NoneOf
 returns-23 c =
     let k = c .before .args .k in
-    let e : k ≡ 22 = omega (arith, c .before .pre, none-below 22 k (c .match .rest)) in
+    let e : k ≡ mostTens = omega (arith, c .before .pre, none-below mostTens k (c .match .rest)) in
     rw e
 
 pub ten-spec : {M : Type 1} → statement M
