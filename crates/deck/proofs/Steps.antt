@@ -14,7 +14,7 @@ use Rattle.deck.specs.Next.{width, runOf, nextOf, Lawful, foundFrom, Fur
 use Rattle.deck.specs.declared.Cursor.{Cursor}
 use Rattle.deck.specs.declared.Found.{Found}
 use Rattle.deck.specs.declared.Found.the-variants.{Statement, End}
-use Rattle.deck.proofs.Bytes.{lineOf, LineAt, line-at, lines-end, lines-some}
+use Rattle.deck.proofs.Cutting.{lineOf, LineAt, line-at, lines-end, lines-some}
 
 -- ---- inside the statement that starts at start: what is found from place at on, where a line ends at e, is what is found from start on
 pub record Running (t : List ℕ) (first start at e k : ℕ) (long : Bool) : Type 0 where

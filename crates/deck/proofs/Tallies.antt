@@ -10,7 +10,7 @@ use Rattle.deck.specs.Lines.{Line, cut, linesOf, dotted, passed}
 use Rattle.deck.specs.Reading.{State, fresh, inside, goes-on, ends, after, ended, left, reading}
 use Rattle.deck.specs.Survey.{sizesOf, begun, tallied}
 use Rattle.deck.specs.declared.counts.Tally.{Tally}
-use Rattle.deck.proofs.Bytes.{lineOf, LineAt, lines-end}
+use Rattle.deck.proofs.Cutting.{lineOf, LineAt, lines-end}
 
 -- whether a statement is open
 abbrev open-in : State → Bool

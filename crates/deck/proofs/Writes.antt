@@ -10,7 +10,7 @@ use Rattle.deck.specs.Lines.{Line}
 use Rattle.deck.specs.Joined.{partOf, joined}
 use Rattle.deck.specs.Next.{cardsAt}
 use Rattle.deck.specs.Codes.{spaced}
-use Rattle.deck.proofs.Bytes.{lineOf, LineAt, lines-end}
+use Rattle.deck.proofs.Cutting.{lineOf, LineAt, lines-end}
 use Rattle.deck.proofs.Parts.{part-le, joined-cons}
 
 -- ---- so many lines from a place on

@@ -82,7 +82,7 @@ unfolding free
 free-snoc zero a l h e = absurd (omega arith)
 free-snoc (suc k) a l h e =
     ⊎-elim (λ q. rw (← q) (omega (arith, free-above a a l (omega arith), count-snoc-same a l)))
-    (λ m. omega (arith, free-snoc k a l m e, count-snoc-other k a l (λ q. omega arith))) (eq-or-lt-of-le (omega arith))
+    (λ (m : a < k). omega (arith, free-snoc k a l m e, count-snoc-other k a l (λ q. omega arith))) (eq-or-lt-of-le (omega arith))
 
 free-zero : (k : ℕ) (l : List ℕ) → free k l ≡ 0 → (i : ℕ) → i < k → i ∈ l
 unfolding free

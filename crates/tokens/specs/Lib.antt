@@ -1,8 +1,10 @@
+-- the paper
 pub mod Bytes
 pub mod Number
 pub mod Token
 pub mod Symbol
 pub mod Row
+-- as code holds it
 pub mod Kinds
 pub mod Held
 pub mod Names

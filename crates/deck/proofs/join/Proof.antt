@@ -2,7 +2,7 @@
 use Prim.Native.Nat.{_<_}
 use native.Mathlib.Omega.{arith}
 use borrow.Author.Needs.{needs}
-use Rattle.deck.proofs.Bytes.{LineAt, lineOf, line-at}
+use Rattle.deck.proofs.Cutting.{LineAt, lineOf, line-at}
 use Rattle.deck.proofs.Parts.{part-le}
 use Rattle.deck.proofs.Writes.{cards-none, cards-end, join-none, join-all}
 use Rattle.deck.proofs.join.Statement.{statement}

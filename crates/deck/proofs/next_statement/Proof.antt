@@ -3,7 +3,7 @@ use Prim.Native.Nat.{_-_}
 use mathlib.Core.Path.{sym, _∙_}
 use borrow.Author.Needs.{needs}
 use lib.ListN.{length}
-use Rattle.deck.proofs.Bytes.{LineAt, line-at}
+use Rattle.deck.proofs.Cutting.{LineAt, line-at}
 use Rattle.deck.proofs.Steps.{Seeking, seeking-first, seeking-next, seeking-run, seeking-end, found-none, found-end, found-both}
 use Rattle.deck.proofs.next_statement.Statement.{statement}
 use Rattle.deck.proofs.next_statement.Tie as tie

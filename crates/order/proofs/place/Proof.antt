@@ -4,7 +4,7 @@ use native.Mathlib.Omega.{arith}
 use borrow.Author.Needs.{needs}
 use Rattle.limits.specs.Limits.{mostStatements}
 use Rattle.order.proofs.Settling.{blank}
-use Rattle.order.proofs.Going.{Going, going-start, going-found, going-long, going-end, going-stop, going-woken, going-step}
+use Rattle.order.proofs.Placing.{Going, going-start, going-found, going-long, going-end, going-stop, going-woken, going-step}
 use Rattle.order.proofs.place.Statement.{statement}
 use Rattle.order.proofs.place.Tie as tie
 

@@ -1,7 +1,7 @@
 -- The invariant: to write what is left, on the buffer as it is, gives what to write all gave at first.
 use native.Mathlib.Omega.{arith}
 use borrow.Author.Needs.{needs}
-use Rattle.deck.proofs.Bytes.{LineAt, line-at}
+use Rattle.deck.proofs.Cutting.{LineAt, line-at}
 use Rattle.deck.proofs.Writes.{cards-none, cards-end, Joining, joining-first, joining-next, joining-last}
 use Rattle.deck.proofs.joining.join_spaced.Statement.{statement}
 use Rattle.deck.proofs.joining.join_spaced.Tie as tie

@@ -5,7 +5,7 @@ use borrow.Author.Needs.{needs}
 use lib.ListN.{length}
 use Rattle.deck.specs.Next.{Passes}
 use Rattle.deck.proofs.Ends.{passes-both}
-use Rattle.deck.proofs.Bytes.{width-ten, width-more, width-end}
+use Rattle.deck.proofs.Cutting.{width-ten, width-more, width-end}
 use Rattle.deck.proofs.lines.line_end.Statement.{statement}
 use Rattle.deck.proofs.lines.line_end.Tie as tie
 

@@ -6,7 +6,7 @@ use borrow.Author.Needs.{needs}
 use lib.ListN.{length, take}
 use lib.Seq.{take-length}
 use Rattle.deck.specs.Lines.{trimmed}
-use Rattle.deck.proofs.Bytes.{trimmed-at-space, trimmed-at-other}
+use Rattle.deck.proofs.Cutting.{trimmed-at-space, trimmed-at-other}
 use Rattle.deck.proofs.lines.trim.Statement.{statement}
 use Rattle.deck.proofs.lines.trim.Tie as tie
 

@@ -6,7 +6,7 @@ use borrow.Author.Needs.{needs}
 use borrow.Author.Tests.{not-true, not-false}
 use lib.ListN.{length}
 use Rattle.deck.specs.Lines.{dotted}
-use Rattle.deck.proofs.Bytes.{lineOf}
+use Rattle.deck.proofs.Cutting.{lineOf}
 use Rattle.deck.proofs.Steps.{Running, running-first, running-next, running-stop, running-end}
 use Rattle.deck.proofs.statements.run.Statement.{statement}
 use Rattle.deck.proofs.statements.run.Tie as tie

@@ -1,12 +1,23 @@
 -- Each power is the float of its number.
 use lib.Ieee
 use native.Mathlib.Omega.{arith}
+use Prim.Native.Nat.{ℕ, zero, suc, _≤_}
 use mathlib.Core.Path.{_≡_}
 use Rattle.limits.specs.Limits.{mostTens}
 use Rattle.tokens.specs.Number.{tenTo}
-use Rattle.tokens.proofs.Tens.{NoneOf, none-below}
 use Rattle.tokens.proofs.number.ten.Statement.{statement}
 use Rattle.tokens.proofs.number.ten.Tie as tie
+
+-- a number that is none of the first n
+unfoldable NoneOf : ℕ → ℕ → Type 0
+NoneOf zero k = Unit {0}
+NoneOf (suc n) k = NoneOf n k × (k ≡ n → ⊥)
+
+-- such a number is at least n
+none-below : (n k : ℕ) → NoneOf n k → n ≤ k
+unfolding NoneOf
+none-below zero k h = omega arith
+none-below (suc n) k h = omega (arith, none-below n k (h .0), h .1)
 
 returns : tie.Need-returns
 unfolding Ieee.ofBits Ieee.ofInt tenTo

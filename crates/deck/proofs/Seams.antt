@@ -9,7 +9,7 @@ use lib.Dec.{eqb}
 use lib.ListN.{length-append}
 use Rattle.deck.specs.Lines.{Line, cut, linesOf}
 use Rattle.deck.specs.Later.{Whole, Seam}
-use Rattle.deck.proofs.Bytes.{lines-cons}
+use Rattle.deck.proofs.Cutting.{lines-cons}
 
 -- lines behind a first line stay behind it
 cut-append : (f : Bool) (b : ℕ) (l : Line) (ls ms : List Line) → cut f b ((l ∷ ls) ++ ms) ≡ cut f b (l ∷ ls) ++ ms

@@ -20,7 +20,7 @@ use Rattle.deck.specs.Codes.{sizeCode, flawOf, joinedRoom}
 use Rattle.deck.specs.declared.Cursor.{Cursor}
 use Rattle.deck.specs.declared.Found.{Found}
 use Rattle.deck.specs.declared.Found.the-variants.{Statement, End}
-use Rattle.deck.proofs.Bytes.{lines-tail}
+use Rattle.deck.proofs.Cutting.{lines-tail}
 use Rattle.deck.proofs.Steps.{found-next, found-further}
 use Rattle.deck.proofs.Parts.{size-flaw, joined-short}
 
