@@ -65,7 +65,9 @@ trimmed-other (a ∷ l) b e = rw (trimmed-other l b e) (kept-suc (eqb a 32) (len
 module _ (l : Line) (n : ℕ) (z : 0 < n) (h : n ≤ length l) where
   -- the front by its last byte
   last : trimmed (take n l) ≡ trimmed (take (n - 1) l ++ (getD l (n - 1) 0 ∷ []))
-  last = let s : n ≡ suc (n - 1) = omega arith in ap (λ (k : ℕ). trimmed (take k l)) s ∙ rw (take-suc l (n - 1) 0 (omega arith))
+  last =
+      let s : n ≡ suc (n - 1) = omega arith in
+      ap (λ (k : ℕ). trimmed (take k l)) s ∙ rw (take-suc l (n - 1) 0 (omega arith))
 
   -- a space there is set aside
   pub trimmed-at-space : getD l (n - 1) 0 ≡ 32 → trimmed (take n l) ≡ trimmed (take (n - 1) l)
@@ -73,7 +75,8 @@ module _ (l : Line) (n : ℕ) (z : 0 < n) (h : n ≤ length l) where
 
   -- another byte there is kept
   pub trimmed-at-other : (getD l (n - 1) 0 ≡ 32 → ⊥) → trimmed (take n l) ≡ n
-  trimmed-at-other e = last ∙ rw (trimmed-other (take (n - 1) l) _ e, length-take-le (n - 1) l (omega arith)) (omega arith)
+  trimmed-at-other e =
+      last ∙ rw (trimmed-other (take (n - 1) l) _ e, length-take-le (n - 1) l (omega arith)) (omega arith)
 
 -- ---- lines from a place on
 
@@ -92,7 +95,8 @@ lines-cons (b ∷ c ∷ t) h = go (eqb b 10) (lines-cons (c ∷ t) (omega arith)
     n = width (c ∷ t)
 
     go : (f : Bool) → linesOf (c ∷ t) ≡ take n (c ∷ t) ∷ linesOf (drop (suc n) (c ∷ t))
-        → cut f b (linesOf (c ∷ t)) ≡ take (cond f 0 (suc n)) (b ∷ c ∷ t) ∷ linesOf (drop (suc (cond f 0 (suc n))) (b ∷ c ∷ t))
+        → cut f b (linesOf (c ∷ t)) ≡ take (cond f 0 (suc n)) (b ∷ c ∷ t) ∷ linesOf
+        (drop (suc (cond f 0 (suc n))) (b ∷ c ∷ t))
     go true e = refl
     go false e = ap (cut false b) e
 
@@ -130,7 +134,8 @@ lines-end t at h = rw (drop-of-length-le t h)
 module _ (t : List ℕ) (at : ℕ) (l : Line) (ls : List Line) (q : linesOf (drop at t) ≡ l ∷ ls) where
   -- where a line is there are bytes
   pub lines-some : at < length t
-  lines-some = ⊎-elim (λ h. h) (λ h. let z : _≡_ {A = ℕ} 0 1 = cc (q, lines-end t at h) in absurd (omega arith)) (lt-or-ge at (length t))
+  lines-some = ⊎-elim (λ h. h) (λ h. let z : _≡_ {A = ℕ} 0 1 = cc (q, lines-end t at h) in absurd (omega arith))
+      (lt-or-ge at (length t))
 
   -- the lines behind a line are those from its end on
   pub lines-tail : linesOf (drop (at + length l + 1) t) ≡ ls

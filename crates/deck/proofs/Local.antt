@@ -6,17 +6,20 @@ use mathlib.Core.List.{List, [], _∷_, _++_, map, append-assoc, map-append}
 use native.Mathlib.Nat.{add-zero, add-suc, suc-add}
 use lib.ListN.{length}
 use Rattle.deck.specs.Lines.{Line, dotted, passed}
-use Rattle.deck.specs.Reading.{Statement, State, fresh, inside, goes-on, ends, after, ended, left, reading, closedIn, stateAfter}
+use Rattle.deck.specs.Reading.{Statement, State, fresh, inside, goes-on, ends, after, ended, left, reading}
+use Rattle.deck.specs.Reading.{closedIn, stateAfter}
 use Rattle.deck.specs.Reports.{report}
 use Rattle.deck.specs.Later.{later, laterState, laterReport}
 
 -- ---- a reading of p ++ q: what is closed in p, and then the reading of q from the state after p
-pub reading-append : (s : State) (n : ℕ) (p q : List Line) → reading s n (p ++ q) ≡ closedIn s n p ++ reading (stateAfter s n p) (n + length p) q
+pub reading-append : (s : State) (n : ℕ) (p q : List Line)
+    → reading s n (p ++ q) ≡ closedIn s n p ++ reading (stateAfter s n p) (n + length p) q
 unfolding reading closedIn stateAfter
 reading-append s n [] q = rw add-zero
 reading-append s n (l ∷ p) q = rw (reading-append (after s n l) (suc n) p q, append-assoc, add-suc, suc-add)
 
-pub state-append : (s : State) (n : ℕ) (p q : List Line) → stateAfter s n (p ++ q) ≡ stateAfter (stateAfter s n p) (n + length p) q
+pub state-append : (s : State) (n : ℕ) (p q : List Line)
+    → stateAfter s n (p ++ q) ≡ stateAfter (stateAfter s n p) (n + length p) q
 unfolding stateAfter
 state-append s n [] q = rw add-zero
 state-append s n (l ∷ p) q = rw (state-append (after s n l) (suc n) p q, add-suc, suc-add)
@@ -48,7 +51,8 @@ after-later : (k : ℕ) (s : State) (n : ℕ) (l : Line) → after (laterState k
 unfolding after
 after-later k fresh n l = go (passed l)
   where
-    go : (b : Bool) → cond b fresh (goes-on (dotted l) (k + n) (l ∷ [])) ≡ laterState k (cond b fresh (goes-on (dotted l) n (l ∷ [])))
+    go : (b : Bool) → cond b fresh (goes-on (dotted l) (k + n) (l ∷ []))
+        ≡ laterState k (cond b fresh (goes-on (dotted l) n (l ∷ [])))
     go true = refl
     go false = goes-on-later k (dotted l) n (l ∷ [])
 after-later k (inside f cs) n l = goes-on-later k (dotted l) f (cs ++ (l ∷ []))
@@ -57,7 +61,8 @@ ended-later : (k : ℕ) (s : State) (n : ℕ) (l : Line) → ended (laterState k
 unfolding ended
 ended-later k fresh n l = go (passed l)
   where
-    go : (b : Bool) → cond b [] (ends (dotted l) (k + n) (l ∷ [])) ≡ map (later k) (cond b [] (ends (dotted l) n (l ∷ [])))
+    go : (b : Bool) → cond b [] (ends (dotted l) (k + n) (l ∷ []))
+        ≡ map (later k) (cond b [] (ends (dotted l) n (l ∷ [])))
     go true = refl
     go false = ends-later k (dotted l) n (l ∷ [])
 ended-later k (inside f cs) n l = ends-later k (dotted l) f (cs ++ (l ∷ []))
@@ -67,7 +72,8 @@ unfolding left
 left-later k fresh = refl
 left-later k (inside f cs) = refl
 
-pub reading-later : (k : ℕ) (s : State) (n : ℕ) (ls : List Line) → reading (laterState k s) (k + n) ls ≡ map (later k) (reading s n ls)
+pub reading-later : (k : ℕ) (s : State) (n : ℕ) (ls : List Line)
+    → reading (laterState k s) (k + n) ls ≡ map (later k) (reading s n ls)
 unfolding reading
 reading-later k s n [] = left-later k s
 reading-later k s n (l ∷ ls) =

@@ -22,7 +22,8 @@ unfolding linesOf
 lines-append [] y = refl
 lines-append (b ∷ x) y =
     let e = lines-cons (x ++ (10 ∷ [])) (simp length-append (omega arith)) in
-    ap (cut (eqb b 10) b) (lines-append x y ∙ ap (λ (ls : List Line). ls ++ linesOf y) e) ∙ cut-append (eqb b 10) b _ _ (linesOf y)
+    ap (cut (eqb b 10) b) (lines-append x y ∙ ap (λ (ls : List Line). ls ++ linesOf y) e)
+    ∙ cut-append (eqb b 10) b _ _ (linesOf y)
     ∙ ap (λ (ls : List Line). cut (eqb b 10) b ls ++ linesOf y) (sym e)
 
 -- bytes behind whole lines are lines of their own

@@ -40,7 +40,8 @@ Right t (Statement f s k d g nx) = (length (cardsAt t s k) ≡ k) × (g ≡ anyL
 any-snoc : (cs : List Line) (l : Line) → anyLong (cs ++ (l ∷ [])) ≡ (anyLong cs || ltb cardBytes (length l))
 unfolding anyLong
 any-snoc [] l = or-false (ltb cardBytes (length l))
-any-snoc (c ∷ cs) l = rw (any-snoc cs l) (sym (or-assoc (ltb cardBytes (length c)) (anyLong cs) (ltb cardBytes (length l))))
+any-snoc (c ∷ cs) l =
+    rw (any-snoc cs l) (sym (or-assoc (ltb cardBytes (length c)) (anyLong cs) (ltb cardBytes (length l))))
 
 -- inside the statement that starts at s: cs are its lines so far, k of them, and ls the lines from place at on
 record Inside (t : List ℕ) (s at k : ℕ) (long : Bool) (cs ls : List Line) : Type 0 where
@@ -61,7 +62,8 @@ inside-next {t} {s} {at} {k} {long} {cs} {ls} l i =
     }
 
 -- so many lines from its start on are its lines so far
-inside-cards : {t : List ℕ} {s at k : ℕ} {long : Bool} {cs ls : List Line} → Inside t s at k long cs ls → cardsAt t s k ≡ cs
+inside-cards : {t : List ℕ} {s at k : ℕ} {long : Bool} {cs ls : List Line} → Inside t s at k long cs ls
+    → cardsAt t s k ≡ cs
 inside-cards {t} {s} {at} {k} {long} {cs} {ls} i = rw (i .all) (take-at cs ls k (i .count))
 
 -- inside a statement
@@ -70,7 +72,8 @@ run-reads : (t : List ℕ) (f s at k : ℕ) (long : Bool) (cs ls : List Line) �
 unfolding reading runOf left ended after
 run-reads t f s at k long cs [] i = (rw (i .rest, inside-cards i), rw (inside-cards i) (i .count, i .flag))
 run-reads t f s at k long cs (l ∷ ls) i =
-    go (dotted l) (run-reads t f s (at + length l + 1) (k + 1) (long || ltb cardBytes (length l)) (cs ++ (l ∷ [])) ls next)
+    go (dotted l)
+    (run-reads t f s (at + length l + 1) (k + 1) (long || ltb cardBytes (length l)) (cs ++ (l ∷ [])) ls next)
   where
     next : Inside t s (at + length l + 1) (k + 1) (long || ltb cardBytes (length l)) (cs ++ (l ∷ [])) ls
     next = inside-next l i
@@ -82,10 +85,12 @@ run-reads t f s at k long cs (l ∷ ls) i =
     more = runOf f s (at + length l + 1) (k + 1) (long || ltb cardBytes (length l)) ls
 
     stop : Found
-    stop = Statement f s (k + 1) true (long || ltb cardBytes (length l)) (record { at = at + length l + 1; line = f + (k + 1) })
+    stop = Statement f s (k + 1) true (long || ltb cardBytes (length l))
+        (record { at = at + length l + 1; line = f + (k + 1) })
 
     go : (b : Bool) → (reading (inside f (cs ++ (l ∷ []))) (f + (k + 1)) ls ≡ told t more) × Right t more
-        → (ends b f (cs ++ (l ∷ [])) ++ reading (goes-on b f (cs ++ (l ∷ []))) (suc (f + k)) ls ≡ told t (cond b more stop)) × Right t (cond b more stop)
+        → (ends b f (cs ++ (l ∷ [])) ++ reading (goes-on b f (cs ++ (l ∷ []))) (suc (f + k)) ls
+        ≡ told t (cond b more stop)) × Right t (cond b more stop)
     go true h = (rw up (h .0), h .1)
     go false h = (rw (up, next .rest, inside-cards next), rw (inside-cards next) (next .count, next .flag))
 
@@ -106,13 +111,15 @@ next-reads t at n (l ∷ ls) q = go (passed l) (next-reads t (at + length l + 1)
     run = run-reads t n at at 0 false [] (l ∷ ls) (record { count = refl; all = q; rest = q; flag = refl })
 
     go : (b : Bool) → (reading fresh (n + 1) ls ≡ told t more) × Right t more
-        → (cond b [] (ends (dotted l) n (l ∷ [])) ++ reading (cond b fresh (goes-on (dotted l) n (l ∷ []))) (suc n) ls ≡ told t (cond b more start))
+        → (cond b [] (ends (dotted l) n (l ∷ [])) ++ reading (cond b fresh (goes-on (dotted l) n (l ∷ []))) (suc n) ls
+        ≡ told t (cond b more start))
         × Right t (cond b more start)
     go true h = (rw (← (add-one n)) (h .0), h .1)
     go false h = (rw add-zero at (run .0), run .1)
 
 -- from a lawful cursor on
-found-reads : (t : List ℕ) (c : Cursor) → Lawful c → (statementsFrom t c ≡ told t (foundFrom t c)) × Right t (foundFrom t c)
+found-reads : (t : List ℕ) (c : Cursor) → Lawful c
+    → (statementsFrom t c ≡ told t (foundFrom t c)) × Right t (foundFrom t c)
 found-reads t c h = rw (found-next t c h) (next-reads t (c .at) (c .line) (linesOf (drop (c .at) t)) refl)
 
 -- ---- one step of a caller's walk, from a cursor c over the statement that was found there to the cursor nx behind it
@@ -134,7 +141,8 @@ module _ (t : List ℕ) (c : Cursor) (h : Lawful c) where
       let x = found-reads t c h in
       let r : Right t (Statement f s k d g nx) = rw e at (x .1) in
       let b : Further (length t) c (Statement f s k d g nx) = rw e at (found-further t c) in
-      let z : sizeFlaw (cardsAt t s k) d ≡ flawOf d (sizeCode k d g) = size-flaw (cardsAt t s k) d ∙ rw (r .0, ← (r .1)) in
+      let z : sizeFlaw (cardsAt t s k) d ≡ flawOf d (sizeCode k d g) =
+      size-flaw (cardsAt t s k) d ∙ rw (r .0, ← (r .1)) in
       record {
         reads = x .0 ∙ ap (told t) e;
         size = z;

@@ -60,7 +60,8 @@ fn put_spaced(line: &[u8], out: &mut [u8], at: usize) -> usize
 pub fn join_spaced(text: &[u8], start: usize, cards: usize, out: &mut [u8], to: usize) -> usize
     requires { ⌜ to < start ⌝ }
     ensures value { λ r. ⌜ r ≡ to + length (spaced (cardsAt (now (text .entry)) start cards)) ⌝ }
-    ensures written { λ _. ⌜ now (out .exit) ≡ sets (now (out .entry)) to (spaced (cardsAt (now (text .entry)) start cards)) ⌝ }
+    ensures written { λ _. ⌜ now (out .exit)
+        ≡ sets (now (out .entry)) to (spaced (cardsAt (now (text .entry)) start cards)) ⌝ }
 {
     let mut at = start;
     let mut left = cards;

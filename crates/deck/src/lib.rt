@@ -27,8 +27,8 @@ pub struct Cursor {
     pub line: usize,
 }
 
-// The next statement: its first line's number, where it starts, how many lines it has, whether a line without dots closed it, whether
-// one of its lines has too many bytes, and the cursor behind it. Or the end.
+// The next statement: its first line's number, where it starts, how many lines it has, whether a line without dots
+// closed it, whether one of its lines has too many bytes, and the cursor behind it. Or the end.
 pub enum Found {
     Statement {
         first: usize,
@@ -41,7 +41,8 @@ pub enum Found {
     End,
 }
 
-// The next statement from a cursor at which reading is fresh; none where the cursor's number is too large to be its line's.
+// The next statement from a cursor at which reading is fresh; none where the cursor's number is too large to be its
+// line's.
 pub fn next_statement(text: &[u8], c: Cursor) -> Found
     ensures value { λ r. ⌜ r ≡ foundFrom (now (text .entry)) c ⌝ }
     ensures further { λ r. ⌜ Further (length (now (text .entry))) c r ⌝ }
@@ -130,7 +131,8 @@ pub const JOINED_BYTES: usize = limits::CARDS * (limits::CARD_BYTES + 1) - 1;
 // Writes the joined text of so many lines from a place on, those of its bytes for which there is a place; its length.
 pub fn join(text: &[u8], start: usize, cards: usize, out: &mut [u8]) -> usize
     ensures value { λ r. ⌜ r ≡ length (joined (cardsAt (now (text .entry)) start cards)) ⌝ }
-    ensures written { λ _. ⌜ now (out .exit) ≡ sets (now (out .entry)) 0 (joined (cardsAt (now (text .entry)) start cards)) ⌝ }
+    ensures written { λ _. ⌜ now (out .exit)
+        ≡ sets (now (out .entry)) 0 (joined (cardsAt (now (text .entry)) start cards)) ⌝ }
 {
     if cards == 0 {
         return 0;

@@ -23,7 +23,8 @@ use Rattle.order.proofs.Tables.{fits-iff}
 -- ---- what `sort` shows
 module _ (n : ℕ) (s u lent : List ℕ) where
   -- the answer of a table that passes the test
-  pub sorts-placed : {out : List ℕ} {k : ℕ} → fits n s u (length lent) ≡ true → Filled n s u lent out k → Sorts n s u lent out (Placed k)
+  pub sorts-placed : {out : List ℕ} {k : ℕ} → fits n s u (length lent) ≡ true → Filled n s u lent out k
+      → Sorts n s u lent out (Placed k)
   sorts-placed f w = record { answer = rw f (ap Placed (w .count)); content = rw f (w .content) }
 
   -- and of one that does not
@@ -63,8 +64,11 @@ module _ {n : ℕ} {s u lent out : List ℕ} {r : Sorted} (w : Sorts n s u lent 
   -- what stands there is the order
   placed-front : take k out ≡ order n (usesIn s u)
   placed-front =
-      rw (placed-count, placed-content) (sets-back lent 0 (order n (usesIn s u)) (omega (arith, order-short n (usesIn s u), placed-fit .1)))
+      rw (placed-count, placed-content)
+      (sets-back lent 0 (order n (usesIn s u)) (omega (arith, order-short n (usesIn s u), placed-fit .1)))
 
   -- A STATEMENT IS PLACED exactly if it is not unsortable
   pub placed-iff : (i : ℕ) → i < n → has i (take k out) ≡ not (unsortable n (usesIn s u) i)
-  placed-iff i h = rw placed-front (sym (Bool·not-not (has i (order n (usesIn s u)))) ∙ ap not (left-over-unsortable n (usesIn s u) i h))
+  placed-iff i h =
+      rw placed-front (sym (Bool·not-not (has i (order n (usesIn s u))))
+      ∙ ap not (left-over-unsortable n (usesIn s u) i h))

@@ -21,13 +21,15 @@ pub any-true : (k : ℕ) (f : ℕ → Bool) → any k f ≡ true → (j : ℕ) �
 unfolding any
 any-true zero f e = absurd (not-both e refl)
 any-true (suc k) f e =
-    ⊎-elim (λ t. (k, omega arith, t)) (λ t. let r = any-true k f t in (r .0, omega arith, r .2)) (or-true (f k) (any k f) e)
+    ⊎-elim (λ t. (k, omega arith, t)) (λ t. let r = any-true k f t in (r .0, omega arith, r .2))
+    (or-true (f k) (any k f) e)
 
 pub any-intro : (k : ℕ) (f : ℕ → Bool) (j : ℕ) → j < k → f j ≡ true → any k f ≡ true
 unfolding any
 any-intro zero f j h e = absurd (omega arith)
 any-intro (suc k) f j h e =
-    ⊎-elim (λ q. or-left (f k) (any k f) (rw (← q) e)) (λ l. or-right (f k) (any k f) (any-intro k f j l e)) (eq-or-lt-of-le (omega arith))
+    ⊎-elim (λ q. or-left (f k) (any k f) (rw (← q) e)) (λ l. or-right (f k) (any k f) (any-intro k f j l e))
+    (eq-or-lt-of-le (omega arith))
 
 module _ (n : ℕ) (uses : ℕ → ℕ → Bool) where
   -- the test finds a chain of k behind i exactly if there is one

@@ -1,5 +1,5 @@
--- Demand 2 on statements that use one another: unsortable exactly if no order has every value set before use; otherwise the order is the
--- first of all such orders.
+-- Demand 2 on statements that use one another: unsortable exactly if no order has every value set before use; otherwise
+-- the order is the first of all such orders.
 use mathlib.Core.Path.{_≡_}
 use mathlib.Core.Bool.{Bool, false}
 use mathlib.Core.Logic.{⊎-elim, _↔_}
@@ -8,7 +8,8 @@ use Prim.Native.Nat.{ℕ, _<_}
 use Rattle.laws.proofs.Tests.{bool-cases, not-both}
 use Rattle.order.specs.Order.{_≼_, Good, First, unsortable}
 use Rattle.order.specs.Greedy.{order, LeftOver}
-use Rattle.order.proofs.Sorting.{left-over-iff, order-good, good-none-left, order-first, order-first-lines, order-unique}
+use Rattle.order.proofs.Sorting.{left-over-iff, order-good, good-none-left, order-first, order-first-lines}
+use Rattle.order.proofs.Sorting.{order-unique}
 use Rattle.order.proofs.Chains.{unsortable-iff}
 
 module _ (n : ℕ) (uses : ℕ → ℕ → Bool) where

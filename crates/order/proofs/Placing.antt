@@ -25,8 +25,8 @@ use Rattle.order.proofs.Searches.{first-skip, first-bound}
 use Rattle.order.proofs.Marking.{ready-same, cursors-mark}
 use Rattle.order.proofs.Flagging.{flags-tell, flags-mark}
 
--- k statements are placed: they stand at the front of `out` and are marked, and with those that are still to be placed they make the
--- order; none before `from` is flagged
+-- k statements are placed: they stand at the front of `out` and are marked, and with those that are still to be placed
+-- they make the order; none before `from` is flagged
 pub record Going (n : ℕ) (s u lent out marks flags cursors heads links waits : List ℕ) (from k : ℕ) : Type 0 where
   pub fit : Fit n s u
   pub room : n ≤ length lent
@@ -83,7 +83,8 @@ module _ {n : ℕ} {s u lent out marks flags cursors heads links waits : List �
       let told : (i : ℕ) → i < n → flag flags i ≡ readyIn n s u marks i =
       flags-tell (g .fit) (g .state .known) (λ i _ l e. omega (arith, g .fit .few)) in
       sym (first-skip (flag flags) n from (g .begun) (λ j h. le-ltb 0 (getD flags j 0) (omega (arith, g .clear j h))))
-      ∙ first-same (flag flags) (ready n uses placed) n n 0 (omega arith) (λ i h. told i h ∙ ready-same n s u marks i placed (g .mark) h)
+      ∙ first-same (flag flags) (ready n uses placed) n n 0 (omega arith)
+      (λ i h. told i h ∙ ready-same n s u marks i placed (g .mark) h)
 
   -- what is found is one of the n, if it is not n itself
   pub going-found : (i : ℕ) → i ≡ found → (i ≡ n → ⊥) → i < n
@@ -102,7 +103,8 @@ module _ {n : ℕ} {s u lent out marks flags cursors heads links waits : List �
   done e = record { count = rw e (sym going-front); content = rw e (g .content) }
 
   -- one step of the order
-  going-on : k < n → place n uses (n - k) placed ≡ cond (ltb chosen n) (place n uses (n - (k + 1)) (placed ++ (chosen ∷ []))) placed
+  going-on : k < n → place n uses (n - k) placed
+      ≡ cond (ltb chosen n) (place n uses (n - (k + 1)) (placed ++ (chosen ∷ []))) placed
   unfolding place
   going-on h = let z : n - k ≡ suc (n - (k + 1)) = omega arith in rw z
 
@@ -116,7 +118,8 @@ module _ {n : ℕ} {s u lent out marks flags cursors heads links waits : List �
   going-stop h i e z = done (sym (g .left) ∙ going-on h ∙ rw (le-ltb chosen n (omega (arith, going-next))))
 
   -- i is found: it is marked, and those that wait for it are woken
-  pub going-woken : (i : ℕ) → i ≡ found → i < n → Woken n s u (set marks i 1) (set flags i 0) cursors heads links waits i i
+  pub going-woken : (i : ℕ) → i ≡ found → i < n
+      → Woken n s u (set marks i 1) (set flags i 0) cursors heads links waits i i
   going-woken i e l =
       let li : i < length marks = omega (arith, g .size, g .fit .few) in
       let hit : 0 < getD flags i 0 =
@@ -132,7 +135,9 @@ module _ {n : ℕ} {s u lent out marks flags cursors heads links waits : List �
             λ j h.
             getD-set-other flags i j 0 0 (λ q. omega arith)
             ∙ ⊎-elim (g .clear j)
-            (λ w. omega (arith, ltb-false 0 (getD flags j 0) (first-before (flag flags) (n - from) from j w (omega arith)))) (lt-or-ge j from);
+            (λ w. omega
+            (arith, ltb-false 0 (getD flags j 0) (first-before (flag flags) (n - from) from j w (omega arith))))
+            (lt-or-ge j from);
       }
 
   -- one more is placed
@@ -144,7 +149,8 @@ module _ {n : ℕ} {s u lent out marks flags cursors heads links waits : List �
       let ln : chosen < n = rw f at l in
       let li : i < length marks = omega (arith, g .size, g .fit .few) in
       let fresh : count i placed ≡ 0 = rw f (ready-free n uses placed _ (next-ready n uses placed ln)) in
-      let front : take (k + 1) (set out k i) ≡ placed ++ (i ∷ []) = rw add-one (take-suc-set out k i (omega (arith, g .room, going-long))) in
+      let front : take (k + 1) (set out k i) ≡ placed ++ (i ∷ []) =
+      rw add-one (take-suc-set out k i (omega (arith, g .room, going-long))) in
       record {
         fit = g .fit;
         room = g .room;

@@ -33,10 +33,15 @@ unfolding Leads count
 leads-set l a b x [] z h = h
 leads-set l a b x (y ∷ ys) z h =
     ⊎-elim (λ (e : a ≡ y). absurd (omega (arith, once-same y, ap (λ k. once (eqb k y)) e)))
-    (λ e. (h .0, rw (getD-set-other l a y b 0 (λ q. e (sym q))) (leads-set l a b (getD l y 0) ys (omega (arith, once-other a y e)) (h .1)))) (eq-or-ne a y)
+    (λ e. (
+      h .0,
+      rw (getD-set-other l a y b 0 (λ q. e (sym q)))
+          (leads-set l a b (getD l y 0) ys (omega (arith, once-other a y e)) (h .1)),
+    )) (eq-or-ne a y)
 
 -- a list that has begun: its first, and the rest
-begun : (l : List ℕ) (x : ℕ) (ys : List ℕ) → x < none → Leads l x ys → (zs : List ℕ) × (ys ≡ x ∷ zs) × Leads l (getD l x 0) zs
+begun : (l : List ℕ) (x : ℕ) (ys : List ℕ) → x < none → Leads l x ys
+    → (zs : List ℕ) × (ys ≡ x ∷ zs) × Leads l (getD l x 0) zs
 unfolding Leads
 begun l x [] h e = absurd (omega arith)
 begun l x (y ∷ zs) h e = (zs, ap (λ k. k ∷ zs) (sym (e .0)), rw (e .0) (e .1))
@@ -99,7 +104,8 @@ module _ {n : ℕ} {h l v : List ℕ} (few : n ≤ mostStatements) where
           let c : count x (g .queue p) ≡ once (eqb x x) + count x (b .0) = ap (count x) (b .1) in
           let m : x < n = g .only x p hp (omega (arith, once-same x)) in (
             m,
-            ⊎-elim (λ (e : getD v x 0 ≡ p). e) (λ e. absurd (omega (arith, g .stands x p m hp, once-other (getD v x 0) p e, once-same x)))
+            ⊎-elim (λ (e : getD v x 0 ≡ p). e)
+                (λ e. absurd (omega (arith, g .stands x p m hp, once-other (getD v x 0) p e, once-same x)))
                 (eq-or-ne (getD v x 0) p),
           )
 
@@ -127,11 +133,27 @@ module _ {n : ℕ} {h l v : List ℕ} (few : n ≤ mostStatements) where
                 (λ (s : i ≡ x).
                 rw (s, at)
                 (⊎-elim (λ (r : q ≡ p). rw (put-same (g .queue) p zs r)
-                (omega (arith, c x, once-same x, g .stands x p (w .0) hp, ap (λ k. once (eqb k p)) (w .1), once-same p, free q hq)))
+                (omega (
+                  arith,
+                  c x,
+                  once-same x,
+                  g .stands x p (w .0) hp,
+                  ap (λ k. once (eqb k p)) (w .1),
+                  once-same p,
+                  free q hq,
+                )))
                 (λ r. rw (put-other (g .queue) p zs r)
-                (omega (arith, g .stands x q (w .0) hq, ap (λ k. once (eqb k q)) (w .1), once-other p q (λ e. r (sym e)), free q hq))) (eq-or-ne q p)))
+                (omega (
+                  arith,
+                  g .stands x q (w .0) hq,
+                  ap (λ k. once (eqb k q)) (w .1),
+                  once-other p q (λ e. r (sym e)),
+                  free q hq,
+                ))) (eq-or-ne q p)))
                 (λ s. rw (getD-set-other v x i none 0 s)
-                (⊎-elim (λ (r : q ≡ p). rw (put-same (g .queue) p zs r, r) (omega (arith, c i, once-other i x s, g .stands i p hi hp)))
+                (⊎-elim
+                (λ (r : q ≡ p). rw (put-same (g .queue) p zs r, r)
+                (omega (arith, c i, once-other i x s, g .stands i p hi hp)))
                 (λ r. rw (put-other (g .queue) p zs r) (g .stands i q hi hq)) (eq-or-ne q p))) (eq-or-ne i x);
             only =
                 λ i q hq m.
@@ -156,23 +178,29 @@ module _ {n : ℕ} {h l v : List ℕ} (few : n ≤ mostStatements) where
         links-size = length-set l x a ∙ g .links-size;
         waits-size = length-set v x j ∙ g .waits-size;
         queue = put (g .queue) j r;
-        own = λ hp. rw (put-other (g .queue) j r {q = p} (λ e. nj (sym e))) (leads-set l x a y (g .queue p) (free p hp) (g .own hp));
+        own = λ hp. rw (put-other (g .queue) j r {q = p} (λ e. nj (sym e)))
+            (leads-set l x a y (g .queue p) (free p hp) (g .own hp));
         shut = λ hp. getD-set-other h j p x 0 (λ e. nj (sym e)) ∙ g .shut hp;
         others =
             λ q hq e.
             ⊎-elim
             (λ (s : q ≡ j). rw (put-same (g .queue) j r s, s, getD-set-same h j x 0 lh)
             (refl, rw (getD-set-same l x a 0 ll) (leads-set l x a a (g .queue j) (free j hj) (g .others j hj nj))))
-            (λ s. rw (put-other (g .queue) j r s, getD-set-other h j q x 0 s) (leads-set l x a (getD h q 0) (g .queue q) (free q hq) (g .others q hq e)))
+            (λ s. rw (put-other (g .queue) j r s, getD-set-other h j q x 0 s)
+            (leads-set l x a (getD h q 0) (g .queue q) (free q hq) (g .others q hq e)))
             (eq-or-ne q j);
         stands =
             λ i q hi hq.
             ⊎-elim
             (λ (s : q ≡ j). rw (put-same (g .queue) j r s, s)
-            (⊎-elim (λ (w : i ≡ x). rw (w, getD-set-same v x j 0 lv) (omega (arith, once-same x, once-same j, free j hj)))
-            (λ w. rw (getD-set-other v x i j 0 w) (omega (arith, once-other i x w, g .stands i j hi hj))) (eq-or-ne i x)))
+            (⊎-elim
+            (λ (w : i ≡ x). rw (w, getD-set-same v x j 0 lv) (omega (arith, once-same x, once-same j, free j hj)))
+            (λ w. rw (getD-set-other v x i j 0 w) (omega (arith, once-other i x w, g .stands i j hi hj)))
+            (eq-or-ne i x)))
             (λ s. rw (put-other (g .queue) j r s)
-            (⊎-elim (λ (w : i ≡ x). rw (w, getD-set-same v x j 0 lv) (omega (arith, free q hq, once-other j q (λ e. s (sym e)))))
+            (⊎-elim
+            (λ (w : i ≡ x). rw (w, getD-set-same v x j 0 lv)
+            (omega (arith, free q hq, once-other j q (λ e. s (sym e)))))
             (λ w. rw (getD-set-other v x i j 0 w) (g .stands i q hi hq)) (eq-or-ne i x))) (eq-or-ne q j);
         only =
             λ i q hq m.

@@ -67,7 +67,8 @@ module _ (n : ℕ) (starts used : List ℕ) (room : ℕ) where
           and-both _ _
           (and-both _ _
           (and-both _ _ (and-both _ _ (le-leb _ _ (t .few)) (lt-ltb _ _ (t .rows))) (le-leb _ _ h))
-          (all-intro n _ (λ i l. le-leb _ _ (t .ends i l)))) (all-intro (length used) _ (λ k l. lt-ltb _ _ (t .below k l)))
+          (all-intro n _ (λ i l. le-leb _ _ (t .ends i l))))
+          (all-intro (length used) _ (λ k l. lt-ltb _ _ (t .below k l)))
 
 -- ---- what stands in a part of a list
 module _ (a b : ℕ) (l : List ℕ) (h : b ≤ length l) where
@@ -79,7 +80,8 @@ module _ (a b : ℕ) (l : List ℕ) (h : b ≤ length l) where
   pub in-part : (p : ℕ) → a ≤ p → p < b → getD l p 0 ∈ slice a b l
   in-part p lo hi =
       let e : a + (p - a) ≡ p = omega arith in
-      rw (rw e at (part-at (p - a) (omega arith))) at (at-in (slice a b l) (p - a) (omega (arith, length-slice a b l h)))
+      rw (rw e at (part-at (p - a) (omega arith))) at
+      (at-in (slice a b l) (p - a) (omega (arith, length-slice a b l h)))
 
   -- what stands in it stands at one of its places
   pub part-place : (j : ℕ) → j ∈ slice a b l → (p : ℕ) × (a ≤ p) × (p < b) × (getD l p 0 ≡ j)

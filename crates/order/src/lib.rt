@@ -93,7 +93,8 @@ fn attach(
     waits: &mut [u16; STATEMENTS],
 )
     requires { ⌜ (i < mostStatements) × (j < mostStatements) ⌝ }
-    ensures { λ _. ⌜ (now (heads .exit) ≡ set (now (heads .entry)) j i) × (now (links .exit) ≡ set (now (links .entry)) i (getD (now (heads .entry)) j 0))
+    ensures { λ _. ⌜ (now (heads .exit) ≡ set (now (heads .entry)) j i)
+        × (now (links .exit) ≡ set (now (links .entry)) i (getD (now (heads .entry)) j 0))
         × (now (waits .exit) ≡ set (now (waits .entry)) i j) ⌝ }
 {
     links[i] = heads[j];
@@ -101,7 +102,8 @@ fn attach(
     waits[i] = j as u16;
 }
 
-// Whether statement i, which is not marked, uses only marked ones. If not, its cursor moves to the first that is not, and it waits for that.
+// Whether statement i, which is not marked, uses only marked ones. If not, its cursor moves to the first that is not,
+// and it waits for that.
 fn settle(
     i: usize,
     n: usize,
@@ -113,9 +115,11 @@ fn settle(
     links: &mut [u16; STATEMENTS],
     waits: &mut [u16; STATEMENTS],
 ) -> bool
-    requires { ⌜ Fit n (now starts) (now used) × (i < n) × Cursors n (now starts) (now used) (now marks) (now cursors) × (getD (now marks) i 0 ≡ 0) ⌝ }
+    requires { ⌜ Fit n (now starts) (now used) × (i < n)
+        × Cursors n (now starts) (now used) (now marks) (now cursors) × (getD (now marks) i 0 ≡ 0) ⌝ }
     ensures { λ r. ⌜ Settles n (now (starts .entry)) (now (used .entry)) (now (marks .entry)) i r (now (cursors .exit))
-        (now (heads .entry)) (now (links .entry)) (now (waits .entry)) (now (heads .exit)) (now (links .exit)) (now (waits .exit)) ⌝ }
+        (now (heads .entry)) (now (links .entry)) (now (waits .entry))
+        (now (heads .exit)) (now (links .exit)) (now (waits .exit)) ⌝ }
 {
     let start = index(starts[i]);
     let end = index(starts[i + 1]);
@@ -141,7 +145,8 @@ fn settle_first(
 ) -> bool
     requires { ⌜ Fit n (now starts) (now used) × (i < n) ⌝ }
     ensures { λ r. ⌜ Settles n (now (starts .entry)) (now (used .entry)) zeros i r zeros
-        (now (heads .entry)) (now (links .entry)) (now (waits .entry)) (now (heads .exit)) (now (links .exit)) (now (waits .exit)) ⌝ }
+        (now (heads .entry)) (now (links .entry)) (now (waits .entry))
+        (now (heads .exit)) (now (links .exit)) (now (waits .exit)) ⌝ }
 {
     let at = index(starts[i]);
     if index(starts[i + 1]) <= at {
@@ -161,7 +166,8 @@ fn settle_all(
     links: &mut [u16; STATEMENTS],
     waits: &mut [u16; STATEMENTS],
 )
-    requires { ⌜ Fit n (now starts) (now used) × Blank n (now starts) (now used) zeros (now ready) zeros (now heads) (now links) (now waits) ⌝ }
+    requires { ⌜ Fit n (now starts) (now used)
+        × Blank n (now starts) (now used) zeros (now ready) zeros (now heads) (now links) (now waits) ⌝ }
     ensures { λ _. ⌜ State n n (now (starts .entry)) (now (used .entry)) zeros (now (ready .exit)) zeros
         (now (heads .exit)) (now (links .exit)) (now (waits .exit)) none none ⌝ }
 {
@@ -188,8 +194,10 @@ fn wake(
     waits: &mut [u16; STATEMENTS],
     low: usize,
 ) -> usize
-    requires { ⌜ Woken n (now starts) (now used) (now marks) (now ready) (now cursors) (now heads) (now links) (now waits) j low ⌝ }
-    ensures { λ r. ⌜ Awake n (now (starts .entry)) (now (used .entry)) (now (marks .entry)) (now (ready .exit)) (now (cursors .exit))
+    requires { ⌜ Woken n (now starts) (now used) (now marks) (now ready) (now cursors)
+        (now heads) (now links) (now waits) j low ⌝ }
+    ensures { λ r. ⌜ Awake n (now (starts .entry)) (now (used .entry)) (now (marks .entry))
+        (now (ready .exit)) (now (cursors .exit))
         (now (heads .exit)) (now (links .exit)) (now (waits .exit)) low r ⌝ }
 {
     let mut least_ready = low;
@@ -222,8 +230,8 @@ fn find(from: usize, n: usize, ready: &[u8]) -> usize
     i
 }
 
-// Writes the order of a table that fits to the front of out; how many were placed. Once i is placed only those that wait for it may become
-// ready.
+// Writes the order of a table that fits to the front of out; how many were placed. Once i is placed only those that
+// wait for it may become ready.
 fn place(n: usize, starts: &[u16], used: &[u16], out: &mut [u16]) -> usize
     requires { ⌜ Fit n (now starts) (now used) × (n ≤ length (now out)) ⌝ }
     ensures { λ r. ⌜ Filled n (now (starts .entry)) (now (used .entry)) (now (out .entry)) (now (out .exit)) r ⌝ }

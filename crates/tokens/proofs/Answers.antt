@@ -13,7 +13,8 @@ use Rattle.tokens.specs.Row.{Close, all-good, bad, Row, rowOf}
 use Rattle.tokens.specs.Written.{closeEnd, rowEnd, kindsOf, argsOf, roomy, Written}
 
 -- with room the row is written
-pub written-room : (s ks us : List ℕ) (r : RowEnd) (ks′ us′ : List ℕ) → length s ≤ length ks → length s ≤ length us → Written s ks us r ks′ us′
+pub written-room : (s ks us : List ℕ) (r : RowEnd) (ks′ us′ : List ℕ) → length s ≤ length ks → length s ≤ length us
+    → Written s ks us r ks′ us′
     → (r ≡ rowEnd (rowOf s)) × (ks′ ≡ sets ks 0 (kindsOf (rowOf s))) × (us′ ≡ sets us 0 (argsOf (rowOf s)))
 written-room s ks us r ks′ us′ h k w = (rw full at (w .answer), rw full at (w .kinds), rw full at (w .args))
   where
@@ -29,7 +30,8 @@ ends-well r n e = by-close (r .close) (length (r .tokens)) e
     by-close (bad code at) k e = absurd (let z : _≡_ {A = ℕ} 0 1 = cc in omega arith)
 
 -- one that ends badly has the bad token of the answer
-pub ends-badly : (r : Row) (code n at : ℕ) → rowEnd r ≡ Fault code n at → (r .close ≡ bad code at) × (length (r .tokens) ≡ n)
+pub ends-badly : (r : Row) (code n at : ℕ) → rowEnd r ≡ Fault code n at
+    → (r .close ≡ bad code at) × (length (r .tokens) ≡ n)
 ends-badly r code n at e = by-close (r .close) (length (r .tokens)) e
   where
     by-close : (c : Close) (k : ℕ) → closeEnd c k ≡ Fault code n at → (c ≡ bad code at) × (k ≡ n)

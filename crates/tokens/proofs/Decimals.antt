@@ -12,10 +12,12 @@ unfolding decimal
 decimal-cap a [] = omega arith
 decimal-cap a (x ∷ xs) =
     let step : min cap (min cap a * 10 + (x - 48)) ≡ min cap (a * 10 + (x - 48)) = omega arith in
-    sym (decimal-cap (min cap a * 10 + (x - 48)) xs) ∙ ap (λ (n : ℕ). min cap (decimal n xs)) step ∙ decimal-cap (a * 10 + (x - 48)) xs
+    sym (decimal-cap (min cap a * 10 + (x - 48)) xs) ∙ ap (λ (n : ℕ). min cap (decimal n xs)) step
+    ∙ decimal-cap (a * 10 + (x - 48)) xs
 
 -- one digit more
-pub decimal-more : (a b x : ℕ) (xs ys : List ℕ) → b ≡ min cap (a * 10 + (x - 48)) → ys ≡ x ∷ xs → min cap (decimal b xs) ≡ min cap (decimal a ys)
+pub decimal-more : (a b x : ℕ) (xs ys : List ℕ) → b ≡ min cap (a * 10 + (x - 48)) → ys ≡ x ∷ xs
+    → min cap (decimal b xs) ≡ min cap (decimal a ys)
 unfolding decimal
 decimal-more a b x xs ys e f = rw (e, f) (decimal-cap (a * 10 + (x - 48)) xs)
 

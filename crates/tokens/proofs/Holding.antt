@@ -21,7 +21,8 @@ held-length (k ∷ ks) [] h = absurd (omega arith)
 held-length (k ∷ ks) (a ∷ us) h = ap suc (held-length ks us (omega arith))
 
 -- the token at a place is that of the two numbers there; past the end it is the mark 0
-pub held-at : (ks us : List ℕ) (i : ℕ) → length us ≡ length ks → getD (heldRow ks us) i (mark 0) ≡ symbolOf (getD ks i 0) (getD us i 0)
+pub held-at : (ks us : List ℕ) (i : ℕ) → length us ≡ length ks
+    → getD (heldRow ks us) i (mark 0) ≡ symbolOf (getD ks i 0) (getD us i 0)
 unfolding heldRow
 held-at [] [] i h = refl
 held-at [] (a ∷ us) i h = absurd (omega arith)

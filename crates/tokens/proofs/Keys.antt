@@ -47,4 +47,5 @@ key-injective (x ∷ xs) (y ∷ ys) t u e =
 pub key-below : (n : List ℕ) → run isWord n ≡ n → keyOf n < 256 ^ length n
 unfolding lowWord
 key-below [] t = lit< tt
-key-below (x ∷ xs) t = rw (pow-suc 256 (length xs)) (omega (arith, first-byte x xs t, key-below xs (all-pass isWord x xs t .1)))
+key-below (x ∷ xs) t =
+    rw (pow-suc 256 (length xs)) (omega (arith, first-byte x xs t, key-below xs (all-pass isWord x xs t .1)))

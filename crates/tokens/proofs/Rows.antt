@@ -2,7 +2,8 @@
 use Prim.Native.Nat.{ℕ, zero, suc, zero-le, _+_, _-_, _≤_, _<_}
 use mathlib.Core.Path.{_≡_, refl, sym, ap, subst}
 use mathlib.Core.Bool.{true, false}
-use mathlib.Core.List.{List, [], _∷_, List·Memᴰ, List·Memᴰ·head, List·Memᴰ·tail, List·Memᴰ·not-nil, List·Memᴰ·cases-cons}
+use mathlib.Core.List.{List, [], _∷_, List·Memᴰ, List·Memᴰ·head, List·Memᴰ·tail, List·Memᴰ·not-nil}
+use mathlib.Core.List.{List·Memᴰ·cases-cons}
 use mathlib.Core.Logic.{⊎-elim}
 use native.Mathlib.Omega.{arith}
 use borrow.Author.Tests.{ne-eqb, lt-leb}
@@ -23,7 +24,8 @@ use Rattle.tokens.proofs.Words.{symbol-ind}
 -- ---- how many cuts are made does not matter
 
 -- what follows a good token decides the row that it begins
-ahead-same : (s : List ℕ) (lo : ℕ) (t : Token) (at next : ℕ) (r r′ : Row) → Sound s lo t next → (Inside s lo next → r ≡ r′)
+ahead-same : (s : List ℕ) (lo : ℕ) (t : Token) (at next : ℕ) (r r′ : Row) → Sound s lo t next
+    → (Inside s lo next → r ≡ r′)
     → ahead s t at r ≡ ahead s t at r′
 ahead-same s lo (Name p n) at next r r′ x f = ap (onto (symbolNamed (take n (drop p s))) at) (f (x .0))
 ahead-same s lo (Mark b) at next r r′ x f = ap (onto (mark b) at) (f (x .0))
@@ -35,7 +37,8 @@ ahead-same s lo (Bad code) at next r r′ x f = refl
 no-more : (f : ℕ) (s : List ℕ) (i : ℕ) → length s ≤ i → rowFrom f s i ≡ bare all-good
 unfolding rowFrom
 no-more zero s i h = refl
-no-more (suc f) s i h = let c = cutAt s i in ap (λ (t : Token). ahead s t (c .at) (rowFrom f s (c .next))) (cut-end s i h)
+no-more (suc f) s i h =
+    let c = cutAt s i in ap (λ (t : Token). ahead s t (c .at) (rowFrom f s (c .next))) (cut-end s i h)
 
 -- any two counts of cuts that reach the end give one row
 pub enough : (f g : ℕ) (s : List ℕ) (i : ℕ) → length s ≤ i + f → length s ≤ i + g → rowFrom f s i ≡ rowFrom g s i
@@ -62,7 +65,8 @@ rest-next s i =
 -- ---- how many tokens there are
 
 -- what holds of the tokens behind a good one holds with it
-ahead-short : (s : List ℕ) (lo : ℕ) (t : Token) (at next : ℕ) (r : Row) → Sound s lo t next → (Inside s lo next → length (r .tokens) ≤ length s - next)
+ahead-short : (s : List ℕ) (lo : ℕ) (t : Token) (at next : ℕ) (r : Row) → Sound s lo t next
+    → (Inside s lo next → length (r .tokens) ≤ length s - next)
     → length (ahead s t at r .tokens) ≤ length s - lo
 ahead-short s lo (Name p n) at next r x f = omega (arith, f (x .0), x .0)
 ahead-short s lo (Mark b) at next r x f = omega (arith, f (x .0), x .0)
@@ -99,8 +103,10 @@ either t at r h f q m = ⊎-elim (λ e. subst (λ (x : Placed). Fine (x .symbol)
 
 -- so all tokens of a row are fine where those behind its first are
 ahead-fine : (s : List ℕ) (lo : ℕ) (t : Token) (at next : ℕ) (r : Row) → Sound s lo t next
-    → ((q : Placed) → List·Memᴰ q (r .tokens) → Fine (q .symbol)) → (q : Placed) → List·Memᴰ q (ahead s t at r .tokens) → Fine (q .symbol)
-ahead-fine s lo (Name p n) at next r x f = let part = take n (drop p s) in either (symbolNamed part) at r (symbol-ind part Fine (λ _. tt) tt) f
+    → ((q : Placed) → List·Memᴰ q (r .tokens) → Fine (q .symbol)) → (q : Placed) → List·Memᴰ q (ahead s t at r .tokens)
+    → Fine (q .symbol)
+ahead-fine s lo (Name p n) at next r x f =
+    let part = take n (drop p s) in either (symbolNamed part) at r (symbol-ind part Fine (λ _. tt) tt) f
 ahead-fine s lo (Mark b) at next r x f = either (mark b) at r (x .1) f
 ahead-fine s lo (Number v) at next r x f = either (number v) at r (x .1, x .2) f
 ahead-fine s lo End at next r x f = λ q m. absurd (List·Memᴰ·not-nil m)
@@ -112,7 +118,8 @@ unfolding rowFrom
 from-fine zero s i q m = absurd (List·Memᴰ·not-nil m)
 from-fine (suc f) s i q m =
     let c = cutAt s i in
-    ahead-fine s i (c .token) (c .at) (c .next) (rowFrom f s (c .next)) (cut-sound s i) (λ p n. from-fine f s (c .next) p n) q m
+    ahead-fine s i (c .token) (c .at) (c .next) (rowFrom f s (c .next)) (cut-sound s i)
+    (λ p n. from-fine f s (c .next) p n) q m
 
 -- every token of a row is fine: so every number of it fits an f64
 pub row-fine : (s : List ℕ) (q : Placed) → List·Memᴰ q (rowOf s .tokens) → Fine (q .symbol)
@@ -120,10 +127,12 @@ unfolding rowOf
 row-fine s q m = from-fine (suc (length s)) s 0 q m
 
 -- what holds of each token holds of each symbol
-mapped : (ps : List Placed) → ((q : Placed) → List·Memᴰ q ps → Fine (q .symbol)) → (t : Symbol) → List·Memᴰ t (symbols ps) → Fine t
+mapped : (ps : List Placed) → ((q : Placed) → List·Memᴰ q ps → Fine (q .symbol)) → (t : Symbol)
+    → List·Memᴰ t (symbols ps) → Fine t
 mapped [] f t m = absurd (List·Memᴰ·not-nil m)
 mapped (p ∷ ps) f t m =
-    ⊎-elim (λ e. subst Fine (sym e) (f p (List·Memᴰ·head refl))) (mapped ps (λ q n. f q (List·Memᴰ·tail n)) t) (List·Memᴰ·cases-cons m)
+    ⊎-elim (λ e. subst Fine (sym e) (f p (List·Memᴰ·head refl))) (mapped ps (λ q n. f q (List·Memᴰ·tail n)) t)
+    (List·Memᴰ·cases-cons m)
 
 -- the same of what the grammar sees
 pub symbols-fine : (s : List ℕ) (t : Symbol) → List·Memᴰ t (symbols (rowOf s .tokens)) → Fine t

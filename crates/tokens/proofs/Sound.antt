@@ -17,7 +17,8 @@ use Rattle.tokens.specs.declared.Token.the-variants.{Name, Mark, Number,
 use Rattle.tokens.specs.declared.Cut.{Cut}
 use Rattle.tokens.specs.Bytes.{isLetter, isDigit, isPoint, isMark, isWord, wordAt, digitsAt, spacesAt}
 use Rattle.tokens.specs.Number.{decimal, Digits, plainDigits, pointDigits, digitsFrom}
-use Rattle.tokens.specs.Number.{Exponent, exponent, wrong, signEnd, exponentOf, exponentFrom, scaled, inRange, numberOf, signedNumber}
+use Rattle.tokens.specs.Number.{Exponent, exponent, wrong, signEnd, exponentOf, exponentFrom, scaled, inRange}
+use Rattle.tokens.specs.Number.{numberOf, signedNumber}
 use Rattle.tokens.specs.Token.{cutOf, badAt, numberEnd, numberAt, nameAt, tokenAt, cutAt}
 use Rattle.tokens.proofs.Values.{scaled-fine}
 
@@ -42,7 +43,8 @@ Sound s lo (Bad code) next = Unit {0}
 -- ---- numbers: the digits and the exponent end inside the text
 
 -- the digits, with a byte for each
-digits-room : (s : List ℕ) (at : ℕ) → at ≤ length s → (at + digitsFrom s at .count ≤ digitsFrom s at .end) × (digitsFrom s at .end ≤ length s)
+digits-room : (s : List ℕ) (at : ℕ) → at ≤ length s
+    → (at + digitsFrom s at .count ≤ digitsFrom s at .end) × (digitsFrom s at .end ≤ length s)
 unfolding digitsFrom
 digits-room s at h =
     let w = digitsAt s at in
@@ -77,7 +79,8 @@ exponent-room s i h =
     (λ e.
     let l = inside (λ (b : ℕ). eqb b 69) s i refl e in
     let g = sign-room s (i + 1) (omega arith) in
-    cond-ind P (leb 1 (length w) && leb (length w) exponentDigits) (exponent minus (decimal 0 w) (from + length w)) wrong
+    cond-ind P (leb 1 (length w) && leb (length w) exponentDigits)
+    (exponent minus (decimal 0 w) (from + length w)) wrong
     (λ _. (omega arith, run-room isDigit s from (g .1))) (λ _. tt))
     (λ _. (omega arith, h))
 
@@ -99,10 +102,12 @@ module _ (s : List ℕ) (lo : ℕ) where
   signed-sound m false e next i = value-sound (m .whole) e (m .after) next i
 
   -- the whole number, from its digits and its exponent
-  end-sound : (at : ℕ) (m : Digits) (e : Exponent) → lo < m .end → Stops (m .end) (length s) e → Good (numberEnd s at m e)
+  end-sound : (at : ℕ) (m : Digits) (e : Exponent) → lo < m .end → Stops (m .end) (length s) e
+      → Good (numberEnd s at m e)
   end-sound at m wrong h r = tt
   end-sound at m (exponent minus e stop) h r =
-      cond-ind Good (isWord (getD s stop 0) || isPoint (getD s stop 0)) (badAt 16 at) (cutOf (signedNumber m minus e) at stop) (λ _. tt)
+      cond-ind Good (isWord (getD s stop 0) || isPoint (getD s stop 0)) (badAt 16 at)
+      (cutOf (signedNumber m minus e) at stop) (λ _. tt)
       (λ _. signed-sound m minus e stop (record { onward = omega arith; room = r .1 }))
 
   -- a number has a digit, so it is behind its place

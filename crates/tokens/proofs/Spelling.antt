@@ -24,7 +24,8 @@ other-length (x ∷ xs) (y ∷ ys) h = rw (other-length xs ys (λ e. h (ap suc e
 module _ (xs ys : List ℕ) (i : ℕ) where
   -- from a place on: the bytes there, and those behind
   pub same-step : i < length xs → i < length ys
-      → sameBytes (drop i xs) (drop i ys) ≡ (eqb (getD xs i 0) (getD ys i 0) && sameBytes (drop (i + 1) xs) (drop (i + 1) ys))
+      → sameBytes (drop i xs) (drop i ys)
+      ≡ (eqb (getD xs i 0) (getD ys i 0) && sameBytes (drop (i + 1) xs) (drop (i + 1) ys))
   unfolding sameBytes
   same-step h k = rw (add-one, drop-cons xs i 0 h, drop-cons ys i 0 k)
 

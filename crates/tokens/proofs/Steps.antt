@@ -29,15 +29,19 @@ use Rattle.tokens.proofs.Rows.{rest, rest-next}
 module _ (s : List ℕ) (from : ℕ) (c : Cut) (read : c ≡ cutAt s from) (t : Token) (is : c .token ≡ t) where
   -- the cut's token is sound
   pub told-sound : Sound s from t (c .next)
-  told-sound = subst (λ (x : Token). Sound s from x (c .next)) is (subst (λ (x : Cut). Sound s from (x .token) (x .next)) (sym read) (cut-sound s from))
+  told-sound = subst (λ (x : Token). Sound s from x (c .next)) is
+      (subst (λ (x : Cut). Sound s from (x .token) (x .next)) (sym read) (cut-sound s from))
 
   -- and decides the step
   pub told-step : stepOf s t (c .at) (c .next) ≡ stepAt s from
-  told-step = ap (λ (x : Token). stepOf s x (c .at) (c .next)) (sym is) ∙ ap (λ (x : Cut). stepOf s (x .token) (x .at) (x .next)) read
+  told-step = ap (λ (x : Token). stepOf s x (c .at) (c .next)) (sym is)
+      ∙ ap (λ (x : Cut). stepOf s (x .token) (x .at) (x .next)) read
 
 -- a name's part of the text
-pub part-bytes : (s : List ℕ) (p n : ℕ) (h : Held) → h ≡ heldAs (symbolNamed (take (p + n - p) (drop p s))) → h ≡ heldAs (symbolNamed (take n (drop p s)))
-part-bytes s p n h e = let f : p + n - p ≡ n = omega arith in e ∙ ap (λ (k : ℕ). heldAs (symbolNamed (take k (drop p s)))) f
+pub part-bytes : (s : List ℕ) (p n : ℕ) (h : Held) → h ≡ heldAs (symbolNamed (take (p + n - p) (drop p s)))
+    → h ≡ heldAs (symbolNamed (take n (drop p s)))
+part-bytes s p n h e =
+    let f : p + n - p ≡ n = omega arith in e ∙ ap (λ (k : ℕ). heldAs (symbolNamed (take k (drop p s)))) f
 
 -- ---- a row from a step
 
@@ -56,9 +60,11 @@ Follows s from Over = rest s from ≡ bare all-good
 Follows s from (Refused code at) = rest s from ≡ bare (bad code at)
 
 -- by the token of the cut
-follows : (s : List ℕ) (from : ℕ) (t : Token) (at next : ℕ) → Sound s from t next → rest s from ≡ ahead s t at (rest s next)
+follows : (s : List ℕ) (from : ℕ) (t : Token) (at next : ℕ) → Sound s from t next
+    → rest s from ≡ ahead s t at (rest s next)
     → Follows s from (stepOf s t at next)
-follows s from (Name p n) at next x e = record { symbol = symbolNamed (take n (drop p s)); at = at; inside = x .0; held = refl; row = e }
+follows s from (Name p n) at next x e =
+    record { symbol = symbolNamed (take n (drop p s)); at = at; inside = x .0; held = refl; row = e }
 follows s from (Mark b) at next x e = record { symbol = mark b; at = at; inside = x .0; held = refl; row = e }
 follows s from (Number v) at next x e = record { symbol = number v; at = at; inside = x .0; held = refl; row = e }
 follows s from End at next x e = e
@@ -94,7 +100,14 @@ no-args s ks us h k =
 pub turn-first : (s ks us : List ℕ) → length s ≤ length ks → length s ≤ length us → Turn s ks us ks us 0 0
 unfolding rowOf
 turn-first s ks us h k =
-    record { room = (h, k); long = (refl, refl); count = omega arith; answer = ap (closeEnd (rest s 0 .close)) (zero-add _); kinds = refl; args = refl }
+    record {
+      room = (h, k);
+      long = (refl, refl);
+      count = omega arith;
+      answer = ap (closeEnd (rest s 0 .close)) (zero-add _);
+      kinds = refl;
+      args = refl;
+    }
 
 module _ (s ks₀ us₀ ks us : List ℕ) (from n : ℕ) (t : Turn s ks₀ us₀ ks us from n) where
   -- there is room
@@ -107,7 +120,11 @@ module _ (s ks₀ us₀ ks us : List ℕ) (from n : ℕ) (t : Turn s ks₀ us₀
       let all : closeEnd c (n + 0) ≡ rowEnd (rowOf s) = rw e at (t .answer) in
       let ks-all : ks ≡ sets ks₀ 0 (kindsOf (rowOf s)) = rw e at (t .kinds) in
       let us-all : us ≡ sets us₀ 0 (argsOf (rowOf s)) = rw e at (t .args) in
-      record { answer = rw full (ap (closeEnd c) (sym (add-zero n)) ∙ all); kinds = rw full ks-all; args = rw full us-all }
+      record {
+        answer = rw full (ap (closeEnd c) (sym (add-zero n)) ∙ all);
+        kinds = rw full ks-all;
+        args = rw full us-all;
+      }
 
   -- at the end of the text
   pub turn-over : Over ≡ stepAt s from → Written s ks₀ us₀ (Tokens n) ks us

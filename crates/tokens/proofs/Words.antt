@@ -11,7 +11,8 @@ use Rattle.laws.proofs.Tests.{cond-ind}
 use Rattle.limits.specs.Limits.{nameBytes}
 use Rattle.bits.specs.Low.{lowWord}
 use Rattle.tokens.specs.declared.step.Held.{Held}
-use Rattle.tokens.specs.Symbol.{Word, CONST, PARAM, INCON, INTGRL, TIME, INSW, LIMIT, COMPAR, Reserved, reserved, lookUp}
+use Rattle.tokens.specs.Symbol.{Word, CONST, PARAM, INCON, INTGRL, TIME, INSW, LIMIT, COMPAR, Reserved, reserved}
+use Rattle.tokens.specs.Symbol.{lookUp}
 use Rattle.tokens.specs.Symbol.{Symbol, name, word, keyOf, symbolNamed}
 use Rattle.tokens.specs.Kinds.{nameKind, wordKind}
 use Rattle.tokens.specs.Held.{kindOf, argOf, threeOf, kindNamed, symbolOf}
@@ -25,7 +26,8 @@ lookup-ind : {A : Type 0} (P : A → Type 0) (f : Word → A) (other : A) → ((
 unfolding lookUp
 lookup-ind P f other each g [] n = g
 lookup-ind P f other each g (r ∷ ws) n =
-    cond-ind P (sameBytes n (r .spelling)) (f (r .means)) (lookUp f other ws n) (λ _. each (r .means)) (λ _. lookup-ind P f other each g ws n)
+    cond-ind P (sameBytes n (r .spelling)) (f (r .means)) (lookUp f other ws n) (λ _. each (r .means))
+    (λ _. lookup-ind P f other each g ws n)
 
 -- a function of what is found
 lookup-map : {A B : Type 0} (g : A → B) (f : Word → A) (other : A) (ws : List Reserved) (n : List ℕ)
@@ -89,7 +91,8 @@ module _ (n : List ℕ) where
 
   -- a name's argument is its key
   pub arg-name : kindOf (symbolNamed n) ≡ nameKind → argOf (symbolNamed n) ≡ keyOf n
-  arg-name = symbol-ind (λ (t : Symbol). kindOf t ≡ nameKind → argOf t ≡ keyOf n) (λ w e. absurd (no-name w e)) (λ _. refl)
+  arg-name =
+      symbol-ind (λ (t : Symbol). kindOf t ≡ nameKind → argOf t ≡ keyOf n) (λ w e. absurd (no-name w e)) (λ _. refl)
 
   -- a word has none
   arg-word : (kindOf (symbolNamed n) ≡ nameKind → ⊥) → argOf (symbolNamed n) ≡ 0
@@ -107,5 +110,6 @@ module _ (n : List ℕ) where
       rw (f, arg-name f, key, take-all nameBytes n h)
 
   -- a word as it is held
-  pub held-word : (k : ℕ) → k ≡ kindNamed n → (k ≡ nameKind → ⊥) → _≡_ {A = Held} (record { kind = k; arg = 0 }) (heldAs (symbolNamed n))
+  pub held-word : (k : ℕ) → k ≡ kindNamed n → (k ≡ nameKind → ⊥)
+      → _≡_ {A = Held} (record { kind = k; arg = 0 }) (heldAs (symbolNamed n))
   held-word k q e = rw (arg-word (λ f. e (q ∙ kind-named ∙ f)), q, kind-named)

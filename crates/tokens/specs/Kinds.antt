@@ -1,4 +1,5 @@
--- The kinds by which code holds tokens: of a number, of a name, of each reserved word. A mark's kind is its byte, which is above those.
+-- The kinds by which code holds tokens: of a number, of a name, of each reserved word. A mark's kind is its byte, which
+-- is above those.
 use Prim.Native.Nat.{ℕ, _+_}
 use lib.ListN.{length}
 use Rattle.tokens.specs.Symbol.{Word, CONST, PARAM, INCON, INTGRL, TIME, INSW, LIMIT, COMPAR, reserved}

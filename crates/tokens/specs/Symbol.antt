@@ -44,7 +44,8 @@ pub data Symbol : Type 0 where
   name : ℕ → Symbol
   word : Word → Symbol
 
--- a name's key: its bytes packed into a number, the first one lowest. Names of one key are one name (law `key-injective`)
+-- a name's key: its bytes packed into a number, the first one lowest. Names of one key are one name (law
+-- `key-injective`)
 abbrev pub keyOf : List ℕ → ℕ
 keyOf n = lowWord n
 

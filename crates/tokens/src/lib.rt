@@ -94,16 +94,19 @@ pub const LIMIT: u8 = 9;
 
 pub const COMPAR: u8 = 10;
 
-// How a row ends: no room for it; the count of its tokens; or the first bad token's code and place, behind so many good ones.
+// How a row ends: no room for it; the count of its tokens; or the first bad token's code and place, behind so many good
+// ones.
 pub enum RowEnd {
     NoRoom,
     Tokens(usize),
     Fault { code: u8, count: usize, at: usize },
 }
 
-// Writes the kind and the argument of each token of a text, up to the end or the first bad one. It takes room for a token for each byte.
+// Writes the kind and the argument of each token of a text, up to the end or the first bad one. It takes room for a
+// token for each byte.
 pub fn row(body: &[u8], kinds: &mut [u8], args: &mut [u64]) -> RowEnd
-    ensures { λ r. ⌜ Written (now (body .entry)) (now (kinds .entry)) (now (args .entry)) r (now (kinds .exit)) (now (args .exit)) ⌝ }
+    ensures { λ r. ⌜ Written (now (body .entry)) (now (kinds .entry)) (now (args .entry)) r
+        (now (kinds .exit)) (now (args .exit)) ⌝ }
 {
     if kinds.len() < body.len() {
         return RowEnd::NoRoom;

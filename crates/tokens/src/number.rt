@@ -54,7 +54,8 @@ fn digits(body: &[u8], from: usize, value: u64) -> Decimal
     }
 }
 
-// What stands before an exponent: its digits as a number, how many stand after the point, how many there are, the place behind and its byte.
+// What stands before an exponent: its digits as a number, how many stand after the point, how many there are, the place
+// behind and its byte.
 struct Mantissa {
     value: u64,
     after: usize,
@@ -90,7 +91,8 @@ fn read_mantissa(body: &[u8], at: usize) -> Mantissa
     }
 }
 
-// An exponent, the place behind it and its byte, or an E that begins none. With a minus the exponent stands in down, else in up.
+// An exponent, the place behind it and its byte, or an E that begins none. With a minus the exponent stands in down,
+// else in up.
 enum Power {
     Of {
         up: usize,

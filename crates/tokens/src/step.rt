@@ -33,7 +33,8 @@ fn held_name(name: &[u8]) -> Held
     Held { kind: kind, arg: 0 }
 }
 
-// What one cut gives a row: a token as it is held and the place where the next begins, the end, or a bad token's code and place.
+// What one cut gives a row: a token as it is held and the place where the next begins, the end, or a bad token's code
+// and place.
 pub enum Step {
     Good { held: Held, next: usize },
     Over,

@@ -28,7 +28,8 @@ fn kind_or(name: &[u8], word: &[u8], kind: u8, other: u8) -> u8
     if spells(name, word) { kind } else { other }
 }
 
-// The kind of a name: that of the reserved word that it spells, or a name's. The words stand from the last to the first.
+// The kind of a name: that of the reserved word that it spells, or a name's. The words stand from the last to the
+// first.
 pub fn kind_of(name: &[u8]) -> u8
     ensures { λ r. ⌜ r ≡ kindNamed (now (name .entry)) ⌝ }
 {

@@ -23,14 +23,16 @@ returns c =
     let t = c .before .before in
     let s = t .before .before .args in
     let i = t .before .loop .i in
-    sym (t .before .loop .inv ∙ first-stop (flag (s .ready .now)) (s .n) i (t .loop-test .taken) (marked-yes (s .ready .now) i (c .if1 .taken)))
+    sym (t .before .loop .inv
+    ∙ first-stop (flag (s .ready .now)) (s .n) i (t .loop-test .taken) (marked-yes (s .ready .now) i (c .if1 .taken)))
 
 loop-again : tie.Need-loop-again Inv-loop μ-loop
 loop-again c =
     let t = c .before .before in
     let s = t .before .before .args in
     let i = t .before .loop .i in
-    t .before .loop .inv ∙ first-pass (flag (s .ready .now)) (s .n) i (t .loop-test .taken) (marked-no (s .ready .now) i (c .if1 .left))
+    t .before .loop .inv
+    ∙ first-pass (flag (s .ready .now)) (s .n) i (t .loop-test .taken) (marked-no (s .ready .now) i (c .if1 .left))
 
 returns-2 : tie.Need-returns-2 Inv-loop μ-loop
 returns-2 c =

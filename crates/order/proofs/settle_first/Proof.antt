@@ -13,7 +13,8 @@ returns : tie.Need-returns
 returns c =
     let w = c .before in
     let s = S w in
-    start-ready (s .pre .0) (s .args .i) (s .pre .1) (w .before .before .index .ensures .0) (w .index2 .ensures .0) (c .if1 .taken)
+    start-ready (s .pre .0) (s .args .i) (s .pre .1) (w .before .before .index .ensures .0) (w .index2 .ensures .0)
+    (c .if1 .taken)
 
 shared-slice-read-index-3 : tie.Need-shared-slice-read-index-3
 shared-slice-read-index-3 c =
@@ -26,8 +27,11 @@ attach-requires c κs =
     let e = c .before .before .before .before .before in
     let w = e .before in
     let s = S w in
-    let b = start-below (s .pre .0) (s .args .i) (s .pre .1) (w .before .before .index .ensures .0) (w .index2 .ensures .0) (e .if1 .left) in
-    (omega (arith, s .pre .0 .few, s .pre .1), omega (arith, s .pre .0 .few, b, c .before .before .before .index3 .ensures .0))
+    let b = start-below (s .pre .0) (s .args .i) (s .pre .1) (w .before .before .index .ensures .0)
+    (w .index2 .ensures .0) (e .if1 .left) in (
+      omega (arith, s .pre .0 .few, s .pre .1),
+      omega (arith, s .pre .0 .few, b, c .before .before .before .index3 .ensures .0),
+    )
 
 returns-2 : tie.Need-returns-2
 returns-2 c =
@@ -35,7 +39,8 @@ returns-2 c =
     let w = e .before in
     let s = S w in
     let x = c .before .before .before .before .index3 in
-    start-wait (s .pre .0) (s .args .i) (s .pre .1) (w .before .before .index .ensures .0) (w .index2 .ensures .0) (e .if1 .left) (x .result)
+    start-wait (s .pre .0) (s .args .i) (s .pre .1) (w .before .before .index .ensures .0) (w .index2 .ensures .0)
+    (e .if1 .left) (x .result)
     (x .ensures .0) (c .attach .ensures)
 
 pub settle-first-spec : {M : Type 1} → statement M

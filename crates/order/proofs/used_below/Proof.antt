@@ -30,8 +30,11 @@ loop-again c =
     let l = c .before .before .before .before .loop in
     let s = c .before .before .before .before .before .before .args in
     let j = getD (s .used .now) (l .k - 1) 0 in
-    let w = c .before .index .ensures .0 in
-    (omega arith, l .inv .1 ∙ all-pass (belowAt (s .n) (s .used .now)) (l .k) (omega arith) (lt-ltb j (s .n) (omega arith)))
+    let w = c .before .index .ensures .0 in (
+      omega arith,
+      l .inv .1
+          ∙ all-pass (belowAt (s .n) (s .used .now)) (l .k) (omega arith) (lt-ltb j (s .n) (omega arith)),
+    )
 
 returns-2 : tie.Need-returns-2 Inv-loop μ-loop
 returns-2 c =

@@ -12,7 +12,12 @@ returns-2 c = rw (c .before .before .if1 .left, sym (c .before .is-passed .ensur
 
 returns-3 : tie.Need-returns-3
 returns-3 c =
-    rw (c .before .before .before .if1 .left, sym (c .before .before .is-passed .ensures) ∙ c .before .if2 .left, ← (c .is-dotted2 .ensures))
+    rw (
+      c .before .before .before .if1 .left,
+      sym (c .before .before .is-passed .ensures)
+          ∙ c .before .if2 .left,
+      ← (c .is-dotted2 .ensures),
+    )
 
 pub counted-spec : {M : Type 1} → statement M
 counted-spec =

@@ -22,8 +22,12 @@ loop-holds c =
 loop-again : tie.Need-loop-again Inv-loop μ-loop
 loop-again c =
     let b = c .before .before in
-    let a = b .before .before .before .before .args in
-    (b .loop .inv .0, search needs, copied-next (a .from .now) (a .out .now) (a .at) (b .loop .out) (b .loop .i) (omega arith) (b .loop .inv .2))
+    let a = b .before .before .before .before .args in (
+      b .loop .inv .0,
+      search needs,
+      copied-next (a .from .now) (a .out .now) (a .at) (b .loop .out) (b .loop .i)
+          (omega arith) (b .loop .inv .2),
+    )
 
 same-length : tie.Need-same-length Inv-loop μ-loop
 same-length c = c .before .loop .inv .2 .long

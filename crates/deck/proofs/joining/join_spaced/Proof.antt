@@ -26,12 +26,15 @@ returns c =
     let b = c .before .before in
     let a = b .before .before .before .args in
     let z = cards-end (a .text .now) (b .loop .at) (b .loop .left) (c .if1 .taken) in
-    joining-last (a .text .now) (a .start) (a .cards) (a .to) (a .out .now) (b .loop .out) (b .loop .at) (b .loop .left) (b .loop .w) (b .loop .inv) z
+    joining-last (a .text .now) (a .start) (a .cards) (a .to) (a .out .now) (b .loop .out) (b .loop .at) (b .loop .left)
+    (b .loop .w) (b .loop .inv) z
 
 -- the line that the loop has reached
 line : (c : tie.After-line-end Inv-loop μ-loop) →
-    LineAt (c .before .before .before .before .before .before .args .text .now) (c .before .before .before .loop .at) (c .line-end .result)
-line c = line-at _ (c .before .before .before .loop .at) (c .line-end .result) (c .before .if1 .left) (c .line-end .ensures .0)
+    LineAt (c .before .before .before .before .before .before .args .text .now) (c .before .before .before .loop .at)
+    (c .line-end .result)
+line c = line-at _ (c .before .before .before .loop .at) (c .line-end .result) (c .before .if1 .left)
+    (c .line-end .ensures .0)
 
 put-spaced-requires : tie.Need-put-spaced-requires Inv-loop μ-loop
 put-spaced-requires c κs =
@@ -44,7 +47,8 @@ loop-again c =
     let b = e .before .before .before in
     let a = b .before .before .before .args in
     let p = c .before .before .put-spaced in
-    joining-next (a .text .now) (a .start) (a .cards) (a .to) (a .out .now) (b .loop .out) (b .loop .at) (b .loop .left) (b .loop .w) (b .loop .inv)
+    joining-next (a .text .now) (a .start) (a .cards) (a .to) (a .out .now) (b .loop .out) (b .loop .at) (b .loop .left)
+    (b .loop .w) (b .loop .inv)
     (e .line-end .result) _ (p .result) (e .before .before .loop-test .taken) (line e) (p .ensures .0) (p .ensures .1)
 
 same-length-2 : tie.Need-same-length-2 Inv-loop μ-loop
@@ -55,7 +59,8 @@ returns-2 c =
     let b = c .before in
     let a = b .before .before .before .args in
     let z = cards-none (a .text .now) (b .loop .at) (b .loop .left) (c .loop-test .left) in
-    joining-last (a .text .now) (a .start) (a .cards) (a .to) (a .out .now) (b .loop .out) (b .loop .at) (b .loop .left) (b .loop .w) (b .loop .inv) z
+    joining-last (a .text .now) (a .start) (a .cards) (a .to) (a .out .now) (b .loop .out) (b .loop .at) (b .loop .left)
+    (b .loop .w) (b .loop .inv) z
 
 pub join-spaced-spec : {M : Type 1} → statement M
 join-spaced-spec =

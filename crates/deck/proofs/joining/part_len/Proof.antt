@@ -9,14 +9,20 @@ use Rattle.deck.proofs.joining.part_len.Statement.{statement}
 use Rattle.deck.proofs.joining.part_len.Tie as tie
 
 -- what the test says of the line
-told : {b : Bool} (c : tie.After-dots-at) → c .dots-at .result ≡ b → dotted (c .before .before .before .args .line .now) ≡ b
+told : {b : Bool} (c : tie.After-dots-at) → c .dots-at .result ≡ b
+    → dotted (c .before .before .before .args .line .now) ≡ b
 unfolding dotted
-told c t = ap (dotsAt (c .before .before .before .args .line .now)) (sym (c .before .trim .ensures .0)) ∙ sym (c .dots-at .ensures) ∙ t
+told c t = ap (dotsAt (c .before .before .before .args .line .now)) (sym (c .before .trim .ensures .0))
+    ∙ sym (c .dots-at .ensures) ∙ t
 
 sub-result : tie.Need-sub-result
 sub-result c =
     let d = c .before .dots-at in
-    omega (arith, dots-three (c .before .before .before .before .args .line .now) (c .before .before .trim .result) (sym (d .ensures) ∙ c .if1 .taken))
+    omega (
+      arith,
+      dots-three (c .before .before .before .before .args .line .now) (c .before .before .trim .result)
+          (sym (d .ensures) ∙ c .if1 .taken),
+    )
 
 returns : tie.Need-returns
 returns c =

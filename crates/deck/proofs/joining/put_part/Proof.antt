@@ -15,11 +15,15 @@ within : (c : tie.After-part-len) → c .part-len .result ≤ length (c .before 
 within c = omega (arith, part-le (c .before .before .before .args .line .now), c .part-len .ensures)
 
 -- and gives the part
-whole : (c : tie.After-part-len) → let line = c .before .before .before .args .line .now in take (c .part-len .result) line ≡ partOf line
+whole : (c : tie.After-part-len) → let line = c .before .before .before .args .line .now in
+    take (c .part-len .result) line ≡ partOf line
 whole c = rw (c .part-len .ensures) (part-take (c .before .before .before .args .line .now))
 
 slice-aggregate-copy : tie.Need-slice-aggregate-copy
-slice-aggregate-copy c = sym (length-take-le (c .before .part-len .result) (c .before .before .before .before .args .line .now) (within (c .before)))
+slice-aggregate-copy c =
+    sym
+    (length-take-le (c .before .part-len .result) (c .before .before .before .before .args .line .now)
+    (within (c .before)))
 
 add-result : tie.Need-add-result
 add-result c = omega (arith, within (c .before .before .before .before .before))

@@ -22,7 +22,8 @@ returns : tie.Need-returns Inv-loop μ-loop
 returns c =
     let b = c .before .before .before in
     let w = b .loop .inv in
-    let m = width-ten (b .before .before .before .before .args .text .now) (b .loop .i) (c .before .before .loop-test .taken) (c .if1 .taken) in
+    let m = width-ten (b .before .before .before .before .args .text .now) (b .loop .i)
+    (c .before .before .loop-test .taken) (c .if1 .taken) in
     omega (arith, w .same, w .from, w .upto, m)
 
 loop-again : tie.Need-loop-again Inv-loop μ-loop
@@ -36,7 +37,8 @@ loop-again c =
 returns-2 : tie.Need-returns-2 Inv-loop μ-loop
 returns-2 c =
     let w = c .before .loop .inv in
-    let e = width-end (c .before .before .before .before .before .args .text .now) (c .before .loop .i) (c .loop-test .left) in
+    let e = width-end (c .before .before .before .before .before .args .text .now) (c .before .loop .i)
+    (c .loop-test .left) in
     omega (arith, w .same, w .from, w .upto, e)
 
 pub line-end-spec : {M : Type 1} → statement M

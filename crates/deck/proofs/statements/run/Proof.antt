@@ -27,26 +27,30 @@ returns c =
     let b = c .before .before .before .before in
     let a = b .before .before .args in
     let d = sym (c .before .before .is-dotted .ensures) ∙ not-true _ (c .before .if1 .taken) in
-    running-stop (a .text .now) (a .first) (a .start) (b .loop .at) (b .loop .e) (b .loop .cards) (b .loop .long) (b .loop .inv)
+    running-stop (a .text .now) (a .first) (a .start) (b .loop .at) (b .loop .e) (b .loop .cards) (b .loop .long)
+    (b .loop .inv)
     (c .answer .result) d (c .answer .ensures)
 
 -- the line has dots
 more : (c : tie.Else1 Inv-loop μ-loop) →
-    let b = c .before .before .before in dotted (lineOf (b .before .before .args .text .now) (b .loop .at) (b .loop .e)) ≡ true
+    let b = c .before .before .before in
+    dotted (lineOf (b .before .before .args .text .now) (b .loop .at) (b .loop .e)) ≡ true
 more c = sym (c .before .is-dotted .ensures) ∙ not-false _ (c .if1 .left)
 
 returns-2 : tie.Need-returns-2 Inv-loop μ-loop
 returns-2 c =
     let b = c .before .before .before .before .before in
     let a = b .before .before .args in
-    running-end (a .text .now) (a .first) (a .start) (b .loop .at) (b .loop .e) (b .loop .cards) (b .loop .long) (b .loop .inv)
+    running-end (a .text .now) (a .first) (a .start) (b .loop .at) (b .loop .e) (b .loop .cards) (b .loop .long)
+    (b .loop .inv)
     (c .answer2 .result) (more (c .before .before)) (c .before .if2 .taken) (c .answer2 .ensures)
 
 loop-again : tie.Need-loop-again Inv-loop μ-loop
 loop-again c =
     let b = c .before .before .before .before .before in
     let a = b .before .before .args in
-    running-next (a .text .now) (a .first) (a .start) (b .loop .at) (b .loop .e) (b .loop .cards) (b .loop .long) (b .loop .inv)
+    running-next (a .text .now) (a .first) (a .start) (b .loop .at) (b .loop .e) (b .loop .cards) (b .loop .long)
+    (b .loop .inv)
     (c .line-end .result) (more (c .before .before)) (c .before .if2 .left) (c .line-end .ensures .0)
 
 pub run-spec : {M : Type 1} → statement M

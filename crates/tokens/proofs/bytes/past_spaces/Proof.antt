@@ -41,7 +41,9 @@ first : (c : tie.Else1 Inv-loop μ-loop) → isSpace (getD (S c) (F c) 0) ≡ tr
 first c = yes (S c) (F c) (c .before .byte-at .result) (c .before .byte-at .ensures) (c .if1 .left)
 
 next : (c : tie.Then2 Inv-loop μ-loop) → isSpace (getD (S (c .before .before .before)) (I (c .before .before)) 0) ≡ true
-next c = let a = c .before .before in yes (S (a .before)) (I a) (c .before .byte-at2 .result) (c .before .byte-at2 .ensures) (c .if2 .taken)
+next c =
+    let a = c .before .before in
+    yes (S (a .before)) (I a) (c .before .byte-at2 .result) (c .before .byte-at2 .ensures) (c .if2 .taken)
 
 within : (c : tie.Then2 Inv-loop μ-loop) → I (c .before .before) < length (S (c .before .before .before))
 within c = inside isSpace (S (c .before .before .before)) _ refl (next c)
@@ -49,7 +51,9 @@ within c = inside isSpace (S (c .before .before .before)) _ refl (next c)
 returns : tie.Need-returns Inv-loop μ-loop
 returns c =
     let a = c .before .before .before .args in
-    sym (run-end isSpace (a .body .now) (a .from) (no (a .body .now) (a .from) (c .before .byte-at .result) (c .before .byte-at .ensures) (c .if1 .taken)))
+    sym
+    (run-end isSpace (a .body .now) (a .from)
+    (no (a .body .now) (a .from) (c .before .byte-at .result) (c .before .byte-at .ensures) (c .if1 .taken)))
 
 add-i : tie.Need-add-i Inv-loop μ-loop
 add-i c = omega (arith, inside isSpace (S c) (F c) refl (first c))
@@ -70,9 +74,11 @@ returns-2 : tie.Need-returns-2 Inv-loop μ-loop
 returns-2 c =
     let a = c .before .before in
     let b = c .before .byte-at2 in
-    sym (run-end isSpace (S (a .before)) _ (no (S (a .before)) (I a) (b .result) (b .ensures) (c .if2 .left))) ∙ a .loop .inv
+    sym (run-end isSpace (S (a .before)) _ (no (S (a .before)) (I a) (b .result) (b .ensures) (c .if2 .left)))
+    ∙ a .loop .inv
 
 pub past-spaces-spec : {M : Type 1} → statement M
 past-spaces-spec =
     tie.close
-    (tie.spec Inv-loop μ-loop (λ c κs. search needs) returns add-i loop-holds (λ c κs. search needs) add-i-2 loop-less loop-again returns-2)
+    (tie.spec Inv-loop μ-loop (λ c κs. search needs) returns add-i loop-holds
+    (λ c κs. search needs) add-i-2 loop-less loop-again returns-2)

@@ -11,4 +11,5 @@ returns c =
     omega (arith, key-threes n, c .three-at2 .ensures .0, c .before .three-at .ensures .0)
 
 pub key-of-spec : {M : Type 1} → statement M
-key-of-spec = tie.close (tie.spec (λ c κs. search needs) (λ c κs. search needs) (λ c. search needs) (λ c. search needs) returns)
+key-of-spec =
+    tie.close (tie.spec (λ c κs. search needs) (λ c κs. search needs) (λ c. search needs) (λ c. search needs) returns)

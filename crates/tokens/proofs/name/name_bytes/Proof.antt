@@ -13,7 +13,8 @@ use Rattle.tokens.proofs.name.name_bytes.Statement.{statement}
 use Rattle.tokens.proofs.name.name_bytes.Tie as tie
 
 abbrev Inv-loop : tie.InvT-loop
-Inv-loop body at n₀ n = (n ≤ nameBytes + 1) × (at + n ≤ length body) × (n + length (wordAt body (at + n)) ≡ length (wordAt body at))
+Inv-loop body at n₀ n =
+    (n ≤ nameBytes + 1) × (at + n ≤ length body) × (n + length (wordAt body (at + n)) ≡ length (wordAt body at))
 
 abbrev μ-loop : tie.MeasureT-loop
 μ-loop body at n₀ n = nameBytes + 1 - n
@@ -34,8 +35,10 @@ told : {b : Bool} (c : tie.After-is-word Inv-loop μ-loop) → c .is-word .resul
 told c t = ap isWord (sym (c .before .byte-at .ensures)) ∙ sym (c .is-word .ensures) ∙ t
 
 -- one more
-more : (s : List ℕ) (at n : ℕ) → isWord (getD s (at + n) 0) ≡ true → n + 1 + length (wordAt s (at + (n + 1))) ≡ n + length (wordAt s (at + n))
-more s at n h = let e : at + (n + 1) ≡ at + n + 1 = omega arith in rw e (omega (arith, run-len isWord s (at + n) refl h))
+more : (s : List ℕ) (at n : ℕ) → isWord (getD s (at + n) 0) ≡ true
+    → n + 1 + length (wordAt s (at + (n + 1))) ≡ n + length (wordAt s (at + n))
+more s at n h =
+    let e : at + (n + 1) ≡ at + n + 1 = omega arith in rw e (omega (arith, run-len isWord s (at + n) refl h))
 
 loop-holds : tie.Need-loop-holds Inv-loop μ-loop
 loop-holds c =

@@ -15,4 +15,6 @@ returns c =
     ∙ name-read (a .body .now) (a .at) (b .name-bytes .result) (b .name-bytes .ensures)
 
 pub read-name-spec : {M : Type 1} → statement M
-read-name-spec = tie.close (tie.spec (λ c κs. search needs) (λ c κs. search needs) (λ c. search needs) (λ c κs. search needs) returns)
+read-name-spec =
+    tie.close
+    (tie.spec (λ c κs. search needs) (λ c κs. search needs) (λ c. search needs) (λ c κs. search needs) returns)

@@ -1,4 +1,5 @@
--- The invariant: from here the digits end where they end from the start, read behind v they are the same number, and b is the byte here.
+-- The invariant: from here the digits end where they end from the start, read behind v they are the same number, and b
+-- is the byte here.
 use Prim.Native.Nat.{ℕ, _+_, _-_, _<_, _≤_, min}
 use mathlib.Core.Path.{_≡_, refl, sym, ap, _∙_}
 use mathlib.Core.Bool.{Bool}
@@ -31,7 +32,8 @@ abbrev I : tie.At-loop Inv-loop μ-loop → ℕ
 I c = c .loop .i
 
 -- what the test says of the byte in the text
-told : {b : Bool} (c : tie.After-is-digit Inv-loop μ-loop) → c .is-digit .result ≡ b → isDigit (getD (S (c .before)) (I (c .before)) 0) ≡ b
+told : {b : Bool} (c : tie.After-is-digit Inv-loop μ-loop) → c .is-digit .result ≡ b
+    → isDigit (getD (S (c .before)) (I (c .before)) 0) ≡ b
 told c t = ap isDigit (sym (c .before .loop .inv .3)) ∙ sym (c .is-digit .ensures) ∙ t
 
 within : (c : tie.Then1 Inv-loop μ-loop) → I (c .before .before) < length (S (c .before .before))
@@ -51,9 +53,11 @@ loop-again c =
     let w = c .before in
     let a = w .before .before .before in
     let d = told (w .before .before) (w .before .if1 .taken) in
-    let more = run-more isDigit (S a) (I a) refl d ∙ ap (λ (x : ℕ). x ∷ digitsAt (S a) (I a + 1)) (sym (a .loop .inv .3)) in (
+    let more =
+    run-more isDigit (S a) (I a) refl d ∙ ap (λ (x : ℕ). x ∷ digitsAt (S a) (I a + 1)) (sym (a .loop .inv .3)) in (
       sym (run-len isDigit (S a) _ refl d) ∙ a .loop .inv .0,
-      decimal-more (a .loop .v) (w .with-digit .result) _ (digitsAt (S a) (I a + 1)) (digitsAt (S a) (I a)) (w .with-digit .ensures) more
+      decimal-more (a .loop .v) (w .with-digit .result) _ (digitsAt (S a) (I a + 1)) (digitsAt (S a) (I a))
+          (w .with-digit .ensures) more
           ∙ a .loop .inv .1,
       omega (arith, w .with-digit .ensures),
       c .byte-at2 .ensures,
@@ -63,7 +67,8 @@ returns : tie.Need-returns Inv-loop μ-loop
 returns c =
     let a = c .before .before in
     let d = told (c .before) (c .if1 .left) in
-    let value = decimal-stop (a .loop .v) (digitsAt (S a) (I a)) (a .loop .inv .2) (run-stop isDigit (S a) (I a) d) ∙ a .loop .inv .1 in
+    let value = decimal-stop (a .loop .v) (digitsAt (S a) (I a)) (a .loop .inv .2) (run-stop isDigit (S a) (I a) d)
+    ∙ a .loop .inv .1 in
     let end = sym (run-end isDigit (S a) (I a) d) ∙ a .loop .inv .0 in
     let behind = a .loop .inv .3 ∙ ap (λ (i : ℕ). getD (S a) i 0) end in
     λ k. record { value = value k; end = end k; behind = behind k }

@@ -26,7 +26,8 @@ within : (t : tie.Else1) → A t < length (S t)
 within t = held 69 (S t) (A t) refl (letter t)
 
 returns : tie.Need-returns
-returns c = let s = c .before .before in no-letter (s .args .body .now) (s .args .at) (s .args .first) (s .pre) (c .if1 .taken)
+returns c =
+    let s = c .before .before in no-letter (s .args .body .now) (s .args .at) (s .args .first) (s .pre) (c .if1 .taken)
 
 add-sign-end : tie.Need-add-sign-end
 add-sign-end c = omega (arith, within c)
@@ -40,13 +41,15 @@ sub-n c = omega (arith, ends (c .before .digits .ensures))
 returns-2 : tie.Need-returns-2
 returns-2 c =
     let d = c .before .before in
-    no-digit (S (L d)) (A (L d)) (d .before .sign-end .result) (d .digits .result) (letter (L d)) (d .before .sign-end .ensures) (d .digits .ensures)
+    no-digit (S (L d)) (A (L d)) (d .before .sign-end .result) (d .digits .result) (letter (L d))
+    (d .before .sign-end .ensures) (d .digits .ensures)
     (c .if2 .taken)
 
 returns-3 : tie.Need-returns-3
 returns-3 c =
     let d = c .before .before .before in
-    too-many (S (L d)) (A (L d)) (d .before .sign-end .result) (d .digits .result) (letter (L d)) (d .before .sign-end .ensures) (d .digits .ensures)
+    too-many (S (L d)) (A (L d)) (d .before .sign-end .result) (d .digits .result) (letter (L d))
+    (d .before .sign-end .ensures) (d .digits .ensures)
     (c .if3 .taken)
 
 add-byte-at : tie.Need-add-byte-at
@@ -56,14 +59,16 @@ returns-4 : tie.Need-returns-4
 returns-4 c =
     let b = c .before in
     let d = b .before .before .before .before in
-    digits-minus (S (L d)) (A (L d)) (d .before .sign-end .result) (d .digits .result) (letter (L d)) (d .before .sign-end .ensures) (d .digits .ensures)
+    digits-minus (S (L d)) (A (L d)) (d .before .sign-end .result) (d .digits .result) (letter (L d))
+    (d .before .sign-end .ensures) (d .digits .ensures)
     (b .before .before .if2 .left) (b .before .if3 .left) (sym (b .byte-at .ensures) ∙ c .if4 .taken)
 
 returns-5 : tie.Need-returns-5
 returns-5 c =
     let b = c .before in
     let d = b .before .before .before .before in
-    digits-plus (S (L d)) (A (L d)) (d .before .sign-end .result) (d .digits .result) (letter (L d)) (d .before .sign-end .ensures) (d .digits .ensures)
+    digits-plus (S (L d)) (A (L d)) (d .before .sign-end .result) (d .digits .result) (letter (L d))
+    (d .before .sign-end .ensures) (d .digits .ensures)
     (b .before .before .if2 .left) (b .before .if3 .left) (λ e. c .if4 .left (b .byte-at .ensures ∙ e))
 
 pub read-exponent-spec : {M : Type 1} → statement M

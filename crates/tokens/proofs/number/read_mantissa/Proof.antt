@@ -24,7 +24,8 @@ D t = t .before .before
 within : (t : tie.Then1) → D t .digits .result .end < length (S (D t))
 within t =
     let d = D t in
-    held 46 (S d) (d .digits .result .end) refl (sym (behinds (S d) (A d) 0 (d .digits .result) (d .digits .ensures)) ∙ t .if1 .taken)
+    held 46 (S d) (d .digits .result .end) refl
+    (sym (behinds (S d) (A d) 0 (d .digits .result) (d .digits .ensures)) ∙ t .if1 .taken)
 
 add-digits : tie.Need-add-digits
 add-digits c = omega (arith, within c)
@@ -51,7 +52,8 @@ returns c =
     let e = c .before .before in
     let t = e .before in
     let d = D t in
-    with-point (S d) (A d) (d .digits .result) (e .digits2 .result) (d .digits .ensures) (t .if1 .taken) (e .digits2 .ensures)
+    with-point (S d) (A d) (d .digits .result) (e .digits2 .result) (d .digits .ensures) (t .if1 .taken)
+    (e .digits2 .ensures)
 
 sub-t11 : tie.Need-sub-t11
 sub-t11 c = omega (arith, ends (c .before .before .digits .ensures))
@@ -61,4 +63,6 @@ returns-2 c = let d = c .before .before in no-point (S d) (A d) (d .digits .resu
 
 pub read-mantissa-spec : {M : Type 1} → statement M
 read-mantissa-spec =
-    tie.close (tie.spec (λ c κs. search needs) add-digits digits-requires-2 add-after sub-after add-t9 sub-t10 returns sub-t11 returns-2)
+    tie.close
+    (tie.spec (λ c κs. search needs) add-digits digits-requires-2 add-after sub-after add-t9 sub-t10 returns sub-t11
+    returns-2)

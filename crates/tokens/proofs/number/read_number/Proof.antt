@@ -10,7 +10,8 @@ use Rattle.tokens.specs.declared.number.Power.the-variants.{Wrong}
 use Rattle.tokens.specs.Bytes.{isWord, isPoint}
 use Rattle.tokens.specs.Number.{digitsFrom}
 use Rattle.tokens.specs.Token.{numberAt}
-use Rattle.tokens.proofs.Numbers.{endOf, empty, through, behind-digits, tail-after, no-tail, after-short, down-small}
+use Rattle.tokens.proofs.Numbers.{endOf, empty, through, behind-digits, tail-after, no-tail, after-short}
+use Rattle.tokens.proofs.Numbers.{down-small}
 use Rattle.tokens.proofs.number.read_number.Statement.{statement}
 use Rattle.tokens.proofs.number.read_number.Tie as tie
 
@@ -54,11 +55,14 @@ tail-of k = k .e .given .0 .1 .1 .1 .0
 abbrev K : tie.After-is-tail → tie.After-e
 K w = w .before .before
 
-told : {b : Bool} (w : tie.After-is-tail) → w .is-tail .result ≡ b → (isWord (tail-of (K w)) || isPoint (tail-of (K w))) ≡ b
+told : {b : Bool} (w : tie.After-is-tail) → w .is-tail .result ≡ b
+    → (isWord (tail-of (K w)) || isPoint (tail-of (K w))) ≡ b
 told w t = sym (w .is-tail .ensures) ∙ t
 
 returns : tie.Need-returns
-returns c = let m = c .before .before in c .bad .ensures ∙ empty (S m) (A m) (D m) (m .read-mantissa .ensures) (c .before .if1 .taken)
+returns c =
+    let m = c .before .before in c .bad .ensures
+    ∙ empty (S m) (A m) (D m) (m .read-mantissa .ensures) (c .before .if1 .taken)
 
 read-exponent-requires : tie.Need-read-exponent-requires
 read-exponent-requires c κs = let m = c .before in behind-digits (S m) (A m) (D m) (m .read-mantissa .ensures)
@@ -69,7 +73,8 @@ returns-2 c =
     let k = K w in
     let m = M (X k) in
     c .bad3 .ensures
-    ∙ tail-after (S m) (A m) (D m) (m .read-mantissa .ensures) (up-of k) (down-of k) (stop-of k) (tail-of k) (told w (c .before .if2 .taken))
+    ∙ tail-after (S m) (A m) (D m) (m .read-mantissa .ensures) (up-of k) (down-of k) (stop-of k) (tail-of k)
+    (told w (c .before .if2 .taken))
     ∙ found (X k) _ (k .e .given .1)
 
 add-scaled : tie.Need-add-scaled
@@ -80,7 +85,8 @@ add-scaled c =
     omega (
       arith,
       after-short (S m) (A m) (D m) (m .read-mantissa .ensures),
-      down-small (S m) (D m .end) (up-of k) (down-of k) (stop-of k) (tail-of k) (sym (k .e .given .1) ∙ x .read-exponent .ensures),
+      down-small (S m) (D m .end) (up-of k) (down-of k) (stop-of k) (tail-of k)
+          (sym (k .e .given .1) ∙ x .read-exponent .ensures),
       m .before .before .good,
     )
 
@@ -92,7 +98,8 @@ returns-4 c =
     let w = c .before .before .before in
     let k = K w in
     let m = M (X k) in
-    no-tail (S m) (A m) (D m) (m .read-mantissa .ensures) (up-of k) (down-of k) (stop-of k) (tail-of k) (told w (c .before .before .if2 .left))
+    no-tail (S m) (A m) (D m) (m .read-mantissa .ensures) (up-of k) (down-of k) (stop-of k) (tail-of k)
+    (told w (c .before .before .if2 .left))
     (c .scaled .result) (c .scaled .ensures)
     ∙ found (X k) _ (k .e .given .1)
 

@@ -8,13 +8,16 @@ use Rattle.tokens.proofs.number.scaled.Statement.{statement}
 use Rattle.tokens.proofs.number.scaled.Tie as tie
 
 returns : tie.Need-returns
-returns c = let a = c .before .args in out-of-range (a .m) (a .up) (a .down) (too-large (a .m) (a .up) (a .down) (c .if1 .taken))
+returns c =
+    let a =
+    c .before .args in out-of-range (a .m) (a .up) (a .down) (too-large (a .m) (a .up) (a .down) (c .if1 .taken))
 
 returns-2 : tie.Need-returns-2
 returns-2 c =
     let i = c .before .before in
     let a = i .before .args in
-    out-of-range (a .m) (a .up) (a .down) (too-far (a .m) (a .up) (a .down) (i .if1 .left) (omega (arith, c .before .apart .ensures)))
+    out-of-range (a .m) (a .up) (a .down)
+    (too-far (a .m) (a .up) (a .down) (i .if1 .left) (omega (arith, c .before .apart .ensures)))
 
 int-to-float-t7 : tie.Need-int-to-float-t7
 unfolding Ieee.inFloat
@@ -25,7 +28,8 @@ returns-3 c =
     let t = c .before .before in
     let k = t .before .before in
     let a = k .before .before .args in
-    number-up (a .m) (a .up) (a .down) (k .apart .result) (t .ten .result) (k .before .if1 .left) (k .apart .ensures) (t .before .if2 .left)
+    number-up (a .m) (a .up) (a .down) (k .apart .result) (t .ten .result) (k .before .if1 .left) (k .apart .ensures)
+    (t .before .if2 .left)
     (t .ten .ensures) (c .before .if3 .taken)
 
 int-to-float-t9 : tie.Need-int-to-float-t9
@@ -37,9 +41,12 @@ returns-4 c =
     let t = c .before .before in
     let k = t .before .before in
     let a = k .before .before .args in
-    number-down (a .m) (a .up) (a .down) (k .apart .result) (t .ten .result) (k .before .if1 .left) (k .apart .ensures) (t .before .if2 .left)
+    number-down (a .m) (a .up) (a .down) (k .apart .result) (t .ten .result) (k .before .if1 .left) (k .apart .ensures)
+    (t .before .if2 .left)
     (t .ten .ensures) (c .before .if3 .left)
 
 pub scaled-spec : {M : Type 1} → statement M
 scaled-spec =
-    tie.close (tie.spec returns (λ c κs. search needs) returns-2 (λ c κs. search needs) int-to-float-t7 returns-3 int-to-float-t9 returns-4)
+    tie.close
+    (tie.spec returns (λ c κs. search needs) returns-2
+    (λ c κs. search needs) int-to-float-t7 returns-3 int-to-float-t9 returns-4)

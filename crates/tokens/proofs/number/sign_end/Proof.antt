@@ -18,4 +18,5 @@ returns-3 c =
     simp (ne-eqb _ 43 (λ e. c .before .if1 .left (b .ensures ∙ e)), ne-eqb _ 45 (λ e. c .if2 .left (b .ensures ∙ e)))
 
 pub sign-end-spec : {M : Type 1} → statement M
-sign-end-spec = tie.close (tie.spec (λ c κs. search needs) (λ c. search needs) returns (λ c. search needs) returns-2 returns-3)
+sign-end-spec =
+    tie.close (tie.spec (λ c κs. search needs) (λ c. search needs) returns (λ c. search needs) returns-2 returns-3)

@@ -33,8 +33,11 @@ P k = k .t .given .0 .0
 abbrev N : tie.After-t → ℕ
 N k = k .t .given .0 .1 .0
 
-named-in : (k : tie.After-t) → Sound (S (k .before .before)) (F (k .before .before)) (Name (P k) (N k)) (k .before .before .take-cut .result .next)
-named-in k = let c = k .before .before in told-sound (S c) (F c) (c .take-cut .result) (c .take-cut .ensures) (Name (P k) (N k)) (k .t .given .1)
+named-in : (k : tie.After-t) → Sound (S (k .before .before)) (F (k .before .before)) (Name (P k) (N k))
+    (k .before .before .take-cut .result .next)
+named-in k =
+    let c = k .before .before in
+    told-sound (S c) (F c) (c .take-cut .result) (c .take-cut .ensures) (Name (P k) (N k)) (k .t .given .1)
 
 add-e : tie.Need-add-e
 add-e c = let x = named-in (c .before) in omega (arith, x .0, x .1)
@@ -43,7 +46,8 @@ part-held-name-end : tie.Need-part-held-name-end
 part-held-name-end c = let x = named-in (c .before) in omega (arith, x .0, x .1)
 
 held-name-requires : tie.Need-held-name-requires
-held-name-requires c κs = let x = named-in (c .before .before) in simp (length-take, length-drop) (omega (arith, x .0, x .1))
+held-name-requires c κs =
+    let x = named-in (c .before .before) in simp (length-take, length-drop) (omega (arith, x .0, x .1))
 
 returns : tie.Need-returns
 returns c =

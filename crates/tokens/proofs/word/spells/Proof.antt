@@ -14,7 +14,8 @@ use Rattle.tokens.proofs.word.spells.Statement.{statement}
 use Rattle.tokens.proofs.word.spells.Tie as tie
 
 abbrev Inv-loop : tie.InvT-loop
-Inv-loop name word i₀ i = (length name ≡ length word) × (i ≤ length word) × (sameBytes (drop i name) (drop i word) ≡ sameBytes name word)
+Inv-loop name word i₀ i =
+    (length name ≡ length word) × (i ≤ length word) × (sameBytes (drop i name) (drop i word) ≡ sameBytes name word)
 
 abbrev μ-loop : tie.MeasureT-loop
 μ-loop name word i₀ i = length word - i
@@ -32,7 +33,8 @@ W l = l .before .before .args .word .now
 step : (k : tie.After-shared-slice-known2 Inv-loop μ-loop)
     → let l = L k in
     let i = l .loop .i in
-    sameBytes (drop i (N l)) (drop i (W l)) ≡ (eqb (getD (N l) i 0) (getD (W l) i 0) && sameBytes (drop (i + 1) (N l)) (drop (i + 1) (W l)))
+    sameBytes (drop i (N l)) (drop i (W l))
+    ≡ (eqb (getD (N l) i 0) (getD (W l) i 0) && sameBytes (drop (i + 1) (N l)) (drop (i + 1) (W l)))
 step k = let l = L k in same-step (N l) (W l) (l .loop .i) (omega arith) (k .before .before .loop-test .taken)
 
 returns : tie.Need-returns Inv-loop μ-loop
