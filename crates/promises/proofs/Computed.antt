@@ -61,7 +61,8 @@ computed : (heightOf (verdictOf deck faultRoom programRoom) ≡ stackPlaces)
     × (numberFor (bytes tank) ≡ 0) × Plain (bytes tank)
     × (numberFor loop ≡ 7) × Plain loop
 unfolding highest verdictOf judged linesOf trimmed dotted passed after ended left reading partOf joined anyLong sizeFlaw told sheetOf concat-map
-    sameBytes numbers run count lowWord decimal digitsFrom exponentFrom tenTo scaled tokenOf numberAt nameAt tokenAt cutAt lookUp symbolNamed rowFrom rowOf names
+    sameBytes numbers run count lowWord decimal digitsFrom exponentFrom tenTo scaled tokenOf numberAt nameAt tokenAt cutAt
+    lookUp symbolNamed rowFrom rowOf names
     postfix next rest byteOf give-to shapeOf startOf bind parse signedNumber many initially assigned integrated statement entire readRow any chained
     all first ready nextReady place order placeIn again faults21 within modelFaults valueIn program ofBits ofInt mul div neg round units size climb
     span odd

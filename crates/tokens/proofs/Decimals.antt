@@ -26,7 +26,7 @@ pub decimal-stop : (a : ℕ) (ys : List ℕ) → a ≤ cap → ys ≡ [] → a �
 unfolding decimal
 decimal-stop a ys h f = rw f (omega arith)
 
--- the digits of two rows are those of the second behind the first
+-- the digits of two lists are those of the second behind the first
 pub decimal-append : (a : ℕ) (xs ys : List ℕ) → decimal a (xs ++ ys) ≡ decimal (decimal a xs) ys
 unfolding decimal
 decimal-append a [] ys = refl

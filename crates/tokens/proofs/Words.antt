@@ -12,8 +12,7 @@ use Rattle.limits.specs.Limits.{nameBytes}
 use Rattle.bits.specs.Low.{lowWord}
 use Rattle.tokens.specs.declared.step.Held.{Held}
 use Rattle.tokens.specs.Symbol.{Word, CONST, PARAM, INCON, INTGRL, TIME, INSW, LIMIT, COMPAR, Reserved, reserved}
-use Rattle.tokens.specs.Symbol.{lookUp}
-use Rattle.tokens.specs.Symbol.{Symbol, name, word, keyOf, symbolNamed}
+use Rattle.tokens.specs.Symbol.{lookUp, Symbol, name, word, keyOf, symbolNamed}
 use Rattle.tokens.specs.Kinds.{nameKind, wordKind}
 use Rattle.tokens.specs.Held.{kindOf, argOf, threeOf, kindNamed, symbolOf}
 use Rattle.tokens.specs.Steps.{heldAs}

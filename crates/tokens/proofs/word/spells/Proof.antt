@@ -1,15 +1,11 @@
--- The invariant: from here on the rows agree where they agree as a whole.
-use Prim.Native.Nat.{ℕ, _+_, _-_, _≤_}
+-- The invariant: from here on the bytes agree where they agree as a whole.
+use Prim.Native.Nat.{_-_, _≤_}
 use mathlib.Core.Path.{_≡_, refl, sym, _∙_}
-use mathlib.Core.Bool.{_&&_}
-use mathlib.Core.List.{List}
 use native.Mathlib.Omega.{arith}
 use borrow.Author.Needs.{needs}
-use borrow.Author.Tests.{eq-eqb, ne-eqb}
-use lib.Dec.{eqb}
-use lib.ListN.{length, getD, drop}
+use lib.ListN.{length, drop}
 use Rattle.laws.specs.Lists.{sameBytes}
-use Rattle.tokens.proofs.Spelling.{other-length, same-step, same-end}
+use Rattle.tokens.proofs.Spelling.{other-length, same-stop, same-pass, same-end}
 use Rattle.tokens.proofs.word.spells.Statement.{statement}
 use Rattle.tokens.proofs.word.spells.Tie as tie
 
@@ -20,45 +16,36 @@ Inv-loop name word i₀ i =
 abbrev μ-loop : tie.MeasureT-loop
 μ-loop name word i₀ i = length word - i
 
--- the bytes at a place that the loop has come to
-abbrev L : tie.After-shared-slice-known2 Inv-loop μ-loop → tie.At-loop Inv-loop μ-loop
-L k = k .before .before .before
-
-abbrev N : tie.At-loop Inv-loop μ-loop → List ℕ
-N l = l .before .before .args .name .now
-
-abbrev W : tie.At-loop Inv-loop μ-loop → List ℕ
-W l = l .before .before .args .word .now
-
-step : (k : tie.After-shared-slice-known2 Inv-loop μ-loop)
-    → let l = L k in
-    let i = l .loop .i in
-    sameBytes (drop i (N l)) (drop i (W l))
-    ≡ (eqb (getD (N l) i 0) (getD (W l) i 0) && sameBytes (drop (i + 1) (N l)) (drop (i + 1) (W l)))
-step k = let l = L k in same-step (N l) (W l) (l .loop .i) (omega arith) (k .before .before .loop-test .taken)
-
 returns : tie.Need-returns Inv-loop μ-loop
-returns c = let a = c .before .args in sym (other-length (a .name .now) (a .word .now) (c .if1 .taken))
+returns c = let args = c .before .args in sym (other-length (args .name .now) (args .word .now) (c .if1 .taken))
 
 loop-holds : tie.Need-loop-holds Inv-loop μ-loop
 loop-holds c = (c .if1 .left, omega arith, refl)
 
 returns-2 : tie.Need-returns-2 Inv-loop μ-loop
 returns-2 c =
-    let l = c .before .before .before .before in
-    let a = l .before .before .args in
-    rw (← (l .loop .inv .2), step (c .before), ne-eqb _ _ (c .if2 .taken))
+    let test = c .before .before .before in
+    let turn = test .before in
+    let args = turn .before .before .args in
+    let within = test .loop-test .taken in
+    sym (same-stop (args .name .now) (args .word .now) (turn .loop .i) (omega arith) within (c .if2 .taken))
+    ∙ turn .loop .inv .2
 
 loop-again : tie.Need-loop-again Inv-loop μ-loop
 loop-again c =
-    let l = c .before .before .before .before in
-    (l .loop .inv .0, search needs, (rw (eq-eqb _ _ (c .if2 .left)) at (sym (step (c .before)))) ∙ l .loop .inv .2)
+    let test = c .before .before .before in
+    let turn = test .before in
+    let args = turn .before .before .args in
+    let within = test .loop-test .taken in
+    let pass = same-pass (args .name .now) (args .word .now) (turn .loop .i) (omega arith) within (c .if2 .left) in
+    (turn .loop .inv .0, search needs, sym pass ∙ turn .loop .inv .2)
 
 returns-3 : tie.Need-returns-3 Inv-loop μ-loop
 returns-3 c =
-    let l = c .before in
-    let a = l .before .before .args in
-    sym (same-end (a .name .now) (a .word .now) (l .loop .i) (omega arith) (c .loop-test .left)) ∙ l .loop .inv .2
+    let turn = c .before in
+    let args = turn .before .before .args in
+    sym (same-end (args .name .now) (args .word .now) (turn .loop .i) (omega arith) (c .loop-test .left))
+    ∙ turn .loop .inv .2
 
 pub spells-spec : {M : Type 1} → statement M
 spells-spec =
