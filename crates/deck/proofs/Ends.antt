@@ -18,7 +18,8 @@ use Rattle.deck.specs.Survey.{endsOf}
 -- ---- counted one by one, and part by part
 
 -- one byte more
-pub ends-next : (t : List ℕ) (i : ℕ) → i < length t → endsOf (drop i t) ≡ once (eqb (getD t i 0) 10) + endsOf (drop (i + 1) t)
+pub ends-next : (t : List ℕ) (i : ℕ) → i < length t
+    → endsOf (drop i t) ≡ once (eqb (getD t i 0) 10) + endsOf (drop (i + 1) t)
 unfolding endsOf
 ends-next t i h = rw (add-one, drop-cons t i 0 h)
 
@@ -29,8 +30,10 @@ pub record Finds (t : List ℕ) (f : Bool) (i : ℕ) : Type 0 where
 pub finds-first : (t : List ℕ) → Finds t false 0
 finds-first t = record { either = refl }
 
-pub finds-next : {t : List ℕ} {f : Bool} {i : ℕ} → Finds t f i → i < length t → Finds t (f || eqb (getD t i 0) 10) (i + 1)
-finds-next {t} {f} {i} w h = record { either = w .either ∙ rw (ends-next t i h) (go f (eqb (getD t i 0) 10) (endsOf (drop (i + 1) t))) }
+pub finds-next : {t : List ℕ} {f : Bool} {i : ℕ} → Finds t f i → i < length t
+    → Finds t (f || eqb (getD t i 0) 10) (i + 1)
+finds-next {t} {f} {i} w h =
+    record { either = w .either ∙ rw (ends-next t i h) (go f (eqb (getD t i 0) 10) (endsOf (drop (i + 1) t))) }
   where
     go : (f c : Bool) (n : ℕ) → (f || ltb 0 (once c + n)) ≡ ((f || c) || ltb 0 n)
     go true c n = refl
@@ -78,9 +81,14 @@ module _ {t : List ℕ} {n i : ℕ} (w : Counts t n i) where
   -- behind one byte, and behind so many
   pub counts-next : {m : ℕ} → i < length t → (m ≡ once (eqb (getD t i 0) 10)) × (m ≤ 1) → Counts t (n + m) (i + 1)
   counts-next h e =
-      record { within = omega arith; few = omega (arith, w .few, e .1); all = omega (arith, w .all, ends-next t i h, e .0) }
+      record {
+        within = omega arith;
+        few = omega (arith, w .few, e .1);
+        all = omega (arith, w .all, ends-next t i h, e .0);
+      }
 
-  pub counts-part : {m : ℕ} (k : ℕ) → i + k ≤ length t → m ≡ endsOf (take (i + k - i) (drop i t)) → Counts t (n + m) (i + k)
+  pub counts-part : {m : ℕ} (k : ℕ) → i + k ≤ length t → m ≡ endsOf (take (i + k - i) (drop i t))
+      → Counts t (n + m) (i + k)
   counts-part k h q =
       let z : i + k - i ≡ k = omega arith in
       let e = rw z at q in
@@ -95,7 +103,8 @@ module _ {t : List ℕ} {n i : ℕ} (w : Counts t n i) where
   counts-last h = let e : endsOf (drop i t) ≡ 0 = ap endsOf (drop-of-length-le t h) in omega (arith, w .all)
 
 -- or with what is left
-pub counts-rest : {t : List ℕ} {n i m : ℕ} → Counts t n i → m ≡ endsOf (take (length t - i) (drop i t)) → (n + m ≡ endsOf t) × (n + m ≤ length t)
+pub counts-rest : {t : List ℕ} {n i m : ℕ} → Counts t n i → m ≡ endsOf (take (length t - i) (drop i t))
+    → (n + m ≡ endsOf t) × (n + m ≤ length t)
 counts-rest {t} {n} {i} {m} w q =
     let k = length t - i in
     let z : i + k - i ≡ k = omega arith in
@@ -154,7 +163,9 @@ module _ (t : List ℕ) where
       go (b ∷ t) h = absurd (omega arith)
 
   pub lines-closed : 0 < length t → getD t (length t - 1) 0 ≡ 10 → length (linesOf t) ≡ endsOf t
-  lines-closed h e = let m = lines-by t h in let z : once (not (eqb (getD t (length t - 1) 0) 10)) ≡ 0 = rw (eq-eqb _ _ e) in omega arith
+  lines-closed h e =
+      let m = lines-by t h in let z : once (not (eqb (getD t (length t - 1) 0) 10)) ≡ 0 = rw (eq-eqb _ _ e) in
+      omega arith
 
   pub lines-open : 0 < length t → (getD t (length t - 1) 0 ≡ 10 → ⊥) → length (linesOf t) ≡ endsOf t + 1
   lines-open h e = lines-by t h ∙ rw (ne-eqb _ _ e)
@@ -178,9 +189,11 @@ passes-first t at h = record { from = omega arith; upto = h; same = refl }
 
 -- from one place to another, and on from there
 pub passes-both : {t : List ℕ} {at i j : ℕ} → Passes t at i → Passes t i j → Passes t at j
-passes-both w v = record { from = omega (arith, w .from, v .from); upto = v .upto; same = omega (arith, w .same, v .same) }
+passes-both w v =
+    record { from = omega (arith, w .from, v .from); upto = v .upto; same = omega (arith, w .same, v .same) }
 
-pub passes-on : {t : List ℕ} {at i : ℕ} (k : ℕ) → Passes t at i → i + k ≤ length t → ltb 0 (endsOf (take (i + k - i) (drop i t))) ≡ false
+pub passes-on : {t : List ℕ} {at i : ℕ} (k : ℕ) → Passes t at i → i + k ≤ length t
+    → ltb 0 (endsOf (take (i + k - i) (drop i t))) ≡ false
     → Passes t at (i + k)
 passes-on {t} {at} {i} k w h q =
     let y : i + k - i ≡ k = omega arith in

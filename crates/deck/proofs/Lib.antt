@@ -1,10 +1,10 @@
 pub mod Local
 pub mod Rising
-pub mod Bytes
+pub mod Cutting
 pub mod Ends
-pub mod Whole
+pub mod Seams
 pub mod Steps
 pub mod Tallies
 pub mod Parts
 pub mod Writes
-pub mod Linked
+pub mod Walking

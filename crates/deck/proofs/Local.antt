@@ -1,22 +1,25 @@
 -- Demand 3, at the level of lines: what a change of one run of lines leaves as it was.
-use Prim.Native.Nat.{ℕ, zero, suc, _+_}
-use mathlib.Core.Path.{_≡_, refl, sym, ap, _∙_}
+use Prim.Native.Nat.{ℕ, suc, _+_}
+use mathlib.Core.Path.{_≡_, refl, ap, _∙_}
 use mathlib.Core.Bool.{Bool, true, false, cond}
 use mathlib.Core.List.{List, [], _∷_, _++_, map, append-assoc, map-append}
-use native.Mathlib.Nat.{add-zero, add-suc, suc-add, add-comm}
+use native.Mathlib.Nat.{add-zero, add-suc, suc-add}
 use lib.ListN.{length}
 use Rattle.deck.specs.Lines.{Line, dotted, passed}
-use Rattle.deck.specs.Reading.{Statement, State, fresh, inside, goes-on, ends, after, ended, left, reading, closedIn, stateAfter}
-use Rattle.deck.specs.Reports.{Report, report, reports}
+use Rattle.deck.specs.Reading.{Statement, State, fresh, inside, goes-on, ends, after, ended, left, reading}
+use Rattle.deck.specs.Reading.{closedIn, stateAfter}
+use Rattle.deck.specs.Reports.{report}
 use Rattle.deck.specs.Later.{later, laterState, laterReport}
 
 -- ---- a reading of p ++ q: what is closed in p, and then the reading of q from the state after p
-pub reading-append : (s : State) (n : ℕ) (p q : List Line) → reading s n (p ++ q) ≡ closedIn s n p ++ reading (stateAfter s n p) (n + length p) q
+pub reading-append : (s : State) (n : ℕ) (p q : List Line)
+    → reading s n (p ++ q) ≡ closedIn s n p ++ reading (stateAfter s n p) (n + length p) q
 unfolding reading closedIn stateAfter
 reading-append s n [] q = rw add-zero
 reading-append s n (l ∷ p) q = rw (reading-append (after s n l) (suc n) p q, append-assoc, add-suc, suc-add)
 
-pub state-append : (s : State) (n : ℕ) (p q : List Line) → stateAfter s n (p ++ q) ≡ stateAfter (stateAfter s n p) (n + length p) q
+pub state-append : (s : State) (n : ℕ) (p q : List Line)
+    → stateAfter s n (p ++ q) ≡ stateAfter (stateAfter s n p) (n + length p) q
 unfolding stateAfter
 state-append s n [] q = rw add-zero
 state-append s n (l ∷ p) q = rw (state-append (after s n l) (suc n) p q, add-suc, suc-add)
@@ -48,7 +51,8 @@ after-later : (k : ℕ) (s : State) (n : ℕ) (l : Line) → after (laterState k
 unfolding after
 after-later k fresh n l = go (passed l)
   where
-    go : (b : Bool) → cond b fresh (goes-on (dotted l) (k + n) (l ∷ [])) ≡ laterState k (cond b fresh (goes-on (dotted l) n (l ∷ [])))
+    go : (b : Bool) → cond b fresh (goes-on (dotted l) (k + n) (l ∷ []))
+        ≡ laterState k (cond b fresh (goes-on (dotted l) n (l ∷ [])))
     go true = refl
     go false = goes-on-later k (dotted l) n (l ∷ [])
 after-later k (inside f cs) n l = goes-on-later k (dotted l) f (cs ++ (l ∷ []))
@@ -57,7 +61,8 @@ ended-later : (k : ℕ) (s : State) (n : ℕ) (l : Line) → ended (laterState k
 unfolding ended
 ended-later k fresh n l = go (passed l)
   where
-    go : (b : Bool) → cond b [] (ends (dotted l) (k + n) (l ∷ [])) ≡ map (later k) (cond b [] (ends (dotted l) n (l ∷ [])))
+    go : (b : Bool) → cond b [] (ends (dotted l) (k + n) (l ∷ []))
+        ≡ map (later k) (cond b [] (ends (dotted l) n (l ∷ [])))
     go true = refl
     go false = ends-later k (dotted l) n (l ∷ [])
 ended-later k (inside f cs) n l = ends-later k (dotted l) f (cs ++ (l ∷ []))
@@ -67,7 +72,8 @@ unfolding left
 left-later k fresh = refl
 left-later k (inside f cs) = refl
 
-pub reading-later : (k : ℕ) (s : State) (n : ℕ) (ls : List Line) → reading (laterState k s) (k + n) ls ≡ map (later k) (reading s n ls)
+pub reading-later : (k : ℕ) (s : State) (n : ℕ) (ls : List Line)
+    → reading (laterState k s) (k + n) ls ≡ map (later k) (reading s n ls)
 unfolding reading
 reading-later k s n [] = left-later k s
 reading-later k s n (l ∷ ls) =
@@ -75,58 +81,7 @@ reading-later k s n (l ∷ ls) =
 
 -- ---- reports, their line numbers raised by k
 
--- the reports of what a line among these closes
-abbrev pub closedReports : {A : Type 0} → (List Line → Bool → A) → List Line → List (Report A)
-closedReports f ls = map (report f) (closedIn fresh 1 ls)
-
 pub map-later : {A : Type 0} (f : List Line → Bool → A) (k : ℕ) (ss : List Statement)
     → map (report f) (map (later k) ss) ≡ map (laterReport k) (map (report f) ss)
 map-later f k [] = refl
 map-later f k (s ∷ ss) = ap (λ r. laterReport k (report f s) ∷ r) (map-later f k ss)
-
--- what follows the statements closed in front
-abbrev pub openReports : {A : Type 0} → (List Line → Bool → A) → List Line → List Line → List (Report A)
-openReports f pre rest = map (report f) (reading (stateAfter fresh 1 pre) (1 + length pre) rest)
-
-module _ {A : Type 0} (f : List Line → Bool → A) (pre : List Line) where
-  -- what is closed in front is reported first, whatever follows
-  pub front : (rest : List Line) → reports f (pre ++ rest) ≡ closedReports f pre ++ openReports f pre rest
-  front rest = ap (map (report f)) (reading-append fresh 1 pre rest) ∙ map-append (report f) (closedIn fresh 1 pre) _
-
-  -- where reading is fresh, the reports from there on are those of the rest alone, line numbers raised
-  pub behind : (rest : List Line) → stateAfter fresh 1 pre ≡ fresh
-      → reports f (pre ++ rest) ≡ closedReports f pre ++ map (laterReport (length pre)) (reports f rest)
-  behind rest e =
-      front rest
-      ∙ ap (λ r. closedReports f pre ++ r)
-      (rw (e, add-comm 1 (length pre), reading-later (length pre) fresh 1 rest) (map-later f (length pre) (reading fresh 1 rest)))
-
--- ---- Demand 3. The lines pre ++ old ++ post become pre ++ new ++ post, and post is p ++ q
-pub record Unchanged {A : Type 0} (f : List Line → Bool → A) (pre old new p q : List Line) : Type 0 where
-  -- both begin with the reports of the statements that an undotted line before the change closed
-  pub front-before : reports f (pre ++ (old ++ (p ++ q))) ≡ closedReports f pre ++ openReports f pre (old ++ (p ++ q))
-  pub front-after : reports f (pre ++ (new ++ (p ++ q))) ≡ closedReports f pre ++ openReports f pre (new ++ (p ++ q))
-  -- if both readings are fresh before q, both end with the reports of q, the line numbers raised by the lines in front
-  pub tail-before : stateAfter fresh 1 (pre ++ old ++ p) ≡ fresh
-      → reports f (pre ++ (old ++ (p ++ q))) ≡ closedReports f (pre ++ old ++ p) ++ map (laterReport (length (pre ++ old ++ p))) (reports f q)
-  pub tail-after : stateAfter fresh 1 (pre ++ new ++ p) ≡ fresh
-      → reports f (pre ++ (new ++ (p ++ q))) ≡ closedReports f (pre ++ new ++ p) ++ map (laterReport (length (pre ++ new ++ p))) (reports f q)
-
-module _ {A : Type 0} (f : List Line → Bool → A) (pre run p q : List Line) where
-  tail : stateAfter fresh 1 (pre ++ run ++ p) ≡ fresh
-      → reports f (pre ++ (run ++ (p ++ q))) ≡ closedReports f (pre ++ run ++ p) ++ map (laterReport (length (pre ++ run ++ p))) (reports f q)
-  tail e = ap (reports f) (sym (append-assoc pre run (p ++ q)) ∙ sym (append-assoc (pre ++ run) p q)) ∙ behind f (pre ++ run ++ p) q e
-
--- for any function of a statement's lines and closedness
-pub locality : {A : Type 0} (f : List Line → Bool → A) (pre old new p q : List Line) → Unchanged f pre old new p q
-locality f pre old new p q =
-    record {
-      front-before = front f pre (old ++ (p ++ q));
-      front-after = front f pre (new ++ (p ++ q));
-      tail-before = tail f pre old p q;
-      tail-after = tail f pre new p q;
-    }
-
--- any place just behind an unchanged later line without closing dots is such a place: both readings are fresh there
-pub fresh-in-post : (pre run p : List Line) (l : Line) → dotted l ≡ false → stateAfter fresh 1 (pre ++ run ++ (p ++ (l ∷ []))) ≡ fresh
-fresh-in-post pre run p l d = rw (← (append-assoc (pre ++ run) p (l ∷ []))) (fresh-behind (pre ++ run ++ p) l d)

@@ -76,7 +76,8 @@ any-first : (l : Line) (ls : List Line) → anyLong (l ∷ ls) ≡ false → (le
 unfolding anyLong
 any-first l ls e = go (ltb cardBytes (length l)) refl e
   where
-    go : (b : Bool) → ltb cardBytes (length l) ≡ b → (b || anyLong ls) ≡ false → (length l ≤ cardBytes) × (anyLong ls ≡ false)
+    go : (b : Bool) → ltb cardBytes (length l) ≡ b → (b || anyLong ls) ≡ false
+        → (length l ≤ cardBytes) × (anyLong ls ≡ false)
     go true q f = absurd (not-both refl f)
     go false q f = (ltb-false cardBytes (length l) q, f)
 
@@ -97,7 +98,8 @@ joined-few (l ∷ ls) h e =
     rw (joined-cons l ls) (simp length-append (omega (arith, part-le l, f .0, spaced-short ls (f .1))))
 
 -- where no fault 11, 12 or 13 stands the joined text is short
-pub joined-short : (cards : List Line) (closed : Bool) → sizeFlaw cards closed ≡ none → length (joined cards) ≤ joinedRoom
+pub joined-short : (cards : List Line) (closed : Bool) → sizeFlaw cards closed ≡ none
+    → length (joined cards) ≤ joinedRoom
 unfolding sizeFlaw
 joined-short cards false e = let z : _≡_ {A = ℕ} 0 1 = cc in absurd (omega arith)
 joined-short cards true e = go (ltb mostCards (length cards)) (anyLong cards) refl refl e
@@ -109,7 +111,8 @@ joined-short cards true e = go (ltb mostCards (length cards)) (anyLong cards) re
     go false false m n f = joined-few cards (ltb-false mostCards (length cards) m) n
 
 -- ---- the fault for size is that of the code
-pub size-flaw : (cards : List Line) (closed : Bool) → sizeFlaw cards closed ≡ flawOf closed (sizeCode (length cards) closed (anyLong cards))
+pub size-flaw : (cards : List Line) (closed : Bool)
+    → sizeFlaw cards closed ≡ flawOf closed (sizeCode (length cards) closed (anyLong cards))
 unfolding sizeFlaw
 size-flaw cards false = refl
 size-flaw cards true = go (ltb mostCards (length cards)) (anyLong cards)

@@ -1,6 +1,5 @@
 -- The first lines of a text's statements rise.
-use Prim.Native.Nat.{ℕ, suc, _≤_, _<_}
-use mathlib.Core.Path.{_≡_, refl}
+use Prim.Native.Nat.{ℕ, suc, _<_}
 use mathlib.Core.Bool.{Bool, true, false, cond}
 use mathlib.Core.List.{List, [], _∷_, _++_, map}
 use native.Mathlib.Omega.{arith}
@@ -37,4 +36,5 @@ reading-rises (inside f cs) n (l ∷ ls) b = go (dotted l) (λ s b. reading-rise
     go : (d : Bool) → ((s : State) → Before s (suc n) → Rising (least s (suc n)) (firsts (reading s (suc n) ls)))
         → Rising f (firsts (ends d f (cs ++ (l ∷ [])) ++ reading (goes-on d f (cs ++ (l ∷ []))) (suc n) ls))
     go true ih = ih (inside f (cs ++ (l ∷ []))) (omega arith)
-    go false ih = (omega arith, rising-le (suc n) (suc f) (firsts (reading fresh (suc n) ls)) (ih fresh tt) (omega arith))
+    go false ih =
+        (omega arith, rising-le (suc n) (suc f) (firsts (reading fresh (suc n) ls)) (ih fresh tt) (omega arith))

@@ -14,17 +14,20 @@ use Rattle.deck.specs.Next.{width, runOf, nextOf, Lawful, foundFrom, Fur
 use Rattle.deck.specs.declared.Cursor.{Cursor}
 use Rattle.deck.specs.declared.Found.{Found}
 use Rattle.deck.specs.declared.Found.the-variants.{Statement, End}
-use Rattle.deck.proofs.Bytes.{lineOf, LineAt, line-at, lines-end, lines-some}
+use Rattle.deck.proofs.Cutting.{lineOf, LineAt, line-at, lines-end, lines-some}
 
--- ---- inside the statement that starts at start: what is found from place at on, where a line ends at e, is what is found from start on
+-- ---- inside the statement that starts at start: what is found from place at on, where a line ends at e, is what is
+-- found from start on
 pub record Running (t : List ℕ) (first start at e k : ℕ) (long : Bool) : Type 0 where
   pub some : at < length t
   pub few : start + k ≤ at
   pub line : LineAt t at e
-  pub same : runOf first start at k long (linesOf (drop at t)) ≡ runOf first start start 0 false (linesOf (drop start t))
+  pub same : runOf first start at k long (linesOf (drop at t))
+      ≡ runOf first start start 0 false (linesOf (drop start t))
 
 -- at its first line
-pub running-first : (t : List ℕ) (first start e : ℕ) → start < length t → e ≡ start + width (drop start t) → Running t first start start e 0 false
+pub running-first : (t : List ℕ) (first start e : ℕ) → start < length t → e ≡ start + width (drop start t)
+    → Running t first start start e 0 false
 running-first t first start e h q = record { some = h; few = omega arith; line = line-at t start e h q; same = refl }
 
 module _ (t : List ℕ) (first start at e k : ℕ) (long : Bool) (x : Running t first start at e k long) where
@@ -38,14 +41,16 @@ module _ (t : List ℕ) (first start at e k : ℕ) (long : Bool) (x : Running t 
 
   -- a line with dots goes on
   step : dotted (lineOf t at e) ≡ true
-      → runOf first start (e + 1) (k + 1) longer (linesOf (drop (e + 1) t)) ≡ runOf first start start 0 false (linesOf (drop start t))
+      → runOf first start (e + 1) (k + 1) longer (linesOf (drop (e + 1) t))
+      ≡ runOf first start start 0 false (linesOf (drop start t))
   unfolding runOf
   step d = rw (x .line .lines, d, x .line .long, here) at (x .same)
 
   -- at the next line
   pub running-next : (n : ℕ) → dotted (lineOf t at e) ≡ true → e + 1 < length t → n ≡ e + 1 + width (drop (e + 1) t)
       → Running t first start (e + 1) n (k + 1) longer
-  running-next n d h q = record { some = h; few = omega (arith, x .few, x .line .from); line = line-at t (e + 1) n h q; same = step d }
+  running-next n d h q =
+      record { some = h; few = omega (arith, x .few, x .line .from); line = line-at t (e + 1) n h q; same = step d }
 
   -- a line without dots ends the statement
   pub running-stop : (r : Found) → dotted (lineOf t at e) ≡ false
@@ -84,7 +89,9 @@ module _ (t : List ℕ) (c : Cursor) where
   -- nor does one at the end
   pub found-end : length t ≤ c .at → End ≡ foundFrom t c
   unfolding foundFrom nextOf
-  found-end h = rw (lines-end t (c .at) h) (cond-ind (λ (r : Found). End ≡ r) (leb (c .line) (c .at + 1)) End End (λ _. refl) (λ _. refl))
+  found-end h =
+      rw (lines-end t (c .at) h)
+      (cond-ind (λ (r : Found). End ≡ r) (leb (c .line) (c .at + 1)) End End (λ _. refl) (λ _. refl))
 
   module _ (at n : ℕ) (x : Seeking t c at n) where
     -- a comment or a blank is passed over
@@ -128,7 +135,8 @@ run-past f s at k long (l ∷ ls) h =
     let to = at + length l + 1 in
     let r = runOf f s to (k + 1) (long || ltb cardBytes (length l)) ls in
     let p = run-past f s to (k + 1) (long || ltb cardBytes (length l)) ls (omega arith) in
-    cond-ind (Past (at + 1)) (dotted l) r _ (λ _. past-le (at + 1) (to + some ls) r (omega arith) p) (λ _. (omega arith, omega arith))
+    cond-ind (Past (at + 1)) (dotted l) r _ (λ _. past-le (at + 1) (to + some ls) r (omega arith) p)
+    (λ _. (omega arith, omega arith))
 
 -- and past the lines in front of it
 next-past : (at n : ℕ) (ls : List Line) → n ≤ at + 1 → Past (at + 1) (nextOf at n ls)
@@ -138,22 +146,27 @@ next-past at n (l ∷ ls) h =
     let to = at + length l + 1 in
     let r = nextOf to (n + 1) ls in
     let p = next-past to (n + 1) ls (omega arith) in
-    cond-ind (Past (at + 1)) (passed l) r _ (λ _. past-le (at + 1) (to + 1) r (omega arith) p) (λ _. run-past n at at 0 false (l ∷ ls) (omega arith))
+    cond-ind (Past (at + 1)) (passed l) r _ (λ _. past-le (at + 1) (to + 1) r (omega arith) p)
+    (λ _. run-past n at at 0 false (l ∷ ls) (omega arith))
 
 -- a statement is found only where bytes are left, and the cursor behind it is further on
 pub found-further : (t : List ℕ) (c : Cursor) → Further (length t) c (foundFrom t c)
 unfolding foundFrom nextOf
 found-further t c =
-    cond-ind (Further (length t) c) (leb (c .line) (c .at + 1)) _ _ (λ h. from (linesOf (drop (c .at) t)) refl (leb-true _ _ h)) (λ _. tt)
+    cond-ind (Further (length t) c) (leb (c .line) (c .at + 1)) _ _
+    (λ h. from (linesOf (drop (c .at) t)) refl (leb-true _ _ h)) (λ _. tt)
   where
     both : (r : Found) → c .at < length t → Past (c .at + 1) r → Further (length t) c r
     both End b p = tt
     both (Statement f s k d g nx) b p = (b, omega (arith, p .0), p .1)
 
-    from : (ls : List Line) → linesOf (drop (c .at) t) ≡ ls → Lawful c → Further (length t) c (nextOf (c .at) (c .line) ls)
+    from : (ls : List Line) → linesOf (drop (c .at) t) ≡ ls → Lawful c
+        → Further (length t) c (nextOf (c .at) (c .line) ls)
     from [] q h = tt
-    from (l ∷ ls) q h = both (nextOf (c .at) (c .line) (l ∷ ls)) (lines-some t (c .at) l ls q) (next-past (c .at) (c .line) (l ∷ ls) h)
+    from (l ∷ ls) q h =
+        both (nextOf (c .at) (c .line) (l ∷ ls)) (lines-some t (c .at) l ls q) (next-past (c .at) (c .line) (l ∷ ls) h)
 
 -- so what is equal to what is found reaches as far
-pub found-both : (t : List ℕ) (c : Cursor) (r : Found) → r ≡ foundFrom t c → (r ≡ foundFrom t c) × Further (length t) c r
+pub found-both : (t : List ℕ) (c : Cursor) (r : Found) → r ≡ foundFrom t c
+    → (r ≡ foundFrom t c) × Further (length t) c r
 found-both t c r e = (e, rw e (found-further t c))

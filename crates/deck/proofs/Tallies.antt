@@ -9,8 +9,8 @@ use lib.ListN.{length, drop}
 use Rattle.deck.specs.Lines.{Line, cut, linesOf, dotted, passed}
 use Rattle.deck.specs.Reading.{State, fresh, inside, goes-on, ends, after, ended, left, reading}
 use Rattle.deck.specs.Survey.{sizesOf, begun, tallied}
-use Rattle.deck.specs.declared.Tally.{Tally}
-use Rattle.deck.proofs.Bytes.{lineOf, LineAt, lines-end}
+use Rattle.deck.specs.declared.counts.Tally.{Tally}
+use Rattle.deck.proofs.Cutting.{lineOf, LineAt, lines-end}
 
 -- whether a statement is open
 abbrev open-in : State → Bool
@@ -50,7 +50,8 @@ begun-le false [] = omega arith
 begun-le true (l ∷ ls) = omega (arith, begun-le (dotted l) ls)
 begun-le false (l ∷ ls) = go (passed l) (begun-le false ls) (begun-le (dotted l) ls)
   where
-    go : (p : Bool) → begun false ls ≤ length ls → begun (dotted l) ls ≤ length ls → cond p (begun false ls) (suc (begun (dotted l) ls)) ≤ suc (length ls)
+    go : (p : Bool) → begun false ls ≤ length ls → begun (dotted l) ls ≤ length ls
+        → cond p (begun false ls) (suc (begun (dotted l) ls)) ≤ suc (length ls)
     go true h k = omega arith
     go false h k = omega arith
 
@@ -69,7 +70,8 @@ lines-le (b ∷ t) = go (eqb b 10) (linesOf t) (lines-le t)
 
 -- one line more is counted, and one less is left
 tally-step : (n : Tally) (l : Line) (ls : List Line)
-    → (tallied n l .statements ≤ n .statements + 1) × (tallied n l .statements + begun (tallied n l .more) ls ≡ n .statements + begun (n .more) (l ∷ ls))
+    → (tallied n l .statements ≤ n .statements + 1)
+    × (tallied n l .statements + begun (tallied n l .more) ls ≡ n .statements + begun (n .more) (l ∷ ls))
 unfolding begun
 tally-step n l ls = go (n .more)
   where
@@ -77,12 +79,14 @@ tally-step n l ls = go (n .more)
     k = n .statements
 
     by : (p : Bool) → (cond p k (k + 1) ≤ k + 1)
-        × (cond p k (k + 1) + begun (cond p false (dotted l)) ls ≡ k + cond p (begun false ls) (suc (begun (dotted l) ls)))
+        × (cond p k (k + 1) + begun (cond p false (dotted l)) ls
+        ≡ k + cond p (begun false ls) (suc (begun (dotted l) ls)))
     by true = (omega arith, refl)
     by false = (omega arith, omega arith)
 
     go : (b : Bool) → (cond b k (cond (passed l) k (k + 1)) ≤ k + 1)
-        × (cond b k (cond (passed l) k (k + 1)) + begun (cond b (dotted l) (cond (passed l) false (dotted l))) ls ≡ k + begun b (l ∷ ls))
+        × (cond b k (cond (passed l) k (k + 1)) + begun (cond b (dotted l) (cond (passed l) false (dotted l))) ls
+        ≡ k + begun b (l ∷ ls))
     go true = (omega arith, refl)
     go false = by (passed l)
 
@@ -119,5 +123,6 @@ module _ (t : List ℕ) where
         let z = lines-end t at h in
         let lines : n .lines ≡ length (linesOf t) = omega (arith, c .lines, ap length z) in
         let found : n .statements + 0 ≡ begun false (linesOf t) = rw z at (c .statements) in
-        let statements : n .statements ≡ length (reading fresh 1 (linesOf t)) = omega (arith, begun-reading fresh 1 (linesOf t)) in
+        let statements : n .statements ≡ length (reading fresh 1 (linesOf t)) =
+        omega (arith, begun-reading fresh 1 (linesOf t)) in
         λ k. record { lines = lines k; statements = statements k }

@@ -10,7 +10,7 @@ use Rattle.deck.specs.Lines.{Line}
 use Rattle.deck.specs.Joined.{partOf, joined}
 use Rattle.deck.specs.Next.{cardsAt}
 use Rattle.deck.specs.Codes.{spaced}
-use Rattle.deck.proofs.Bytes.{lineOf, LineAt, lines-end}
+use Rattle.deck.proofs.Cutting.{lineOf, LineAt, lines-end}
 use Rattle.deck.proofs.Parts.{part-le, joined-cons}
 
 -- ---- so many lines from a place on
@@ -47,7 +47,8 @@ module _ (t : List ℕ) (start cards to : ℕ) (old : List ℕ) where
 
   module _ (now : List ℕ) (at left w : ℕ) (j : Joining t start cards to old now at left w) where
     -- a space and the line's part are written
-    pub joining-next : (e : ℕ) (new : List ℕ) (r : ℕ) → 0 < left → LineAt t at e → r ≡ w + 1 + length (partOf (lineOf t at e))
+    pub joining-next : (e : ℕ) (new : List ℕ) (r : ℕ) → 0 < left → LineAt t at e
+        → r ≡ w + 1 + length (partOf (lineOf t at e))
         → new ≡ sets now w (32 ∷ partOf (lineOf t at e)) → Joining t start cards to old new (e + 1) (left - 1) r
     unfolding spaced
     joining-next e new r z l p q =
@@ -67,22 +68,27 @@ module _ (t : List ℕ) (start cards to : ℕ) (old : List ℕ) where
     pub joining-last : cardsAt t at left ≡ []
         → (w ≡ to + length (spaced (cardsAt t start cards))) × (now ≡ sets old to (spaced (cardsAt t start cards)))
     unfolding spaced
-    joining-last e = let z : spaced (cardsAt t at left) ≡ [] = ap spaced e in (omega (arith, j .count, ap length z), rw z at (j .same))
+    joining-last e =
+        let z : spaced (cardsAt t at left) ≡ [] = ap spaced e in
+        (omega (arith, j .count, ap length z), rw z at (j .same))
 
 -- ---- the whole text: the first part, and then the others
 module _ (t : List ℕ) (start cards : ℕ) (old : List ℕ) where
   -- no line is there
-  pub join-none : cardsAt t start cards ≡ [] → (0 ≡ length (joined (cardsAt t start cards))) × (old ≡ sets old 0 (joined (cardsAt t start cards)))
+  pub join-none : cardsAt t start cards ≡ []
+      → (0 ≡ length (joined (cardsAt t start cards))) × (old ≡ sets old 0 (joined (cardsAt t start cards)))
   unfolding joined
   join-none e = rw e (refl, refl)
 
   -- the first part is written up to place n, and the others behind it
   pub join-all : (e : ℕ) (mid new : List ℕ) (n r : ℕ) → 0 < cards → LineAt t start e
       → n ≡ 0 + length (partOf (lineOf t start e)) → mid ≡ sets old 0 (partOf (lineOf t start e))
-      → r ≡ n + length (spaced (cardsAt t (e + 1) (cards - 1))) → new ≡ sets mid n (spaced (cardsAt t (e + 1) (cards - 1)))
+      → r ≡ n + length (spaced (cardsAt t (e + 1) (cards - 1)))
+      → new ≡ sets mid n (spaced (cardsAt t (e + 1) (cards - 1)))
       → (r ≡ length (joined (cardsAt t start cards))) × (new ≡ sets old 0 (joined (cardsAt t start cards)))
   join-all e mid new n r z l m p q w =
       let part = partOf (lineOf t start e) in
       let rest = spaced (cardsAt t (e + 1) (cards - 1)) in
-      let all : joined (cardsAt t start cards) ≡ part ++ rest = ap joined (cards-cons t start cards e z l) ∙ joined-cons (lineOf t start e) _ in
+      let all : joined (cardsAt t start cards) ≡ part ++ rest =
+      ap joined (cards-cons t start cards e z l) ∙ joined-cons (lineOf t start e) _ in
       rw all (simp length-append (omega arith), w ∙ rw (p, m) (sym (sets-append old 0 part rest)))

@@ -1,4 +1,5 @@
--- The faults 11, 12 and 13 by what the code knows of a statement; its joined text behind the first part, and the room that it needs.
+-- The faults 11, 12 and 13 by what the code knows of a statement; its joined text behind the first part, and the room
+-- that it needs.
 use Prim.Native.Nat.{ℕ, suc, _*_, _-_}
 use mathlib.Core.Bool.{Bool, cond}
 use mathlib.Core.List.{List, [], _∷_, _++_}
@@ -8,7 +9,8 @@ use Rattle.deck.specs.Lines.{Line}
 use Rattle.deck.specs.Joined.{partOf}
 use Rattle.deck.specs.Faults.{at-start, at-end, Flaw, none, flaw}
 
--- the code, or 0: by the count of lines, whether the statement is closed, and whether a line has more than 72 bytes
+-- the code, or 0: by the count of lines, whether the statement is closed, and whether a line has more than cardBytes
+-- bytes
 abbrev pub sizeCode : ℕ → Bool → Bool → ℕ
 sizeCode k closed long = cond closed (cond (ltb mostCards k) 12 (cond long 13 0)) 11
 
@@ -21,6 +23,7 @@ unfoldable pub spaced : List Line → List ℕ
 spaced [] = []
 spaced (l ∷ ls) = 32 ∷ (partOf l ++ spaced ls)
 
--- the most bytes of a joined text without such a fault: parts of 72 bytes, with a space between each two
+-- the most bytes of a joined text without such a fault: mostCards parts of cardBytes bytes, with a space between each
+-- two
 abbrev pub joinedRoom : ℕ
 joinedRoom = mostCards * suc cardBytes - 1

@@ -1,13 +1,14 @@
 -- A statement's fault and its place, and the faults 11, 12 and 13.
 use Prim.Native.Nat.{ℕ}
-use mathlib.Core.Bool.{Bool, true, false, cond, _||_}
+use mathlib.Core.Bool.{Bool, false, cond, _||_}
 use mathlib.Core.List.{List, [], _∷_}
 use lib.Dec.{ltb}
 use lib.ListN.{length}
 use Rattle.limits.specs.Limits.{mostCards, cardBytes}
 use Rattle.deck.specs.Lines.{Line}
 
--- where a fault is: at the statement's first byte; at the token whose first byte has this place in the joined text; at the statement's end
+-- where a fault is: at the statement's first byte; at the token whose first byte has this place in the joined text; at
+-- the statement's end
 pub data Place : Type 0 where
   at-start : Place
   at-token : ℕ → Place
@@ -23,12 +24,14 @@ abbrev pub or-else : Flaw → Flaw → Flaw
 or-else none g = g
 or-else (flaw c p) g = flaw c p
 
--- one of the lines has more than 72 bytes, byte 10 aside
+-- one of the lines has more than cardBytes bytes, byte 10 aside
 unfoldable pub anyLong : List Line → Bool
 anyLong [] = false
 anyLong (l ∷ ls) = ltb cardBytes (length l) || anyLong ls
 
--- 11, the text ends while the statement continues; 12, more than 4 lines; 13, a line of more than 72 bytes; in this order
+-- 11, the text ends while the statement continues; 12, more than mostCards lines; 13, a line of more than cardBytes
+-- bytes; in this order
 unfoldable pub sizeFlaw : List Line → Bool → Flaw
 sizeFlaw cards closed =
-    cond closed (cond (ltb mostCards (length cards)) (flaw 12 at-start) (cond (anyLong cards) (flaw 13 at-start) none)) (flaw 11 at-end)
+    cond closed (cond (ltb mostCards (length cards)) (flaw 12 at-start) (cond (anyLong cards) (flaw 13 at-start) none))
+    (flaw 11 at-end)

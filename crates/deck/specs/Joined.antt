@@ -1,4 +1,5 @@
--- A statement's text: the dots are removed and the parts are joined with a space. And where a place of it stands among the lines.
+-- A statement's text: the dots are removed and the parts are joined with a space. And where a place of it stands among
+-- the lines.
 use Prim.Native.Nat.{ℕ, suc, _+_, _-_}
 use mathlib.Core.Bool.{cond}
 use mathlib.Core.List.{List, [], _∷_, _++_}

@@ -1,9 +1,11 @@
+-- the paper
 pub mod Lines
 pub mod Reading
 pub mod Reports
 pub mod Joined
 pub mod Faults
+pub mod Later
+-- as code holds it
 pub mod Next
 pub mod Codes
 pub mod Survey
-pub mod Later

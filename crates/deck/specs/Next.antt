@@ -1,4 +1,5 @@
--- What the code finds from a cursor on, over the lines that are left. at is the place of the next line's first byte, n its number.
+-- What the code finds from a cursor on, over the lines that are left. at is the place of the next line's first byte, n
+-- its number.
 use Prim.Native.Nat.{ℕ, suc, _+_, _<_, _≤_}
 use mathlib.Core.Path.{_≡_}
 use mathlib.Core.Bool.{Bool, true, false, cond, _||_}
@@ -23,13 +24,15 @@ pub record Passes (t : List ℕ) (at i : ℕ) : Type 0 where
   pub upto : i ≤ length t
   pub same : i + width (drop i t) ≡ at + width (drop at t)
 
--- inside the statement that starts at start with line first: k of its lines are read, and long says whether one has more than 72 bytes
+-- inside the statement that starts at start with line first: k of its lines are read, and long says whether one has
+-- more than cardBytes bytes
 unfoldable pub runOf : ℕ → ℕ → ℕ → ℕ → Bool → List Line → Found
 runOf first start at k long [] = Statement first start k false long (record { at = at; line = first + k })
 runOf first start at k long (l ∷ ls) =
     cond (dotted l)
     (runOf first start (at + length l + 1) (k + 1) (long || ltb cardBytes (length l)) ls)
-    (Statement first start (k + 1) true (long || ltb cardBytes (length l)) (record { at = at + length l + 1; line = first + (k + 1) }))
+    (Statement first start (k + 1) true (long || ltb cardBytes (length l))
+    (record { at = at + length l + 1; line = first + (k + 1) }))
 
 -- from a fresh line on
 unfoldable pub nextOf : ℕ → ℕ → List Line → Found

@@ -4,7 +4,8 @@ use mathlib.Core.Bool.{Bool, true, false, cond}
 use mathlib.Core.List.{List, [], _∷_, _++_}
 use Rattle.deck.specs.Lines.{Line, dotted, passed}
 
--- a statement: its first line's number, its lines, and whether a line without dots closed it; if none did, the text ended inside it
+-- a statement: its first line's number, its lines, and whether a line without dots closed it; if none did, the text
+-- ended inside it
 pub record Statement : Type 0 where
   pub first : ℕ
   pub cards : List Line
@@ -15,7 +16,8 @@ pub data State : Type 0 where
   fresh : State
   inside : ℕ → List Line → State
 
--- a line with the dots continues on the next line, whatever that is; a line without them ends the statement, and the next line is fresh
+-- a line with the dots continues on the next line, whatever that is; a line without them ends the statement, and the
+-- next line is fresh
 abbrev pub goes-on : Bool → ℕ → List Line → State
 goes-on true f cs = inside f cs
 goes-on false f cs = fresh

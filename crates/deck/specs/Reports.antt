@@ -1,4 +1,5 @@
--- Reports: a statement's number with what its lines and its closedness give, its fault for instance. Its number in every report is its first line.
+-- Reports: a statement's number with what its lines and its closedness give, its fault for instance. Its number in
+-- every report is its first line.
 use Prim.Native.Nat.{ℕ}
 use mathlib.Core.Bool.{Bool}
 use mathlib.Core.List.{List, map}

@@ -8,7 +8,7 @@ use Rattle.laws.specs.Counts.{once}
 use Rattle.deck.specs.Lines.{Line, linesOf, dotted, passed}
 use Rattle.deck.specs.Reading.{fresh, reading}
 use Rattle.deck.specs.declared.Sizes.{Sizes}
-use Rattle.deck.specs.declared.Tally.{Tally}
+use Rattle.deck.specs.declared.counts.Tally.{Tally}
 
 -- how many bytes 10 it has
 unfoldable pub endsOf : List ℕ → ℕ

@@ -16,7 +16,7 @@ use Rattle.drafts.specs.Tree.{Constant, Says, constants, assignment, state}
 use Rattle.sheet.specs.Sheet.{Told, says, faulty, Sheet, Numbered, said}
 use Rattle.sheet.specs.Reader.{told, sheetOf}
 use Rattle.order.specs.Order.{_≼_}
-use Rattle.order.proofs.Theorems.{first-by-lines}
+use Rattle.order.proofs.FirstOrder.{first-by-lines}
 use Rattle.model.specs.Definitions.{What, Def, definedBy, definitions, Equation, equationOf, equations, noEquation, equationAt, equationCount}
 use Rattle.model.specs.Faults.{usesIn, GoodOrder, orderOf}
 use Rattle.model.specs.Text.{textDefinitions, lineAt}

@@ -1,19 +1,19 @@
 -- Unsortable, as a test by chains and as what the greedy order leaves over.
-use mathlib.Core.Path.{_≡_, refl, _∙_}
-use mathlib.Core.Bool.{Bool, true, false, not, _&&_, _||_}
-use mathlib.Core.Logic.{_⊎_, inl, inr, ⊎-elim, _↔_}
+use mathlib.Core.Path.{_≡_, refl}
+use mathlib.Core.Bool.{Bool, true, false, _&&_}
+use mathlib.Core.Logic.{_⊎_, ⊎-elim, _↔_}
 use mathlib.Core.List.{List, [], _∷_}
-use Prim.Native.Nat.{ℕ, zero, suc, _+_, _≤_, _<_}
+use Prim.Native.Nat.{ℕ, zero, suc, _<_}
 use native.Mathlib.Nat.{eq-or-lt-of-le}
 use native.Mathlib.Omega.{arith}
-use borrow.Author.Tests.{ltb-true, ltb-false, lt-ltb, le-ltb, not-true}
+use borrow.Author.Tests.{ltb-true, lt-ltb, le-ltb, not-true}
 use lib.Dec.{ltb}
 use lib.ListN.{length}
 use Rattle.laws.specs.Counts.{count, has}
 use Rattle.laws.proofs.Tests.{bool-cases, not-both, and-true, and-both, or-true, or-left, or-right}
 use Rattle.laws.proofs.Counts.{has-false}
 use Rattle.order.specs.Order.{any, Chain, Unsortable, chained, unsortable}
-use Rattle.order.specs.Greedy.{order, LeftOver, leftOver}
+use Rattle.order.specs.Greedy.{order, leftOver}
 use Rattle.order.proofs.Sorting.{left-over-iff}
 
 -- ---- `any`
@@ -21,13 +21,15 @@ pub any-true : (k : ℕ) (f : ℕ → Bool) → any k f ≡ true → (j : ℕ) �
 unfolding any
 any-true zero f e = absurd (not-both e refl)
 any-true (suc k) f e =
-    ⊎-elim (λ t. (k, omega arith, t)) (λ t. let r = any-true k f t in (r .0, omega arith, r .2)) (or-true (f k) (any k f) e)
+    ⊎-elim (λ t. (k, omega arith, t)) (λ t. let r = any-true k f t in (r .0, omega arith, r .2))
+    (or-true (f k) (any k f) e)
 
 pub any-intro : (k : ℕ) (f : ℕ → Bool) (j : ℕ) → j < k → f j ≡ true → any k f ≡ true
 unfolding any
 any-intro zero f j h e = absurd (omega arith)
 any-intro (suc k) f j h e =
-    ⊎-elim (λ q. or-left (f k) (any k f) (rw (← q) e)) (λ l. or-right (f k) (any k f) (any-intro k f j l e)) (eq-or-lt-of-le (omega arith))
+    ⊎-elim (λ q. or-left (f k) (any k f) (rw (← q) e)) (λ l. or-right (f k) (any k f) (any-intro k f j l e))
+    (eq-or-lt-of-le (omega arith))
 
 module _ (n : ℕ) (uses : ℕ → ℕ → Bool) where
   -- the test finds a chain of k behind i exactly if there is one

@@ -17,7 +17,8 @@ use Rattle.order.specs.Greedy.{first}
 use Rattle.order.proofs.Searches.{first-from}
 use Rattle.order.proofs.Tables.{in-part}
 use Rattle.order.proofs.Sorting.{all-true, all-intro, first-hit}
-use Rattle.order.proofs.Marking.{ready-marked, ready-unmarked, free-not, goal-used, goal-open, goal-end, goal-moves, cursors-none}
+use Rattle.order.proofs.Marking.{ready-marked, ready-unmarked, free-not, goal-used, goal-open, goal-end}
+use Rattle.order.proofs.Marking.{goal-moves, cursors-none}
 
 -- ---- one more mark
 module _ (n : ℕ) (s u m : List ℕ) (j : ℕ) (lm : j < length m) where
@@ -33,7 +34,8 @@ module _ (n : ℕ) (s u m : List ℕ) (j : ℕ) (lm : j < length m) where
       let b = and-true (not (marked m i)) (freeIn n s u m i) h in
       and-both (not (marked (set m j 1) i)) (freeIn n s u (set m j 1) i) (rw (getD-set-other m j i 1 0 e) (b .0))
       (all-intro n (λ x. not (usesIn s u i x) || marked (set m j 1) x)
-      (λ x l. more (usesIn s u i x) (marked m x) (marked-more x) (all-true n (λ y. not (usesIn s u i y) || marked m y) (b .1) x l)))
+      (λ x l. more (usesIn s u i x) (marked m x) (marked-more x)
+      (all-true n (λ y. not (usesIn s u i y) || marked m y) (b .1) x l)))
     where
       more : (a b : Bool) {c : Bool} → (b ≡ true → c ≡ true) → (not a || b) ≡ true → (not a || c) ≡ true
       more true b f z = f z
@@ -45,13 +47,17 @@ module _ {n : ℕ} {s u m f v : List ℕ} (t : Fit n s u) where
       → (i : ℕ) → i < n → flag f i ≡ readyIn n s u m i
   flags-tell g free i hi =
       ⊎-elim (λ (a : 0 < getD f i 0). lt-ltb 0 (getD f i 0) a ∙ sym (g .flagged i hi a .0))
-      (λ a. le-ltb 0 (getD f i 0) a ∙ sym (⊎-elim (λ (b : 0 < getD m i 0). ready-marked n s u m i (λ z. omega arith)) (λ b. held (omega arith) (omega arith))
+      (λ a. le-ltb 0 (getD f i 0) a
+      ∙ sym
+      (⊎-elim (λ (b : 0 < getD m i 0). ready-marked n s u m i (λ z. omega arith))
+      (λ b. held (omega arith) (omega arith))
       (lt-or-ge 0 (getD m i 0)))) (lt-or-ge 0 (getD f i 0))
     where
       held : getD m i 0 ≡ 0 → getD f i 0 ≡ 0 → readyIn n s u m i ≡ false
       held a b =
           let w = g .blocked i hi a b in
-          ready-unmarked n s u m i a ∙ free-not n s u m i (getD v i 0) (w .1) (w .0) (omega (arith, w .2 (free i hi (w .0))))
+          ready-unmarked n s u m i a
+          ∙ free-not n s u m i (getD v i 0) (w .1) (w .0) (omega (arith, w .2 (free i hi (w .0))))
 
   -- then p is none
   pub flags-none : {p : ℕ} → Flags n n s u m f v p → ((i : ℕ) → i < n → getD v i 0 ≡ p → ⊥) → Flags n n s u m f v none
@@ -64,14 +70,18 @@ module _ {n : ℕ} {s u m f v : List ℕ} (t : Fit n s u) where
       }
 
   -- who waits for p is neither marked nor flagged
-  pub waits-open : {p x : ℕ} → Flags n n s u m f v p → p < n → x < n → getD v x 0 ≡ p → (getD m x 0 ≡ 0) × (getD f x 0 ≡ 0)
+  pub waits-open : {p x : ℕ} → Flags n n s u m f v p → p < n → x < n → getD v x 0 ≡ p
+      → (getD m x 0 ≡ 0) × (getD f x 0 ≡ 0)
   waits-open {p} {x} g hp hx w = (
-    ⊎-elim (λ (a : 0 < getD m x 0). absurd (omega (arith, g .placed x hx a, t .few))) (λ a. omega arith) (lt-or-ge 0 (getD m x 0)),
-    ⊎-elim (λ (a : 0 < getD f x 0). absurd (omega (arith, g .flagged x hx a .1, t .few))) (λ a. omega arith) (lt-or-ge 0 (getD f x 0)),
+    ⊎-elim (λ (a : 0 < getD m x 0). absurd (omega (arith, g .placed x hx a, t .few))) (λ a. omega arith)
+        (lt-or-ge 0 (getD m x 0)),
+    ⊎-elim (λ (a : 0 < getD f x 0). absurd (omega (arith, g .flagged x hx a .1, t .few))) (λ a. omega arith)
+        (lt-or-ge 0 (getD f x 0)),
   )
 
   -- ---- j, which is flagged, is marked
-  pub flags-mark : Flags n n s u m f v none → (j : ℕ) → j < n → 0 < getD f j 0 → j < length m → Flags n n s u (set m j 1) (set f j 0) v j
+  pub flags-mark : Flags n n s u m f v none → (j : ℕ) → j < n → 0 < getD f j 0 → j < length m
+      → Flags n n s u (set m j 1) (set f j 0) v j
   flags-mark g j hj a lm =
       let lf : j < length f = omega (arith, g .flags-size, t .few) in
       let old : (i : ℕ) → (i ≡ j → ⊥) → getD (set f j 0) i 0 ≡ getD f i 0 = λ i e. getD-set-other f j i 0 0 e in
@@ -81,16 +91,19 @@ module _ {n : ℕ} {s u m f v : List ℕ} (t : Fit n s u) where
         flagged =
             λ i hi b.
             ⊎-elim (λ (e : i ≡ j). absurd (omega (arith, own, rw e at b)))
-            (λ e. let w = g .flagged i hi (rw (old i e) at b) in (ready-more n s u m j lm i e (w .0), w .1)) (eq-or-ne i j);
+            (λ e. let w = g .flagged i hi (rw (old i e) at b) in (ready-more n s u m j lm i e (w .0), w .1))
+            (eq-or-ne i j);
         placed =
             λ i hi b.
-            ⊎-elim (λ (e : i ≡ j). rw e (g .flagged j hj a .1)) (λ e. g .placed i hi (rw (getD-set-other m j i 1 0 e) at b)) (eq-or-ne i j);
+            ⊎-elim (λ (e : i ≡ j). rw e (g .flagged j hj a .1))
+            (λ e. g .placed i hi (rw (getD-set-other m j i 1 0 e) at b)) (eq-or-ne i j);
         blocked =
             λ i hi b d.
             ⊎-elim (λ (e : i ≡ j). absurd (omega (arith, getD-set-same m j 1 0 lm, rw e at b)))
             (λ e.
             let w = g .blocked i hi (rw (getD-set-other m j i 1 0 e) at b) (rw (old i e) at d) in
-            (w .0, w .1, λ z. getD-set-other m j (getD v i 0) 1 0 z ∙ w .2 (λ q. omega (arith, w .0, t .few)))) (eq-or-ne i j);
+            (w .0, w .1, λ z. getD-set-other m j (getD v i 0) 1 0 z ∙ w .2 (λ q. omega (arith, w .0, t .few))))
+            (eq-or-ne i j);
       }
 
   -- ---- one statement more is settled: it is ready
@@ -108,7 +121,8 @@ module _ {n : ℕ} {s u m f v : List ℕ} (t : Fit n s u) where
               (λ e. let w = g .flagged i (up i hi e) (rw (old i e) at b) in (w .0, other i e ∙ w .1)) (eq-or-ne i x);
           placed =
               λ i hi b.
-              ⊎-elim (λ (e : i ≡ x). absurd (omega (arith, z, rw e at b))) (λ e. other i e ∙ g .placed i (up i hi e) b) (eq-or-ne i x);
+              ⊎-elim (λ (e : i ≡ x). absurd (omega (arith, z, rw e at b))) (λ e. other i e ∙ g .placed i (up i hi e) b)
+              (eq-or-ne i x);
           blocked =
               λ i hi b d.
               ⊎-elim (λ (e : i ≡ x). absurd (omega (arith, getD-set-same f x 1 0 lf, rw e at d)))
@@ -127,15 +141,18 @@ module _ {n : ℕ} {s u m f v : List ℕ} (t : Fit n s u) where
               (λ e. let w = g .flagged i (up i hi e) b in (w .0, other i e ∙ w .1)) (eq-or-ne i x);
           placed =
               λ i hi b.
-              ⊎-elim (λ (e : i ≡ x). absurd (omega (arith, z, rw e at b))) (λ e. other i e ∙ g .placed i (up i hi e) b) (eq-or-ne i x);
+              ⊎-elim (λ (e : i ≡ x). absurd (omega (arith, z, rw e at b))) (λ e. other i e ∙ g .placed i (up i hi e) b)
+              (eq-or-ne i x);
           blocked =
               λ i hi b d.
-              ⊎-elim (λ (e : i ≡ x). rw (e, at) (hj, uses, λ _. mj)) (λ e. rw (other i e) (g .blocked i (up i hi e) b d)) (eq-or-ne i x);
+              ⊎-elim (λ (e : i ≡ x). rw (e, at) (hj, uses, λ _. mj))
+              (λ e. rw (other i e) (g .blocked i (up i hi e) b d)) (eq-or-ne i x);
         }
 
 -- ---- what `settle` works out of statement i, which is not marked: the place k that its cursor moves to
 module _ {n : ℕ} {s u m c : List ℕ} (t : Fit n s u) (g : Cursors n s u m c) (i : ℕ) (hi : i < n) (z : getD m i 0 ≡ 0)
-    (a b d k : ℕ) (ea : a ≡ getD s i 0) (eb : b ≡ getD s (i + 1) 0) (ed : d ≡ getD c i 0) (ek : k ≡ first (openAt u m) (b - (a + d)) (a + d)) where
+    (a b d k : ℕ) (ea : a ≡ getD s i 0) (eb : b ≡ getD s (i + 1) 0) (ed : d ≡ getD c i 0)
+    (ek : k ≡ first (openAt u m) (b - (a + d)) (a + d)) where
   -- at the row's end i is ready
   pub settled-ready : {h l v : List ℕ} → b ≤ k → Settles n s u m i true c h l v h l v
   settled-ready le =
@@ -152,12 +169,15 @@ module _ {n : ℕ} {s u m c : List ℕ} (t : Fit n s u) (g : Cursors n s u m c) 
     wait-below = t .below k (omega (arith, t .ends i hi, eb))
 
     -- before it i waits for the statement there
-    pub settled-wait : {h l v h′ l′ v′ : List ℕ} (j : ℕ) → j ≡ getD u k 0 → (h′ ≡ set h j i) × (l′ ≡ set l i (getD h j 0)) × (v′ ≡ set v i j)
+    pub settled-wait : {h l v h′ l′ v′ : List ℕ} (j : ℕ) → j ≡ getD u k 0
+        → (h′ ≡ set h j i) × (l′ ≡ set l i (getD h j 0)) × (v′ ≡ set v i j)
         → Settles n s u m i false (set c i (k - a)) h l v h′ l′ v′
     settled-wait j ej e =
         let o = rw (ek, ea, eb, ed) at lt in
-        let hit : openAt u m k ≡ true = rw (← ek) at (first-hit (openAt u m) (b - (a + d)) (a + d) (omega (arith, ek))) in
-        let free : getD m (getD u k 0) 0 ≤ 0 = ltb-false 0 (getD m (getD u k 0) 0) (not-true (marked m (getD u k 0)) hit) in
+        let hit : openAt u m k ≡ true =
+        rw (← ek) at (first-hit (openAt u m) (b - (a + d)) (a + d) (omega (arith, ek))) in
+        let free : getD m (getD u k 0) 0 ≤ 0 =
+        ltb-false 0 (getD m (getD u k 0) 0) (not-true (marked m (getD u k 0)) hit) in
         let uses : usesIn s u i (getD u k 0) ≡ true = rw (ek, ea, eb, ed) (goal-used n s u m c t g i hi o) in
         record {
           moved = rw (ek, ea, eb, ed) (goal-moves n s u m c t g i hi);
@@ -167,7 +187,8 @@ module _ {n : ℕ} {s u m c : List ℕ} (t : Fit n s u) (g : Cursors n s u m c) 
         }
 
 -- ---- the same at the first place of its row, where its cursor has not moved
-module _ {n : ℕ} {s u m c : List ℕ} (t : Fit n s u) (g : Cursors n s u m c) (i : ℕ) (hi : i < n) (z : getD m i 0 ≡ 0) {h l v : List ℕ} where
+module _ {n : ℕ} {s u m c : List ℕ} (t : Fit n s u) (g : Cursors n s u m c) (i : ℕ) (hi : i < n)
+    (z : getD m i 0 ≡ 0) {h l v : List ℕ} where
   -- there is none
   pub first-ready : getD s (i + 1) 0 ≤ getD s i 0 → Settles n s u m i true c h l v h l v
   first-ready le =
@@ -181,12 +202,14 @@ module _ {n : ℕ} {s u m c : List ℕ} (t : Fit n s u) (g : Cursors n s u m c) 
       }
 
   -- or the statement there is not marked
-  pub first-wait : getD s i 0 < getD s (i + 1) 0 → {h′ l′ v′ : List ℕ} (j : ℕ) → j ≡ getD u (getD s i 0) 0 → getD m j 0 ≡ 0
+  pub first-wait : getD s i 0 < getD s (i + 1) 0 → {h′ l′ v′ : List ℕ} (j : ℕ) → j ≡ getD u (getD s i 0) 0
+      → getD m j 0 ≡ 0
       → (h′ ≡ set h j i) × (l′ ≡ set l i (getD h j 0)) × (v′ ≡ set v i j) → Settles n s u m i false c h l v h′ l′ v′
   first-wait lt j ej mj e =
       let a = getD s i 0 in
       let ends = t .ends i hi in
-      let uses : usesIn s u i j ≡ true = rw ej (in-has (getD u a 0) (usedOf s u i) (in-part a (getD s (i + 1) 0) u ends a (omega arith) lt)) in
+      let uses : usesIn s u i j ≡ true =
+      rw ej (in-has (getD u a 0) (usedOf s u i) (in-part a (getD s (i + 1) 0) u ends a (omega arith) lt)) in
       let hj : j < n = rw ej (t .below a (omega arith)) in
       record {
         moved = g;
@@ -196,7 +219,8 @@ module _ {n : ℕ} {s u m c : List ℕ} (t : Fit n s u) (g : Cursors n s u m c) 
       }
 
 -- while none is marked; the row goes from a to b
-module _ {n : ℕ} {s u : List ℕ} (t : Fit n s u) (i : ℕ) (hi : i < n) {a b : ℕ} (ea : a ≡ getD s i 0) (eb : b ≡ getD s (i + 1) 0) where
+module _ {n : ℕ} {s u : List ℕ} (t : Fit n s u) (i : ℕ) (hi : i < n) {a b : ℕ} (ea : a ≡ getD s i 0)
+    (eb : b ≡ getD s (i + 1) 0) where
   clear-at : (j : ℕ) → j < n → getD zeros j 0 ≡ 0
   clear-at j hj = getD-replicate {A = ℕ} mostStatements j 0 0 (omega (arith, t .few))
 
@@ -207,7 +231,9 @@ module _ {n : ℕ} {s u : List ℕ} (t : Fit n s u) (i : ℕ) (hi : i < n) {a b 
   start-below lt = t .below a (omega (arith, t .ends i hi))
 
   pub start-wait : {h l v h′ l′ v′ : List ℕ} → a < b → (j : ℕ) → j ≡ getD u a 0
-      → (h′ ≡ set h j i) × (l′ ≡ set l i (getD h j 0)) × (v′ ≡ set v i j) → Settles n s u zeros i false zeros h l v h′ l′ v′
+      → (h′ ≡ set h j i) × (l′ ≡ set l i (getD h j 0)) × (v′ ≡ set v i j)
+      → Settles n s u zeros i false zeros h l v h′ l′ v′
   start-wait lt j ej e =
-      first-wait t (cursors-none n s u zeros (t .few)) i hi (clear-at i hi) (omega arith) j (ej ∙ ap (λ k. getD u k 0) ea)
+      first-wait t (cursors-none n s u zeros (t .few)) i hi (clear-at i hi) (omega arith) j
+      (ej ∙ ap (λ k. getD u k 0) ea)
       (clear-at j (rw ej (start-below lt))) e

@@ -1,13 +1,12 @@
 pub mod Dictionary
 pub mod Sorting
 pub mod Chains
-pub mod Theorems
+pub mod FirstOrder
 pub mod Tables
 pub mod Searches
 pub mod Marking
 pub mod Queues
 pub mod Flagging
-pub mod Seeking
 pub mod Settling
-pub mod Going
+pub mod Placing
 pub mod Answers

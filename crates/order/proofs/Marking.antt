@@ -26,11 +26,13 @@ implied true b f = f refl
 implied false b f = refl
 
 -- any mark but 0 is one
-marked-yes : (m : List ℕ) (j : ℕ) → (getD m j 0 ≡ 0 → ⊥) → marked m j ≡ true
-marked-yes m j h = lt-ltb 0 (getD m j 0) (⊎-elim (λ e. absurd (h e)) (λ (e : getD m j 0 ≡ 0 → ⊥). omega arith) (eq-or-ne (getD m j 0) 0))
+pub marked-yes : (m : List ℕ) (j : ℕ) → (getD m j 0 ≡ 0 → ⊥) → marked m j ≡ true
+marked-yes m j h =
+    lt-ltb 0 (getD m j 0)
+    (⊎-elim (λ e. absurd (h e)) (λ (e : getD m j 0 ≡ 0 → ⊥). omega arith) (eq-or-ne (getD m j 0) 0))
 
 -- 0 is none
-marked-no : (m : List ℕ) (j : ℕ) → getD m j 0 ≡ 0 → marked m j ≡ false
+pub marked-no : (m : List ℕ) (j : ℕ) → getD m j 0 ≡ 0 → marked m j ≡ false
 marked-no m j e = le-ltb 0 (getD m j 0) (omega arith)
 
 -- ---- the statement j, which is used at place p
@@ -68,7 +70,11 @@ module _ (n : ℕ) (s u m : List ℕ) (i : ℕ) where
   unfolding readyIn ready
   ready-same placed e h =
       let uses = usesIn s u i in
-      rw (e i h, all-same (λ j. not (uses j) || marked m j) (λ j. not (uses j) || has j placed) n n (omega arith) (λ j l. rw (e j l)))
+      rw (
+        e i h,
+        all-same (λ j. not (uses j) || marked m j) (λ j. not (uses j) || has j placed) n n (omega arith)
+            (λ j l. rw (e j l)),
+      )
 
 -- ---- the place that statement i's cursor moves to, and what it says
 module _ (n : ℕ) (s u m c : List ℕ) (t : Fit n s u) (g : Cursors n s u m c) (i : ℕ) (h : i < n) where
@@ -88,7 +94,8 @@ module _ (n : ℕ) (s u m c : List ℕ) (t : Fit n s u) (g : Cursors n s u m c) 
   before-goal : (p : ℕ) → getD s i 0 ≤ p → p < goal → openAt u m p ≡ false
   before-goal p lo hi =
       let e : getD s i 0 + (p - getD s i 0) ≡ p = omega arith in
-      ⊎-elim (λ w. rw e at (g .pass i (p - getD s i 0) h w)) (λ w. first-before (openAt u m) (stop - start) start p (omega arith) hi)
+      ⊎-elim (λ w. rw e at (g .pass i (p - getD s i 0) h w))
+      (λ w. first-before (openAt u m) (stop - start) start p (omega arith) hi)
       (lt-or-ge (p - getD s i 0) (getD c i 0))
 
   -- before the end it has one that i uses
@@ -103,7 +110,8 @@ module _ (n : ℕ) (s u m c : List ℕ) (t : Fit n s u) (g : Cursors n s u m c) 
       let x = getD u goal 0 in
       let e = t .ends i h in
       let w = first-hit (openAt u m) (stop - start) start (omega arith) in
-      free-not n s u m i x (goal-used l) (t .below goal (omega arith)) (ltb-false 0 (getD m x 0) (not-true (marked m x) w))
+      free-not n s u m i x (goal-used l) (t .below goal (omega arith))
+      (ltb-false 0 (getD m x 0) (not-true (marked m x) w))
 
   -- at the end all are marked
   pub goal-end : stop ≤ goal → freeIn n s u m i ≡ true
@@ -138,7 +146,8 @@ cursors-mark n s u m c g i l =
       pass =
           λ j d hj k.
           let x = getD u (getD s j 0 + d) 0 in
-          ⊎-elim (λ (e : x ≡ i). rw (e, getD-set-same m i 1 0 l)) (λ e. rw (getD-set-other m i x 1 0 e) (g .pass j d hj k)) (eq-or-ne x i);
+          ⊎-elim (λ (e : x ≡ i). rw (e, getD-set-same m i 1 0 l))
+          (λ e. rw (getD-set-other m i x 1 0 e) (g .pass j d hj k)) (eq-or-ne x i);
     }
 
 -- at the start no cursor has moved

@@ -31,7 +31,8 @@ module _ (f : ℕ → Bool) (n i : ℕ) where
 pub first-skip : (f : ℕ → Bool) (n i : ℕ) → i ≤ n → ((j : ℕ) → j < i → f j ≡ false) → first f n 0 ≡ first f (n - i) i
 first-skip f n zero h z = rw sub-zero
 first-skip f n (suc i) h z =
-    first-skip f n i (omega arith) (λ j l. z j (omega arith)) ∙ rw (← add-one i) (first-pass f n i (omega arith) (z i (omega arith)))
+    first-skip f n i (omega arith) (λ j l. z j (omega arith))
+    ∙ rw (← add-one i) (first-pass f n i (omega arith) (z i (omega arith)))
 
 -- a search ends no sooner than it begins
 pub first-from : (f : ℕ → Bool) (k i : ℕ) → i ≤ first f k i
@@ -43,4 +44,5 @@ first-from f (suc k) i = cond-ind (λ r. i ≤ r) (f i) i _ (λ t. omega arith) 
 pub first-bound : (f : ℕ → Bool) (k i : ℕ) → first f k i ≤ i + k
 unfolding first
 first-bound f zero i = omega arith
-first-bound f (suc k) i = cond-ind (λ r. r ≤ i + suc k) (f i) i _ (λ t. omega arith) (λ t. omega (arith, first-bound f k (suc i)))
+first-bound f (suc k) i =
+    cond-ind (λ r. r ≤ i + suc k) (f i) i _ (λ t. omega arith) (λ t. omega (arith, first-bound f k (suc i)))

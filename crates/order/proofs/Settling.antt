@@ -1,8 +1,8 @@
 -- The loops that settle statements: all at first, then those that wait for the one just placed.
 use mathlib.Core.Path.{_≡_, refl, sym, ap, subst, _∙_}
 use mathlib.Core.Bool.{Bool, true, false}
-use mathlib.Core.List.{List, [], _∷_}
-use Prim.Native.Nat.{ℕ, zero, suc, _+_, _≤_, _<_, min}
+use mathlib.Core.List.{List, []}
+use Prim.Native.Nat.{ℕ, suc, _+_, _≤_, _<_, min}
 use native.Mathlib.Nat.{not-suc-le-zero}
 use native.Mathlib.Omega.{arith}
 use lib.Dec.{eqb}
@@ -10,6 +10,7 @@ use lib.ListN.{length, getD, set, length-set, replicate, length-replicate, getD-
 use lib.Seq.{getD-set-same, getD-set-other}
 use Rattle.limits.specs.Limits.{mostStatements}
 use Rattle.laws.specs.Counts.{once, count}
+use Rattle.laws.proofs.Stores.{count-set}
 use Rattle.laws.proofs.Counts.{once-same, once-other}
 use Rattle.order.specs.Table.{Fit}
 use Rattle.order.specs.Marks.{none, Leads, State, Settles, Blank, Woken, Awake}
@@ -25,9 +26,16 @@ pub record Beginning (n k : ℕ) (s u m f c h l v : List ℕ) : Type 0 where
   pub idle : (i : ℕ) → k ≤ i → i < n → getD v i 0 ≡ none
 
 pub begin-first : {n : ℕ} {s u m f c h l v : List ℕ} → Blank n s u m f c h l v → Beginning n 0 s u m f c h l v
-begin-first b = record { state = b .state; unmarked = b .unmarked; unflagged = λ i _ hi. b .unflagged i hi; idle = λ i _ hi. b .idle i hi }
+begin-first b =
+    record {
+      state = b .state;
+      unmarked = b .unmarked;
+      unflagged = λ i _ hi. b .unflagged i hi;
+      idle = λ i _ hi. b .idle i hi;
+    }
 
-module _ {n k : ℕ} {s u m f c h l v c′ h′ l′ v′ : List ℕ} (t : Fit n s u) (g : Beginning n k s u m f c h l v) (hk : k < n) where
+module _ {n k : ℕ} {s u m f c h l v c′ h′ l′ v′ : List ℕ} (t : Fit n s u) (g : Beginning n k s u m f c h l v)
+    (hk : k < n) where
   -- the next is ready
   pub begin-ready : Settles n s u m k true c′ h l v h′ l′ v′ → Beginning n (k + 1) s u m (set f k 1) c′ h′ l′ v′
   begin-ready w =
@@ -40,7 +48,8 @@ module _ {n k : ℕ} {s u m f c h l v c′ h′ l′ v′ : List ℕ} (t : Fit n
               moved = w .moved;
               lists = st .lists;
               known =
-                  flags-ready t (λ i _. refl) hk (st .known) (g .idle k (omega arith) hk) (sym (w .told)) (g .unmarked k hk) (λ i a b. omega arith);
+                  flags-ready t (λ i _. refl) hk (st .known) (g .idle k (omega arith) hk) (sym (w .told))
+                  (g .unmarked k hk) (λ i a b. omega arith);
             });
         unmarked = g .unmarked;
         unflagged = λ i a b. getD-set-other f k i 1 0 (λ q. omega arith) ∙ g .unflagged i (omega arith) b;
@@ -59,9 +68,11 @@ module _ {n k : ℕ} {s u m f c h l v c′ h′ l′ v′ : List ℕ} (t : Fit n
             rw (e .4, e .5, e .6)
             (record {
               moved = w .moved;
-              lists = push (t .few) (st .lists) k j hk (e .1) (λ q. omega (arith, e .1, t .few)) (g .idle k (omega arith) hk);
+              lists = push (t .few) (st .lists) k j hk (e .1) (λ q. omega (arith, e .1, t .few))
+                  (g .idle k (omega arith) hk);
               known =
-                  flags-wait t (λ i a. getD-set-other v k i j 0 a) hk (st .known) j (getD-set-same v k j 0 lv) (e .1) (e .2) (e .3)
+                  flags-wait t (λ i a. getD-set-other v k i j 0 a) hk (st .known) j (getD-set-same v k j 0 lv) (e .1)
+                  (e .2) (e .3)
                   (g .unmarked k hk) (g .unflagged k (omega arith) hk) (λ i a b. omega arith);
             });
         unmarked = g .unmarked;
@@ -69,15 +80,10 @@ module _ {n k : ℕ} {s u m f c h l v c′ h′ l′ v′ : List ℕ} (t : Fit n
         idle = λ i a b. rw (e .6) (getD-set-other v k i j 0 (λ q. omega arith) ∙ g .idle i (omega arith) b);
       }
 
-pub begin-last : {n k : ℕ} {s u m f c h l v : List ℕ} → Beginning n k s u m f c h l v → k ≡ n → State n n s u m f c h l v none none
-begin-last {n} {k} {s} {u} {m} {f} {c} {h} {l} {v} g e = subst (λ (i : ℕ). State n i s u m f c h l v none none) e (g .state)
-
--- ---- how often j stands in a row of which one place is another
-pub count-set : (j : ℕ) (l : List ℕ) (x a : ℕ) → x < length l → count j (set l x a) + once (eqb j (getD l x 0)) ≡ count j l + once (eqb j a)
-unfolding count
-count-set j [] x a h = absurd (not-suc-le-zero h)
-count-set j (b ∷ l) zero a h = omega arith
-count-set j (b ∷ l) (suc x) a h = omega (arith, count-set j l x a (omega arith))
+pub begin-last : {n k : ℕ} {s u m f c h l v : List ℕ} → Beginning n k s u m f c h l v → k ≡ n
+    → State n n s u m f c h l v none none
+begin-last {n} {k} {s} {u} {m} {f} {c} {h} {l} {v} g e =
+    subst (λ (i : ℕ). State n i s u m f c h l v none none) e (g .state)
 
 -- ---- those that wait for j, from x on
 pub record Waking (n : ℕ) (s u m f c h l v : List ℕ) (j low : ℕ) (x early : ℕ) : Type 0 where
@@ -88,14 +94,16 @@ pub record Waking (n : ℕ) (s u m f c h l v : List ℕ) (j low : ℕ) (x early 
   pub before : early ≤ low
   pub clear : (i : ℕ) → i < early → getD f i 0 ≡ 0
 
-pub waking-first : {n : ℕ} {s u m f c h l v : List ℕ} {j low : ℕ} → Woken n s u m f c h l v j low → {x : ℕ} → x ≡ getD h j 0
+pub waking-first : {n : ℕ} {s u m f c h l v : List ℕ} {j low : ℕ} → Woken n s u m f c h l v j low → {x : ℕ}
+    → x ≡ getD h j 0
     → Waking n s u m f c (set h j none) l v j low x low
 waking-first {h = h} {j = j} w e =
     record {
       fit = w .fit;
       one = w .one;
       mark = w .mark;
-      state = rw e (record { moved = w .moved; lists = open-list (w .fit .few) (w .lists) j (w .one); known = w .known });
+      state =
+          rw e (record { moved = w .moved; lists = open-list (w .fit .few) (w .lists) j (w .one); known = w .known });
       before = omega arith;
       clear = w .clear;
     }
@@ -127,11 +135,12 @@ module _ {n : ℕ} {s u m f c h l v : List ℕ} {j low x early : ℕ} (g : Wakin
     less-none : suc (count j (set v x none)) ≡ count j v
     less-none =
         let away = once-other j none (λ e. omega (arith, g .one, g .fit .few)) in
-        omega (arith, count-set j v x none long, ap (λ k. once (eqb j k)) (waking-one .1), once-same j, away)
+        omega (arith, count-set j none v x long, ap (λ k. once (eqb j k)) (waking-one .1), once-same j, away)
 
     module _ {c′ h′ l′ v′ : List ℕ} where
       -- it is ready
-      pub waking-ready : Settles n s u m x true c′ h l (set v x none) h′ l′ v′ → {y e : ℕ} → y ≡ getD l x 0 → e ≡ min early x
+      pub waking-ready : Settles n s u m x true c′ h l (set v x none) h′ l′ v′ → {y e : ℕ} → y ≡ getD l x 0
+          → e ≡ min early x
           → Waking n s u m (set f x 1) c′ h′ l′ v′ j low y e
       waking-ready w ey ee =
           let k = w .kept refl in
@@ -146,7 +155,8 @@ module _ {n : ℕ} {s u m f c h l v : List ℕ} {j low x early : ℕ} (g : Wakin
                   moved = w .moved;
                   lists = pop (g .fit .few) (g .state .lists) (g .one) hx;
                   known =
-                      flags-ready (g .fit) (λ i a. getD-set-other v x i none 0 a) (o .0) (g .state .known) (getD-set-same v x none 0 long)
+                      flags-ready (g .fit) (λ i a. getD-set-other v x i none 0 a) (o .0) (g .state .known)
+                      (getD-set-same v x none 0 long)
                       (sym (w .told)) (waking-open .0) (λ i a _. a);
                 });
             before = omega (arith, g .before);
@@ -171,10 +181,14 @@ module _ {n : ℕ} {s u m f c h l v : List ℕ} {j low x early : ℕ} (g : Wakin
                 (record {
                   moved = w .moved;
                   lists =
-                      push (g .fit .few) popped x q (o .0) (k .1) (λ z. omega (arith, g .mark, k .3, ap (λ i. getD m i 0) z)) (getD-set-same v x none 0 long);
+                      push (g .fit .few) popped x q (o .0) (k .1)
+                      (λ z. omega (arith, g .mark, k .3, ap (λ i. getD m i 0) z)) (getD-set-same v x none 0 long);
                   known =
-                      flags-wait (g .fit) (λ i a. getD-set-other (set v x none) x i q 0 a ∙ getD-set-other v x i none 0 a) (o .0) (g .state .known) q
-                      (getD-set-same (set v x none) x q 0 lw) (k .1) (k .2) (k .3) (waking-open .0) (waking-open .1) (λ i a _. a);
+                      flags-wait (g .fit)
+                      (λ i a. getD-set-other (set v x none) x i q 0 a ∙ getD-set-other v x i none 0 a) (o .0)
+                      (g .state .known) q
+                      (getD-set-same (set v x none) x q 0 lw) (k .1) (k .2) (k .3) (waking-open .0) (waking-open .1)
+                      (λ i a _. a);
                 });
             before = g .before;
             clear = g .clear;
@@ -188,16 +202,24 @@ module _ {n : ℕ} {s u m f c h l v : List ℕ} {j low x early : ℕ} (g : Wakin
           let q = k .0 in
           let lw : x < length (set v x none) = omega (arith, length-set v x none, long) in
           rw (k .6)
-          (omega (arith, less-none, count-set j (set v x none) x q lw, once-other j q (λ e. omega (arith, g .mark, k .3, ap (λ i. getD m i 0) e))))
+          (omega (
+            arith,
+            less-none,
+            count-set j q (set v x none) x lw,
+            once-other j q (λ e. omega (arith, g .mark, k .3, ap (λ i. getD m i 0) e)),
+          ))
 
 -- ---- the arrays at first
 pub blank : (n : ℕ) (s u : List ℕ) → n ≤ mostStatements
-    → Blank n s u (replicate mostStatements 0) (replicate mostStatements 0) (replicate mostStatements 0) (replicate mostStatements none)
+    → Blank n s u (replicate mostStatements 0) (replicate mostStatements 0) (replicate mostStatements 0)
+    (replicate mostStatements none)
     (replicate mostStatements 0) (replicate mostStatements none)
 unfolding Leads count
 blank n s u few =
-    let size : (a : ℕ) → length (replicate {A = ℕ} mostStatements a) ≡ mostStatements = λ a. length-replicate {A = ℕ} mostStatements a in
-    let at : (a i : ℕ) → i < n → getD (replicate {A = ℕ} mostStatements a) i 0 ≡ a = λ a i hi. getD-replicate {A = ℕ} mostStatements i a 0 (omega arith) in
+    let size : (a : ℕ) → length (replicate {A = ℕ} mostStatements a) ≡ mostStatements =
+    λ a. length-replicate {A = ℕ} mostStatements a in
+    let at : (a i : ℕ) → i < n → getD (replicate {A = ℕ} mostStatements a) i 0 ≡ a =
+    λ a i hi. getD-replicate {A = ℕ} mostStatements i a 0 (omega arith) in
     record {
       state =
           record {
@@ -207,11 +229,12 @@ blank n s u few =
                   heads-size = size none;
                   links-size = size 0;
                   waits-size = size none;
-                  row = λ _. [];
+                  queue = λ _. [];
                   own = λ z. absurd (omega arith);
                   shut = λ z. absurd (omega arith);
                   others = λ q hq _. at none q hq;
-                  stands = λ i q hi hq. sym (ap (λ k. once (eqb k q)) (at none i hi) ∙ once-other none q (λ e. omega arith));
+                  stands =
+                      λ i q hi hq. sym (ap (λ k. once (eqb k q)) (at none i hi) ∙ once-other none q (λ e. omega arith));
                   only = λ i q hq z. absurd (omega arith);
                 };
             known =

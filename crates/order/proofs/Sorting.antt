@@ -1,20 +1,21 @@
 -- What the greedy order is.
 use mathlib.Core.Path.{_≡_, refl, sym, ap, _∙_}
 use mathlib.Core.Bool.{Bool, true, false, not, _&&_, _||_}
-use mathlib.Core.Logic.{_⊎_, inl, inr, ⊎-elim, _↔_}
+use mathlib.Core.Logic.{_⊎_, inl, ⊎-elim, _↔_}
 use mathlib.Core.List.{List, [], _∷_, _++_, append-assoc, append-nil, map}
 use Prim.Native.Nat.{ℕ, zero, suc, _+_, _-_, _≤_, _<_}
 use native.Mathlib.Nat.{eq-or-lt-of-le}
 use native.Mathlib.Omega.{arith}
 use borrow.Author.Tests.{ltb-true, ltb-false, not-true, not-false}
 use lib.Dec.{ltb}
-use lib.ListN.{length, getD, take, length-append, List·getD-append}
+use lib.ListN.{length, take, length-append, List·getD-append}
 use lib.Seq.{take-append-le, take-at, getD-at, take-length}
 use Rattle.laws.specs.Counts.{count, _∈_, has}
 use Rattle.laws.proofs.Tests.{bool-cases, not-both, lt-or-ge, eq-or-ne, cond-ind, and-true, and-false, or-blocked}
-use Rattle.laws.proofs.Counts.{count-append, once-other, count-cons-same, count-snoc-same, count-snoc-other, has-true, has-false, place-of}
-use Rattle.order.specs.Order.{Permutation, _≼_, EachAfter, Good, First, Chain, Unsortable}
-use Rattle.order.specs.Greedy.{all, first, ready, next, place, order, LeftOver, leftOver}
+use Rattle.laws.proofs.Counts.{count-append, once-other, count-cons-same, count-snoc-same, count-snoc-other, has-true}
+use Rattle.laws.proofs.Counts.{has-false, place-of}
+use Rattle.order.specs.Order.{Permutation, _≼_, EachAfter, Good, Chain, Unsortable}
+use Rattle.order.specs.Greedy.{all, first, ready, next, place, order, LeftOver}
 use Rattle.order.proofs.Dictionary.{≼-prefix, ≼-append, ≼-antisym, ≼-map}
 
 -- ---- `all` and `first`
@@ -29,7 +30,8 @@ pub all-false : (k : ℕ) (f : ℕ → Bool) → all k f ≡ false → (j : ℕ)
 unfolding all
 all-false zero f e = absurd (not-both refl e)
 all-false (suc k) f e =
-    ⊎-elim (λ q. (k, omega arith, q)) (λ q. let r = all-false k f q in (r .0, omega arith, r .2)) (and-false (f k) (all k f) e)
+    ⊎-elim (λ q. (k, omega arith, q)) (λ q. let r = all-false k f q in (r .0, omega arith, r .2))
+    (and-false (f k) (all k f) e)
 
 pub all-intro : (k : ℕ) (f : ℕ → Bool) → ((j : ℕ) → j < k → f j ≡ true) → all k f ≡ true
 all-intro k f h =
@@ -39,7 +41,8 @@ pub first-hit : (f : ℕ → Bool) (k i : ℕ) → first f k i < i + k → f (fi
 unfolding first
 first-hit f zero i = λ h. absurd (omega arith)
 first-hit f (suc k) i =
-    cond-ind (λ r. r < i + suc k → f r ≡ true) (f i) i (first f k (suc i)) (λ t h. t) (λ t h. first-hit f k (suc i) (omega arith))
+    cond-ind (λ r. r < i + suc k → f r ≡ true) (f i) i (first f k (suc i)) (λ t h. t)
+    (λ t h. first-hit f k (suc i) (omega arith))
 
 pub first-before : (f : ℕ → Bool) (k i j : ℕ) → i ≤ j → j < first f k i → f j ≡ false
 unfolding first
@@ -49,7 +52,8 @@ first-before f (suc k) i j l =
     (λ t h. ⊎-elim (λ q. rw (← q) t) (λ m. first-before f k (suc i) j m h) (eq-or-lt-of-le l))
 
 pub first-least : (f : ℕ → Bool) (k i j : ℕ) → i ≤ j → f j ≡ true → first f k i ≤ j
-first-least f k i j l t = ⊎-elim (λ h. absurd (not-both t (first-before f k i j l h))) (λ h. h) (lt-or-ge j (first f k i))
+first-least f k i j l t =
+    ⊎-elim (λ h. absurd (not-both t (first-before f k i j l h))) (λ h. h) (lt-or-ge j (first f k i))
 
 -- two tests that agree below n have the same first
 pub first-same : (f g : ℕ → Bool) (n k i : ℕ) → i + k ≤ n → ((j : ℕ) → j < n → f j ≡ g j) → first f k i ≡ first g k i
@@ -82,7 +86,8 @@ unfolding free
 free-snoc zero a l h e = absurd (omega arith)
 free-snoc (suc k) a l h e =
     ⊎-elim (λ q. rw (← q) (omega (arith, free-above a a l (omega arith), count-snoc-same a l)))
-    (λ m. omega (arith, free-snoc k a l m e, count-snoc-other k a l (λ q. omega arith))) (eq-or-lt-of-le (omega arith))
+    (λ (m : a < k). omega (arith, free-snoc k a l m e, count-snoc-other k a l (λ q. omega arith)))
+    (eq-or-lt-of-le (omega arith))
 
 free-zero : (k : ℕ) (l : List ℕ) → free k l ≡ 0 → (i : ℕ) → i < k → i ∈ l
 unfolding free
@@ -106,7 +111,8 @@ module _ (n : ℕ) (uses : ℕ → ℕ → Bool) where
   ready-after l i e j h u =
       has-true j l (rw u at (all-true n (λ j. not (uses i j) || has j l) (and-true (not (has i l)) _ e .1) j h))
 
-  ready-blocked : (l : List ℕ) (i : ℕ) → ready n uses l i ≡ false → count i l ≡ 0 → (j : ℕ) × (j < n) × (uses i j ≡ true) × (count j l ≡ 0)
+  ready-blocked : (l : List ℕ) (i : ℕ) → ready n uses l i ≡ false → count i l ≡ 0
+      → (j : ℕ) × (j < n) × (uses i j ≡ true) × (count j l ≡ 0)
   unfolding ready
   ready-blocked l i e c =
       ⊎-elim (λ t. absurd (omega (arith, has-true i l (not-false (has i l) t))))
@@ -115,9 +121,11 @@ module _ (n : ℕ) (uses : ℕ → ℕ → Bool) where
       let s = or-blocked (uses i (r .0)) (has (r .0) l) (r .2) in
       (r .0, r .1, s .0, has-false (r .0) l (s .1))) (and-false (not (has i l)) _ e)
 
-  ready-intro : (l : List ℕ) (i : ℕ) → count i l ≡ 0 → ((j : ℕ) → j < n → uses i j ≡ true → j ∈ l) → ready n uses l i ≡ true
+  ready-intro : (l : List ℕ) (i : ℕ) → count i l ≡ 0 → ((j : ℕ) → j < n → uses i j ≡ true → j ∈ l)
+      → ready n uses l i ≡ true
   ready-intro l i c h =
-      ⊎-elim (λ t. t) (λ e. let r = ready-blocked l i e c in absurd (omega (arith, h (r .0) (r .1) (r .2), r .3))) (bool-cases (ready n uses l i))
+      ⊎-elim (λ t. t) (λ e. let r = ready-blocked l i e c in absurd (omega (arith, h (r .0) (r .1) (r .2), r .3)))
+      (bool-cases (ready n uses l i))
 
   pub next-ready : (l : List ℕ) → next n uses l < n → ready n uses l (next n uses l) ≡ true
   unfolding next
@@ -151,8 +159,12 @@ module _ (n : ℕ) (uses : ℕ → ℕ → Bool) where
   unfolding Distinct
   distinct-step l d h i =
       ⊎-elim
-      (λ e. rw e (omega (arith, count-snoc-same (next n uses l) l, ready-free l (next n uses l) (next-ready l h)), λ g. absurd (omega (arith, h, e))))
-      (λ e. let c = count-snoc-other i (next n uses l) l e in (omega (arith, d i .0), λ g. c ∙ d i .1 g)) (eq-or-ne i (next n uses l))
+      (λ e. rw e (
+        omega (arith, count-snoc-same (next n uses l) l, ready-free l (next n uses l) (next-ready l h)),
+        λ g. absurd (omega (arith, h, e)),
+      ))
+      (λ e. let c = count-snoc-other i (next n uses l) l e in (omega (arith, d i .0), λ g. c ∙ d i .1 g))
+      (eq-or-ne i (next n uses l))
 
   after-nil : EachAfter n uses []
   after-nil p j h = absurd (omega arith)
@@ -165,7 +177,8 @@ module _ (n : ℕ) (uses : ℕ → ℕ → Bool) where
       (ready-after l _ (next-ready l h) j hj (rw (getD-at l (next n uses l) [] 0 p (sym e)) at u)))
       (λ g.
       let le : p ≤ length l = omega arith in
-      rw (take-append-le p l (next n uses l ∷ []) le) (a p j g hj (rw (List·getD-append l (next n uses l ∷ []) 0 p g) at u)))
+      rw (take-append-le p l (next n uses l ∷ []) le)
+      (a p j g hj (rw (List·getD-append l (next n uses l ∷ []) 0 p g) at u)))
       (eq-or-lt-of-le {n = p} {m = length l} (omega (arith, length-append l (next n uses l ∷ []))))
 
   -- no more are placed than tried
@@ -174,7 +187,8 @@ module _ (n : ℕ) (uses : ℕ → ℕ → Bool) where
   place-length zero l = omega arith
   place-length (suc k) l =
       cond-ind (λ r. length r ≤ length l + suc k) (ltb (next n uses l) n) _ l
-      (λ t. omega (arith, place-length k (l ++ (next n uses l ∷ [])), length-append l (next n uses l ∷ []))) (λ t. omega arith)
+      (λ t. omega (arith, place-length k (l ++ (next n uses l ∷ [])), length-append l (next n uses l ∷ [])))
+      (λ t. omega arith)
 
   -- the numbers not placed and the places make n
   Full : List ℕ → Type 0
@@ -183,18 +197,21 @@ module _ (n : ℕ) (uses : ℕ → ℕ → Bool) where
   full-step : (l : List ℕ) → Full l → next n uses l < n → Full (l ++ (next n uses l ∷ []))
   unfolding Full
   full-step l f h =
-      omega (arith, free-snoc n (next n uses l) l h (ready-free l _ (next-ready l h)), length-append l (next n uses l ∷ []))
+      omega
+      (arith, free-snoc n (next n uses l) l h (ready-free l _ (next-ready l h)), length-append l (next n uses l ∷ []))
 
   -- in the end none is ready
   stuck : (k : ℕ) (l : List ℕ) → free n l ≤ k → (i : ℕ) → i < n → ready n uses (place n uses k l) i ≡ false
   unfolding place
   stuck zero l h i hi =
-      ⊎-elim (λ t. absurd (omega (arith, ready-free l i t, free-zero n l (omega arith) i hi))) (λ t. t) (bool-cases (ready n uses l i))
+      ⊎-elim (λ t. absurd (omega (arith, ready-free l i t, free-zero n l (omega arith) i hi))) (λ t. t)
+      (bool-cases (ready n uses l i))
   stuck (suc k) l h i hi =
       cond-ind (λ r. ready n uses r i ≡ false) (ltb (next n uses l) n) _ l
       (λ t.
       let g = ltb-true (next n uses l) n t in
-      stuck k (l ++ (next n uses l ∷ [])) (omega (arith, free-snoc n (next n uses l) l g (ready-free l _ (next-ready l g)))) i hi)
+      stuck k (l ++ (next n uses l ∷ []))
+      (omega (arith, free-snoc n (next n uses l) l g (ready-free l _ (next-ready l g)))) i hi)
       (λ t. next-none l (ltb-false _ _ t) i hi)
 
   pub order-distinct : (i : ℕ) → (count i (order n uses) ≤ 1) × (n ≤ i → count i (order n uses) ≡ 0)
@@ -213,7 +230,7 @@ module _ (n : ℕ) (uses : ℕ → ℕ → Bool) where
   unfolding order
   order-stuck = stuck n [] (omega (arith, free-nil n))
 
-  -- ---- T1: what is left over is what an endless chain starts at
+  -- ---- what is left over is what an endless chain starts at
   walk : (k i : ℕ) → LeftOver n uses i → (l : List ℕ) × (length l ≡ k) × Chain n uses i l
   walk zero i o = ([], refl, o .0)
   walk (suc k) i o =
@@ -244,11 +261,12 @@ module _ (n : ℕ) (uses : ℕ → ℕ → Bool) where
     λ o. let r = walk n i o in (r .0, omega (arith, r .1), r .2),
     λ w. (
       chain-head i (w .0) (w .2),
-      ⊎-elim (λ h. absurd (no-endless i (w .0) (w .1) (w .2) h)) (λ h. omega arith) (lt-or-ge 0 (count i (order n uses))),
+      ⊎-elim (λ h. absurd (no-endless i (w .0) (w .1) (w .2) h)) (λ h. omega arith)
+          (lt-or-ge 0 (count i (order n uses))),
     ),
   )
 
-  -- ---- T2 and T3
+  -- ---- a good order exists exactly if nothing is left over
   in-order : ((i : ℕ) → LeftOver n uses i → ⊥) → (i : ℕ) → i < n → i ∈ order n uses
   in-order h i hi = ⊎-elim (λ g. g) (λ g. absurd (h i (hi, omega arith))) (lt-or-ge 0 (count i (order n uses)))
 
@@ -264,7 +282,8 @@ module _ (n : ℕ) (uses : ℕ → ℕ → Bool) where
       }
 
   -- what a good list has behind a front p: its first uses only what stands in p
-  pub after-front : (p : List ℕ) (b : ℕ) (q : List ℕ) → EachAfter n uses (p ++ b ∷ q) → (j : ℕ) → j < n → uses b j ≡ true → j ∈ p
+  pub after-front : (p : List ℕ) (b : ℕ) (q : List ℕ) → EachAfter n uses (p ++ b ∷ q) → (j : ℕ) → j < n
+      → uses b j ≡ true → j ∈ p
   after-front p b q a j hj u =
       rw (take-at p (b ∷ q) (length p) refl) at
       (a (length p) j (omega (arith, length-append p (b ∷ q))) hj (rw (getD-at p b q 0 (length p) refl) u))
@@ -300,10 +319,7 @@ module _ (n : ℕ) (uses : ℕ → ℕ → Bool) where
             (omega (arith, g .perm .within i (o .0))),
       )
 
-  pub none-left-iff : ((i : ℕ) → LeftOver n uses i → ⊥) ↔ (q : List ℕ) × Good n uses q
-  none-left-iff = (λ h. (order n uses, order-good h), λ w. good-none-left (w .0) (w .1))
-
-  -- ---- T3
+  -- ---- the order is first of all good ones
   place-front : (k : ℕ) (l : List ℕ) → (r : List ℕ) × (place n uses k l ≡ l ++ r)
   unfolding place
   place-front zero l = ([], sym (append-nil l))
@@ -321,7 +337,8 @@ module _ (n : ℕ) (uses : ℕ → ℕ → Bool) where
       cond-ind (λ r. r ≼ p ++ []) (ltb (next n uses p) n) _ p
       (λ t.
       let h = ltb-true (next n uses p) n t in
-      absurd (omega (arith, ready-free p _ (next-ready p h), g .perm .within _ h, count-append (next n uses p) p []))) (λ t. ≼-prefix p [])
+      absurd (omega (arith, ready-free p _ (next-ready p h), g .perm .within _ h, count-append (next n uses p) p [])))
+      (λ t. ≼-prefix p [])
   least (suc k) p (b ∷ q) g =
       let c = count-append b p (b ∷ q) in
       let d = count-cons-same b q in
@@ -330,7 +347,8 @@ module _ (n : ℕ) (uses : ℕ → ℕ → Bool) where
       cond-ind (λ r. r ≼ p ++ b ∷ q) (ltb (next n uses p) n) _ p
       (λ t.
       ⊎-elim
-      (λ (e : next n uses p ≡ b). rw (e, ← append-assoc p (b ∷ []) q) (least k (p ++ (b ∷ [])) q (rw (append-assoc p (b ∷ []) q) g)))
+      (λ (e : next n uses p ≡ b). rw (e, ← append-assoc p (b ∷ []) q)
+      (least k (p ++ (b ∷ [])) q (rw (append-assoc p (b ∷ []) q) g)))
       (λ l.
       let f = place-front k (p ++ (next n uses p ∷ [])) in
       rw (f .1, append-assoc p (next n uses p ∷ []) (f .0)) (≼-append p (next n uses p ∷ f .0) (b ∷ q) (inl l)))
@@ -344,7 +362,8 @@ module _ (n : ℕ) (uses : ℕ → ℕ → Bool) where
   -- and so are its first lines, or other numbers that rise with the statements
   pub order-first-lines : (line : ℕ → ℕ) → ((a b : ℕ) → b < n → a < b → line a < line b) → (q : List ℕ) → Good n uses q
       → map line (order n uses) ≼ map line q
-  order-first-lines line up q g = ≼-map line (order n uses) q (λ a b h l. up a b (perm-below q (g .perm) b h) l) (order-first q g)
+  order-first-lines line up q g =
+      ≼-map line (order n uses) q (λ a b h l. up a b (perm-below q (g .perm) b h) l) (order-first q g)
 
   -- that says which it is
   pub order-unique : (q : List ℕ) → Good n uses q → ((r : List ℕ) → Good n uses r → q ≼ r) → q ≡ order n uses
@@ -365,7 +384,8 @@ module _ (n : ℕ) (u v : ℕ → ℕ → Bool) (same : (i j : ℕ) → i < n �
       first-same (ready n u l) (ready n v l) n n 0 (omega arith)
       (λ i h.
       ap (λ b. not (has i l) && b)
-      (all-same (λ j. not (u i j) || has j l) (λ j. not (v i j) || has j l) n n (omega arith) (λ j m. rw (same i j h m))))
+      (all-same (λ j. not (u i j) || has j l) (λ j. not (v i j) || has j l) n n (omega arith)
+      (λ j m. rw (same i j h m))))
 
   place-same : (k : ℕ) (l : List ℕ) → place n u k l ≡ place n v k l
   unfolding place

@@ -2,7 +2,7 @@
 use mathlib.Core.Path.{_≡_, refl, sym, _∙_}
 use mathlib.Core.Bool.{Bool, true, false}
 use mathlib.Core.Logic.{_↔_}
-use mathlib.Core.List.{List, [], _∷_}
+use mathlib.Core.List.{List}
 use Prim.Native.Nat.{ℕ, zero, suc, _+_, _-_, _≤_, _<_}
 use native.Mathlib.Omega.{arith}
 use borrow.Author.Tests.{ltb-true, leb-true, lt-ltb, le-leb}
@@ -10,9 +10,10 @@ use lib.Dec.{ltb, leb}
 use lib.ListN.{length, getD, take}
 use lib.Seq.{slice, length-slice, take-length, getD-drop, getD-take}
 use Rattle.limits.specs.Limits.{mostStatements}
-use Rattle.laws.specs.Counts.{count, _∈_}
+use Rattle.laws.specs.Counts.{_∈_}
 use Rattle.laws.proofs.Tests.{and-true, and-both}
-use Rattle.laws.proofs.Counts.{once-same, place-of}
+use Rattle.laws.proofs.Counts.{place-of}
+use Rattle.laws.proofs.Members.{at-in}
 use Rattle.order.specs.Greedy.{all}
 use Rattle.order.specs.Table.{Fit, endsIn, belowAt, fits}
 use Rattle.order.proofs.Sorting.{all-true, all-intro}
@@ -66,17 +67,10 @@ module _ (n : ℕ) (starts used : List ℕ) (room : ℕ) where
           and-both _ _
           (and-both _ _
           (and-both _ _ (and-both _ _ (le-leb _ _ (t .few)) (lt-ltb _ _ (t .rows))) (le-leb _ _ h))
-          (all-intro n _ (λ i l. le-leb _ _ (t .ends i l)))) (all-intro (length used) _ (λ k l. lt-ltb _ _ (t .below k l)))
+          (all-intro n _ (λ i l. le-leb _ _ (t .ends i l))))
+          (all-intro (length used) _ (λ k l. lt-ltb _ _ (t .below k l)))
 
--- ---- what stands in a row
-
--- what stands at a place of a list stands in it
-pub at-in : (l : List ℕ) (p : ℕ) → p < length l → getD l p 0 ∈ l
-unfolding count
-at-in [] p h = absurd (omega arith)
-at-in (a ∷ l) zero h = omega (arith, once-same a)
-at-in (a ∷ l) (suc p) h = omega (arith, at-in l p (omega arith))
-
+-- ---- what stands in a part of a list
 module _ (a b : ℕ) (l : List ℕ) (h : b ≤ length l) where
   -- what stands at a place of a part
   part-at : (d : ℕ) → d < b - a → getD (slice a b l) d 0 ≡ getD l (a + d) 0
@@ -86,7 +80,8 @@ module _ (a b : ℕ) (l : List ℕ) (h : b ≤ length l) where
   pub in-part : (p : ℕ) → a ≤ p → p < b → getD l p 0 ∈ slice a b l
   in-part p lo hi =
       let e : a + (p - a) ≡ p = omega arith in
-      rw (rw e at (part-at (p - a) (omega arith))) at (at-in (slice a b l) (p - a) (omega (arith, length-slice a b l h)))
+      rw (rw e at (part-at (p - a) (omega arith))) at
+      (at-in (slice a b l) (p - a) (omega (arith, length-slice a b l h)))
 
   -- what stands in it stands at one of its places
   pub part-place : (j : ℕ) → j ∈ slice a b l → (p : ℕ) × (a ≤ p) × (p < b) × (getD l p 0 ≡ j)

@@ -1,5 +1,5 @@
--- What the code keeps while it places statements: a mark for each that is placed, a cursor for each past what it uses that is placed, a
--- flag for each that is ready; any other waits for one that it uses, in a list of those that do.
+-- What the code keeps while it places statements: a mark for each that is placed, a cursor for each past what it uses
+-- that is placed, a flag for each that is ready; any other waits for one that it uses, in a list of those that do.
 use mathlib.Core.Path.{_≡_}
 use mathlib.Core.Bool.{Bool, true, false, not, _&&_, _||_}
 use mathlib.Core.List.{List, [], _∷_}
@@ -48,12 +48,12 @@ pub record Lists (n : ℕ) (heads links waits : List ℕ) (p x : ℕ) : Type 0 w
   pub heads-size : length heads ≡ mostStatements
   pub links-size : length links ≡ mostStatements
   pub waits-size : length waits ≡ mostStatements
-  pub row : ℕ → List ℕ
-  pub own : p < n → Leads links x (row p)
+  pub queue : ℕ → List ℕ
+  pub own : p < n → Leads links x (queue p)
   pub shut : p < n → getD heads p 0 ≡ none
-  pub others : (q : ℕ) → q < n → (q ≡ p → ⊥) → Leads links (getD heads q 0) (row q)
-  pub stands : (i q : ℕ) → i < n → q < n → count i (row q) ≡ once (eqb (getD waits i 0) q)
-  pub only : (i q : ℕ) → q < n → i ∈ row q → i < n
+  pub others : (q : ℕ) → q < n → (q ≡ p → ⊥) → Leads links (getD heads q 0) (queue q)
+  pub stands : (i q : ℕ) → i < n → q < n → count i (queue q) ≡ once (eqb (getD waits i 0) q)
+  pub only : (i q : ℕ) → q < n → i ∈ queue q → i < n
 
 -- ---- who is ready
 
@@ -61,19 +61,15 @@ pub record Lists (n : ℕ) (heads links waits : List ℕ) (p x : ℕ) : Type 0 w
 abbrev pub flag : List ℕ → ℕ → Bool
 flag flags i = ltb 0 (getD flags i 0)
 
--- one of them is
-unfoldable pub someFlag : List ℕ → Bool
-someFlag [] = false
-someFlag (a ∷ l) = ltb 0 a || someFlag l
-
--- of the statements before k: who is flagged is ready, and waits for none; nor does one that is marked; any other waits for one that it
--- uses and that is not marked, unless that is p
+-- of the statements before k: who is flagged is ready, and waits for none; nor does one that is marked; any other waits
+-- for one that it uses and that is not marked, unless that is p
 pub record Flags (n k : ℕ) (starts used marks flags waits : List ℕ) (p : ℕ) : Type 0 where
   pub flags-size : length flags ≡ mostStatements
   pub flagged : (i : ℕ) → i < k → 0 < getD flags i 0 → (readyIn n starts used marks i ≡ true) × (getD waits i 0 ≡ none)
   pub placed : (i : ℕ) → i < k → 0 < getD marks i 0 → getD waits i 0 ≡ none
   pub blocked : (i : ℕ) → i < k → getD marks i 0 ≡ 0 → getD flags i 0 ≡ 0
-      → (getD waits i 0 < n) × (usesIn starts used i (getD waits i 0) ≡ true) × ((getD waits i 0 ≡ p → ⊥) → getD marks (getD waits i 0) 0 ≡ 0)
+      → (getD waits i 0 < n) × (usesIn starts used i (getD waits i 0) ≡ true)
+      × ((getD waits i 0 ≡ p → ⊥) → getD marks (getD waits i 0) 0 ≡ 0)
 
 -- all that is known between two steps
 pub record State (n k : ℕ) (starts used marks flags cursors heads links waits : List ℕ) (p x : ℕ) : Type 0 where
@@ -81,8 +77,10 @@ pub record State (n k : ℕ) (starts used marks flags cursors heads links waits 
   pub lists : Lists n heads links waits p x
   pub known : Flags n k starts used marks flags waits p
 
--- what `settle` gives: whether i is ready; if not, i waits for one that it uses and that is not marked, at the front of its list
-pub record Settles (n : ℕ) (starts used marks : List ℕ) (i : ℕ) (r : Bool) (cursors heads links waits heads′ links′ waits′ : List ℕ) : Type 0 where
+-- what `settle` gives: whether i is ready; if not, i waits for one that it uses and that is not marked, at the front of
+-- its list
+pub record Settles (n : ℕ) (starts used marks : List ℕ) (i : ℕ) (r : Bool)
+    (cursors heads links waits heads′ links′ waits′ : List ℕ) : Type 0 where
   pub moved : Cursors n starts used marks cursors
   pub told : r ≡ readyIn n starts used marks i
   pub kept : r ≡ true → (heads′ ≡ heads) × (links′ ≡ links) × (waits′ ≡ waits)

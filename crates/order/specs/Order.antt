@@ -1,4 +1,5 @@
--- The order of n statements, numbered 0 .. n - 1 as they stand in the text, of which `uses i j` says that i uses j: what it means.
+-- The order of n statements, numbered 0 .. n - 1 as they stand in the text, of which `uses i j` says that i uses j:
+-- what it means.
 use mathlib.Core.Path.{_≡_}
 use mathlib.Core.Bool.{Bool, true, false, _&&_, _||_}
 use mathlib.Core.Logic.{_⊎_}

@@ -35,4 +35,5 @@ belowAt n used k = ltb (getD used k 0) n
 -- the same as a test, with room for n places
 unfoldable pub fits : ℕ → List ℕ → List ℕ → ℕ → Bool
 fits n starts used room =
-    leb n mostStatements && ltb n (length starts) && leb n room && all n (endsIn starts (length used)) && all (length used) (belowAt n used)
+    leb n mostStatements && ltb n (length starts) && leb n room && all n (endsIn starts (length used))
+    && all (length used) (belowAt n used)

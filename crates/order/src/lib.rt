@@ -1,31 +1,23 @@
 // The order of statements: each after all it uses, the least first.
 ghost use mathlib.Core.Path.{_≡_};
-ghost use Prim.Native.Nat.{ℕ, _-_, _≤_, _<_, min};
+ghost use Prim.Native.Nat.{ℕ, _-_, _≤_, _<_};
 ghost use lib.ListN.{length, getD, set};
 ghost use Rattle.limits.specs.Limits.{mostStatements};
 ghost use Rattle.order.specs.Greedy.{all, first};
 ghost use Rattle.order.specs.Table.{Fit, endsIn, belowAt, fits};
-ghost use Rattle.order.specs.Marks.{openAt, none, zeros, flag, someFlag, Cursors, Settles, Blank, State, Woken, Awake};
+ghost use Rattle.order.specs.Marks.{openAt, none, zeros, flag, Cursors, Settles, Blank, State, Woken, Awake};
 ghost use Rattle.order.specs.Answer.{Filled, Sorts};
+use bits::least;
+use bits::reads::index;
 use limits::STATEMENTS;
 
 // No statement: where a list ends, and what a statement waits for that waits for none.
 const NONE: usize = STATEMENTS;
 
-// How many flags are looked at at once.
-const STRIDE: usize = 16;
-
 // What `sort` answers: how many statements were placed, or that the table does not fit.
 pub enum Sorted {
     Placed(usize),
     Unfit,
-}
-
-// A number of the table as an index.
-fn wide(x: u16) -> usize
-    ensures { λ r. ⌜ (r ≡ x) × (r < 65536) ⌝ }
-{
-    x as usize
 }
 
 // Whether each of the n rows ends within size places.
@@ -36,7 +28,7 @@ fn rows_end(n: usize, starts: &[u16], size: usize) -> bool
     let mut i = n;
     while 0 < i {
         i -= 1;
-        if size < wide(starts[i + 1]) {
+        if size < index(starts[i + 1]) {
             return false;
         }
     }
@@ -50,7 +42,7 @@ fn used_below(n: usize, used: &[u16]) -> bool
     let mut k = used.len();
     while 0 < k {
         k -= 1;
-        if n <= wide(used[k]) {
+        if n <= index(used[k]) {
             return false;
         }
     }
@@ -83,20 +75,13 @@ fn advance(from: usize, end: usize, used: &[u16], marks: &[u8; STATEMENTS]) -> u
 {
     let mut k = from;
     while k < end {
-        let j = wide(used[k]);
+        let j = index(used[k]);
         if marks[j] == 0 {
             return k;
         }
         k += 1;
     }
     k
-}
-
-// The lesser of two numbers.
-fn least(a: usize, b: usize) -> usize
-    ensures { λ r. ⌜ r ≡ min a b ⌝ }
-{
-    if a < b { a } else { b }
 }
 
 // Puts statement i to the front of the list of those that wait for j.
@@ -108,7 +93,8 @@ fn attach(
     waits: &mut [u16; STATEMENTS],
 )
     requires { ⌜ (i < mostStatements) × (j < mostStatements) ⌝ }
-    ensures { λ _. ⌜ (now (heads .exit) ≡ set (now (heads .entry)) j i) × (now (links .exit) ≡ set (now (links .entry)) i (getD (now (heads .entry)) j 0))
+    ensures { λ _. ⌜ (now (heads .exit) ≡ set (now (heads .entry)) j i)
+        × (now (links .exit) ≡ set (now (links .entry)) i (getD (now (heads .entry)) j 0))
         × (now (waits .exit) ≡ set (now (waits .entry)) i j) ⌝ }
 {
     links[i] = heads[j];
@@ -116,7 +102,8 @@ fn attach(
     waits[i] = j as u16;
 }
 
-// Whether statement i, which is not marked, uses only marked ones. If not, its cursor moves to the first that is not, and it waits for that.
+// Whether statement i, which is not marked, uses only marked ones. If not, its cursor moves to the first that is not,
+// and it waits for that.
 fn settle(
     i: usize,
     n: usize,
@@ -128,19 +115,21 @@ fn settle(
     links: &mut [u16; STATEMENTS],
     waits: &mut [u16; STATEMENTS],
 ) -> bool
-    requires { ⌜ Fit n (now starts) (now used) × (i < n) × Cursors n (now starts) (now used) (now marks) (now cursors) × (getD (now marks) i 0 ≡ 0) ⌝ }
+    requires { ⌜ Fit n (now starts) (now used) × (i < n)
+        × Cursors n (now starts) (now used) (now marks) (now cursors) × (getD (now marks) i 0 ≡ 0) ⌝ }
     ensures { λ r. ⌜ Settles n (now (starts .entry)) (now (used .entry)) (now (marks .entry)) i r (now (cursors .exit))
-        (now (heads .entry)) (now (links .entry)) (now (waits .entry)) (now (heads .exit)) (now (links .exit)) (now (waits .exit)) ⌝ }
+        (now (heads .entry)) (now (links .entry)) (now (waits .entry))
+        (now (heads .exit)) (now (links .exit)) (now (waits .exit)) ⌝ }
 {
-    let start = wide(starts[i]);
-    let end = wide(starts[i + 1]);
-    let passed = wide(cursors[i]);
+    let start = index(starts[i]);
+    let end = index(starts[i + 1]);
+    let passed = index(cursors[i]);
     let k = advance(start + passed, end, used, marks);
     if end <= k {
         return true;
     }
     cursors[i] = (k - start) as u16;
-    attach(i, wide(used[k]), heads, links, waits);
+    attach(i, index(used[k]), heads, links, waits);
     false
 }
 
@@ -156,13 +145,14 @@ fn settle_first(
 ) -> bool
     requires { ⌜ Fit n (now starts) (now used) × (i < n) ⌝ }
     ensures { λ r. ⌜ Settles n (now (starts .entry)) (now (used .entry)) zeros i r zeros
-        (now (heads .entry)) (now (links .entry)) (now (waits .entry)) (now (heads .exit)) (now (links .exit)) (now (waits .exit)) ⌝ }
+        (now (heads .entry)) (now (links .entry)) (now (waits .entry))
+        (now (heads .exit)) (now (links .exit)) (now (waits .exit)) ⌝ }
 {
-    let at = wide(starts[i]);
-    if wide(starts[i + 1]) <= at {
+    let at = index(starts[i]);
+    if index(starts[i + 1]) <= at {
         return true;
     }
-    attach(i, wide(used[at]), heads, links, waits);
+    attach(i, index(used[at]), heads, links, waits);
     false
 }
 
@@ -176,7 +166,8 @@ fn settle_all(
     links: &mut [u16; STATEMENTS],
     waits: &mut [u16; STATEMENTS],
 )
-    requires { ⌜ Fit n (now starts) (now used) × Blank n (now starts) (now used) zeros (now ready) zeros (now heads) (now links) (now waits) ⌝ }
+    requires { ⌜ Fit n (now starts) (now used)
+        × Blank n (now starts) (now used) zeros (now ready) zeros (now heads) (now links) (now waits) ⌝ }
     ensures { λ _. ⌜ State n n (now (starts .entry)) (now (used .entry)) zeros (now (ready .exit)) zeros
         (now (heads .exit)) (now (links .exit)) (now (waits .exit)) none none ⌝ }
 {
@@ -203,15 +194,17 @@ fn wake(
     waits: &mut [u16; STATEMENTS],
     low: usize,
 ) -> usize
-    requires { ⌜ Woken n (now starts) (now used) (now marks) (now ready) (now cursors) (now heads) (now links) (now waits) j low ⌝ }
-    ensures { λ r. ⌜ Awake n (now (starts .entry)) (now (used .entry)) (now (marks .entry)) (now (ready .exit)) (now (cursors .exit))
+    requires { ⌜ Woken n (now starts) (now used) (now marks) (now ready) (now cursors)
+        (now heads) (now links) (now waits) j low ⌝ }
+    ensures { λ r. ⌜ Awake n (now (starts .entry)) (now (used .entry)) (now (marks .entry))
+        (now (ready .exit)) (now (cursors .exit))
         (now (heads .exit)) (now (links .exit)) (now (waits .exit)) low r ⌝ }
 {
     let mut least_ready = low;
-    let mut x = wide(heads[j]);
+    let mut x = index(heads[j]);
     heads[j] = NONE as u16;
     while x < NONE {
-        let next = wide(links[x]);
+        let next = index(links[x]);
         waits[x] = NONE as u16;
         if settle(x, n, starts, used, marks, cursors, heads, links, waits) {
             ready[x] = 1;
@@ -222,21 +215,8 @@ fn wake(
     least_ready
 }
 
-// Whether one of some flags is set. Each is looked at, so that many are at once.
-fn has_one(part: &[u8]) -> bool
-    ensures { λ r. ⌜ r ≡ someFlag (now (part .entry)) ⌝ }
-{
-    let mut found = false;
-    let mut i: usize = 0;
-    while i < part.len() {
-        found = found | (part[i] != 0);
-        i += 1;
-    }
-    found
-}
-
-// The first flag that is set from a place on and before n, looked for one by one; n where there is none.
-fn seek_one(from: usize, n: usize, ready: &[u8]) -> usize
+// The first flag that is set from a place on and before n; n where there is none.
+fn find(from: usize, n: usize, ready: &[u8]) -> usize
     requires { ⌜ (from ≤ n) × (n ≤ length (now ready)) ⌝ }
     ensures { λ r. ⌜ r ≡ first (flag (now (ready .entry))) (n - from) from ⌝ }
 {
@@ -250,37 +230,8 @@ fn seek_one(from: usize, n: usize, ready: &[u8]) -> usize
     i
 }
 
-// The same, where many are looked at at once.
-fn seek(from: usize, n: usize, ready: &[u8]) -> usize
-    requires { ⌜ (from ≤ n) × (n ≤ length (now ready)) ⌝ }
-    ensures { λ r. ⌜ r ≡ first (flag (now (ready .entry))) (n - from) from ⌝ }
-{
-    let mut i = from;
-    while STRIDE <= n - i {
-        let e = i + STRIDE;
-        if has_one(&ready[i..e]) {
-            return seek_one(i, n, ready);
-        }
-        i = e;
-    }
-    seek_one(i, n, ready)
-}
-
-// The same; often it is the first that is looked at.
-fn find(from: usize, n: usize, ready: &[u8]) -> usize
-    requires { ⌜ (from ≤ n) × (n ≤ length (now ready)) ⌝ }
-    ensures { λ r. ⌜ r ≡ first (flag (now (ready .entry))) (n - from) from ⌝ }
-{
-    if from < n {
-        if ready[from] != 0 {
-            return from;
-        }
-    }
-    seek(from, n, ready)
-}
-
-// Writes the order of a table that fits to the front of out; how many were placed. Once i is placed only those that wait for it may become
-// ready.
+// Writes the order of a table that fits to the front of out; how many were placed. Once i is placed only those that
+// wait for it may become ready.
 fn place(n: usize, starts: &[u16], used: &[u16], out: &mut [u16]) -> usize
     requires { ⌜ Fit n (now starts) (now used) × (n ≤ length (now out)) ⌝ }
     ensures { λ r. ⌜ Filled n (now (starts .entry)) (now (used .entry)) (now (out .entry)) (now (out .exit)) r ⌝ }

@@ -17,7 +17,7 @@ use Rattle.deck.specs.Joined.{partOf, joined}
 use Rattle.deck.specs.Faults.{anyLong, sizeFlaw}
 use Rattle.tokens.specs.Number.{decimal, digitsFrom, exponentFrom, tenTo, scaled, numberOf as tokenOf}
 use Rattle.tokens.specs.Token.{numberAt, nameAt, tokenAt, cutAt}
-use Rattle.tokens.specs.Symbol.{named}
+use Rattle.tokens.specs.Symbol.{lookUp, symbolNamed}
 use Rattle.tokens.specs.Row.{rowFrom, rowOf}
 use Rattle.drafts.specs.Tree.{names}
 use Rattle.drafts.specs.Items.{postfix}
@@ -61,7 +61,8 @@ computed : (heightOf (verdictOf deck faultRoom programRoom) ≡ stackPlaces)
     × (numberFor (bytes tank) ≡ 0) × Plain (bytes tank)
     × (numberFor loop ≡ 7) × Plain loop
 unfolding highest verdictOf judged linesOf trimmed dotted passed after ended left reading partOf joined anyLong sizeFlaw told sheetOf concat-map
-    sameBytes numbers run count lowWord decimal digitsFrom exponentFrom tenTo scaled tokenOf numberAt nameAt tokenAt cutAt named rowFrom rowOf names
+    sameBytes numbers run count lowWord decimal digitsFrom exponentFrom tenTo scaled tokenOf numberAt nameAt tokenAt cutAt
+    lookUp symbolNamed rowFrom rowOf names
     postfix next rest byteOf give-to shapeOf startOf bind parse signedNumber many initially assigned integrated statement entire readRow any chained
     all first ready nextReady place order placeIn again faults21 within modelFaults valueIn program ofBits ofInt mul div neg round units size climb
     span odd

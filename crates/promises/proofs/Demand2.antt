@@ -21,7 +21,7 @@ use Rattle.order.specs.Order.{_≼_, Unsortable, unsortable}
 use Rattle.order.proofs.Sorting.{perm-below}
 use Rattle.order.proofs.Dictionary.{≼-antisym}
 use Rattle.order.proofs.Chains.{unsortable-iff}
-use Rattle.order.proofs.Theorems.{sortable-iff}
+use Rattle.order.proofs.FirstOrder.{sortable-iff}
 use Rattle.model.specs.Definitions.{Def, equationCount}
 use Rattle.model.specs.Faults.{faultIf, usesIn, fault24, faults24, modelFaults, GoodOrder, orderOf}
 use Rattle.model.proofs.Clean.{order-good}

@@ -15,7 +15,7 @@ use Rattle.deck.specs.Reports.{Report, report}
 use Rattle.deck.specs.Later.{later, laterReport}
 use Rattle.deck.proofs.Local.{reading-append, state-append, fresh-behind, reading-later, map-later}
 use Rattle.deck.specs.Later.{Seam}
-use Rattle.deck.proofs.Whole.{lines-seam, lines-parts}
+use Rattle.deck.proofs.Seams.{lines-seam, lines-parts}
 use Rattle.sheet.specs.Sheet.{Told, says, faulty, Sheet, faultBy, statementFaults}
 use Rattle.sheet.specs.Reader.{told, sheetOf}
 use Rattle.translator.specs.Verdict.{verdictOf}

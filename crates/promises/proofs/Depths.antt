@@ -15,7 +15,7 @@ use Rattle.deck.specs.Reports.{report}
 use Rattle.deck.specs.Faults.{Flaw, none, flaw, sizeFlaw}
 use Rattle.deck.specs.Joined.{joined}
 use Rattle.tokens.specs.Symbol.{Symbol}
-use Rattle.tokens.specs.Row.{Placed, Close, whole, bad, rowOf, symbols}
+use Rattle.tokens.specs.Row.{Placed, Close, all-good, bad, rowOf, symbols}
 use Rattle.drafts.specs.Tree.{Tree, Says, constants, assignment, state}
 use Rattle.drafts.specs.Items.{postfix}
 use Rattle.grammar.specs.Grammar.{expr, Der, of-assignment}
@@ -62,7 +62,7 @@ told-low cards closed x = by-size (sizeFlaw cards closed)
     by-read ps (fault c i) e h = absurd (let z : _≡_ {A = ℕ} 0 1 = cc in omega arith)
 
     by-close : (ps : List Placed) (c : Close) → scanned ps c ≡ says x → peakOf x ≤ stackPlaces
-    by-close ps whole h = by-read ps (readRow (symbols ps)) refl h
+    by-close ps all-good h = by-read ps (readRow (symbols ps)) refl h
     by-close ps (bad c at) h = absurd (let z : _≡_ {A = ℕ} 0 1 = cc in omega arith)
 
     by-size : (f : Flaw) → sized f (joined cards) ≡ says x → peakOf x ≤ stackPlaces

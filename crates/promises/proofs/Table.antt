@@ -17,7 +17,7 @@ use Rattle.deck.specs.Joined.{partOf, joined}
 use Rattle.deck.specs.Faults.{Place, at-start, at-token, at-end, anyLong, sizeFlaw}
 use Rattle.tokens.specs.Number.{decimal, digitsFrom, exponentFrom, tenTo, scaled, numberOf}
 use Rattle.tokens.specs.Token.{numberAt, nameAt, tokenAt, cutAt}
-use Rattle.tokens.specs.Symbol.{named}
+use Rattle.tokens.specs.Symbol.{lookUp, symbolNamed}
 use Rattle.tokens.specs.Row.{rowFrom, rowOf}
 use Rattle.drafts.specs.Tree.{names}
 use Rattle.drafts.specs.Items.{postfix}
@@ -116,7 +116,8 @@ wanted r = record { verdict = r .verdict; listing = bytes (r .listing) }
 -- THE TABLE. Each text has the verdict and the listing that stand beside it
 pub tried : map shown rows ≡ map wanted rows
 unfolding rows listing listed figuresIn verdictOf judged linesOf trimmed dotted passed after ended left reading partOf joined anyLong sizeFlaw told sheetOf
-    concat-map sameBytes numbers run count lowWord decimal digitsFrom exponentFrom tenTo scaled numberOf numberAt nameAt tokenAt cutAt named rowFrom rowOf
+    concat-map sameBytes numbers run count lowWord decimal digitsFrom exponentFrom tenTo scaled numberOf numberAt nameAt tokenAt cutAt
+    lookUp symbolNamed rowFrom rowOf
     names postfix next rest byteOf give-to shapeOf startOf bind parse signedNumber many initially assigned integrated statement entire readRow
     any chained all first ready nextReady place order placeIn again faults21 within modelFaults valueIn program ofBits ofInt mul div neg round
     units size climb span odd

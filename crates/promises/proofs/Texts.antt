@@ -12,7 +12,7 @@ use Rattle.deck.specs.Reports.{Report, report}
 use Rattle.deck.specs.Joined.{joined}
 use Rattle.deck.specs.Faults.{Flaw, none, flaw, sizeFlaw}
 use Rattle.tokens.specs.Symbol.{Symbol, mark, number, name, word}
-use Rattle.tokens.specs.Row.{Placed, Close, whole, bad, rowOf, symbols}
+use Rattle.tokens.specs.Row.{Placed, Close, all-good, bad, rowOf, symbols}
 use Rattle.tokens.proofs.Rows.{Fine, symbols-fine}
 use Rattle.drafts.specs.Tree.{Tree, Constant, Says, constants, assignment, state}
 use Rattle.grammar.specs.Grammar.{Derives}
@@ -57,7 +57,7 @@ parsed-read ps (fault c i) x e = clash (cc)
 
 -- by the tokens
 scanned-fits : (s : List ℕ) (c : Close) (x : Says) → scanned (rowOf s .tokens) c ≡ says x → Fits x
-scanned-fits s whole x e =
+scanned-fits s all-good x e =
     let ps = rowOf s .tokens in
     let a : Derives levels (symbols ps) x = accepts (symbols ps) x .0 (parsed-read ps (readRow (symbols ps)) x e) in
     (double-says a (row-doubles s), suffices a)

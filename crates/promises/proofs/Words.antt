@@ -18,10 +18,10 @@ use Rattle.tokens.specs.declared.Cut.{Cut}
 use Rattle.tokens.specs.Bytes.{isLetter, isDigit, isPoint, isMark, isWord, wordAt, spacesAt}
 use Rattle.tokens.specs.Number.{Digits, digitsFrom, Exponent, exponent, wrong, exponentFrom, scaled, inRange, numberOf, signedNumber}
 use Rattle.tokens.specs.Token.{cutOf, badAt, numberEnd, numberAt, nameAt, tokenAt, cutAt}
-use Rattle.tokens.specs.Symbol.{Symbol, mark, number, name, word, keyOf, named}
+use Rattle.tokens.specs.Symbol.{Symbol, mark, number, name, word, keyOf, symbolNamed}
 use Rattle.tokens.specs.Row.{Placed, Row, onto, ahead, rowFrom, rowOf}
 use Rattle.tokens.proofs.Values.{range, whole-exact, ten-exact, scaled-round, scaled-fine}
-use Rattle.tokens.proofs.Words.{name-key, named-ind}
+use Rattle.tokens.proofs.Words.{name-key, symbol-ind}
 use Rattle.tokens.proofs.Keys.{key-injective, key-below}
 use Rattle.promises.specs.Words.{InRange, RoundedOnce, IsValue, Name}
 
@@ -112,8 +112,8 @@ Worth (name k) = Unit {0}
 Worth (word w) = Unit {0}
 
 -- a name is no number
-named-worth : (n : List ℕ) → Worth (named n)
-named-worth n = named-ind n Worth (λ _. tt) tt
+named-worth : (n : List ℕ) → Worth (symbolNamed n)
+named-worth n = symbol-ind n Worth (λ _. tt) tt
 
 -- all tokens of a row
 abbrev AllWorth : List Placed → Type 0
@@ -125,7 +125,7 @@ onto-worth t at r h f q m = ⊎-elim (λ e. subst (λ (x : Placed). Worth (x .sy
 
 -- the token of a cut in front
 ahead-worth : (s : List ℕ) (t : Token) (at : ℕ) (r : Row) → Valued t → AllWorth (r .tokens) → AllWorth (ahead s t at r .tokens)
-ahead-worth s (Named p n) at r v f = onto-worth (named (take n (drop p s))) at r (named-worth (take n (drop p s))) f
+ahead-worth s (Named p n) at r v f = onto-worth (symbolNamed (take n (drop p s))) at r (named-worth (take n (drop p s))) f
 ahead-worth s (Mark b) at r v f = onto-worth (mark b) at r tt f
 ahead-worth s (Number x) at r v f = onto-worth (number x) at r v f
 ahead-worth s End at r v f = λ q m. absurd (List·Memᴰ·not-nil m)
@@ -150,7 +150,7 @@ pub key-iff : (x y : List ℕ) → Name x → Name y → (keyOf x ≡ keyOf y) �
 key-iff x y a b = (key-injective x y (a .spelled) (b .spelled), ap keyOf)
 
 -- so have name tokens, which are no reserved words
-pub name-iff : (x y : List ℕ) (j k : ℕ) → Name x → Name y → named x ≡ name j → named y ≡ name k → (j ≡ k) ↔ (x ≡ y)
+pub name-iff : (x y : List ℕ) (j k : ℕ) → Name x → Name y → symbolNamed x ≡ name j → symbolNamed y ≡ name k → (j ≡ k) ↔ (x ≡ y)
 name-iff x y j k a b p q =
     let e = name-key x j p in
     let f = name-key y k q in

@@ -10,7 +10,7 @@ use Rattle.deck.specs.Lines.{Line}
 use Rattle.deck.specs.Joined.{joined}
 use Rattle.deck.specs.Faults.{Place, at-token, none, flaw, sizeFlaw}
 use Rattle.tokens.specs.Symbol.{Symbol}
-use Rattle.tokens.specs.Row.{Placed, whole, bad, rowOf, symbols}
+use Rattle.tokens.specs.Row.{Placed, all-good, bad, rowOf, symbols}
 use Rattle.drafts.specs.Tree.{Says}
 use Rattle.grammar.specs.Grammar.{Derives}
 use Rattle.grammar.specs.Parser.{read, fault, readRow}
@@ -56,7 +56,7 @@ tokensOf cards = rowOf (joined cards) .tokens
 -- without a fault 11, 12 or 13 and without a bad token
 pub record Scanned (cards : List Line) (closed : Bool) : Type 0 where
   pub sized : sizeFlaw cards closed ≡ none
-  pub good : rowOf (joined cards) .close ≡ whole
+  pub good : rowOf (joined cards) .close ≡ all-good
 
 -- what it says, or its fault
 pub record StatementMeans (cards : List Line) (closed : Bool) : Type 0 where

@@ -9,7 +9,7 @@ use Rattle.deck.specs.Reports.{reports}
 use Rattle.deck.specs.Joined.{joined}
 use Rattle.deck.specs.Faults.{Place, at-start, at-token, at-end, Flaw, none, flaw, sizeFlaw}
 use Rattle.tokens.specs.Symbol.{mark}
-use Rattle.tokens.specs.Row.{Placed, Close, whole, bad, Row, rowOf, symbols}
+use Rattle.tokens.specs.Row.{Placed, Close, all-good, bad, Row, rowOf, symbols}
 use Rattle.grammar.specs.Parser.{Read, read, fault, readRow}
 use Rattle.sheet.specs.Sheet.{Told, says, faulty, Sheet}
 
@@ -27,7 +27,7 @@ parsed ps (fault c i) = faulty c (placeOf ps i)
 
 -- by the tokens
 abbrev pub scanned : List Placed → Close → Told
-scanned ps whole = parsed ps (readRow (symbols ps))
+scanned ps all-good = parsed ps (readRow (symbols ps))
 scanned ps (bad c at) = faulty c (at-token at)
 
 abbrev pub tokened : Row → Told

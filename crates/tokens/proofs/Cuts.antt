@@ -17,7 +17,8 @@ use Rattle.tokens.specs.Names.{nameCount, nameToken, nameNext}
 use Rattle.tokens.specs.Token.{cutOf, badAt, numberAt, nameAt, tokenAt, cutAt}
 
 -- ---- the name, with the count of its letters and digits
-pub name-read : (s : List ℕ) (at n : ℕ) → n ≡ nameCount s at → cutOf (nameToken at n) at (nameNext at (at + n) n) ≡ nameAt s at
+pub name-read : (s : List ℕ) (at n : ℕ) → n ≡ nameCount s at
+    → cutOf (nameToken at n) at (nameNext at (at + n) n) ≡ nameAt s at
 unfolding nameAt
 name-read s at n read = ⊎-elim long fine (lt-or-ge nameBytes (length (wordAt s at)))
   where
@@ -32,7 +33,8 @@ name-read s at n read = ⊎-elim long fine (lt-or-ge nameBytes (length (wordAt s
 -- no mark begins a number
 mark-no-figure : (b : ℕ) → isMark b ≡ true → (isDigit b || isPoint b) ≡ false
 mark-no-figure b m =
-    ⊎-elim (λ e. below (omega (arith, eqb-true b 47 e)) (λ f. omega (arith, eqb-true b 47 e))) others (or-true (eqb b 47) _ m)
+    ⊎-elim (λ e. below (omega (arith, eqb-true b 47 e)) (λ f. omega (arith, eqb-true b 47 e))) others
+    (or-true (eqb b 47) _ m)
   where
     below : b < 48 → (b ≡ 46 → ⊥) → (isDigit b || isPoint b) ≡ false
     below h n = rw (lt-leb 48 b h, ne-eqb b 46 n)
@@ -64,7 +66,8 @@ module _ (s : List ℕ) (from at : ℕ) (read : at ≡ from + length (spacesAt s
     at-letter l c e = rw (← begins, lt-leb (length s) at more, l) e
 
     module _ (no-letter : isLetter (getD s at 0) ≡ false) where
-      pub at-figure : (isDigit (getD s at 0) || isPoint (getD s at 0)) ≡ true → (c : Cut) → c ≡ numberAt s at → c ≡ cutAt s from
+      pub at-figure : (isDigit (getD s at 0) || isPoint (getD s at 0)) ≡ true → (c : Cut) → c ≡ numberAt s at
+          → c ≡ cutAt s from
       unfolding tokenAt
       at-figure f c e = rw (← begins, lt-leb (length s) at more, no-letter, f) e
 
@@ -73,7 +76,8 @@ module _ (s : List ℕ) (from at : ℕ) (read : at ≡ from + length (spacesAt s
       unfolding tokenAt
       at-mark m = rw (← begins, lt-leb (length s) at more, no-letter, mark-no-figure (getD s at 0) m, m)
 
-      pub at-other : isMark (getD s at 0) ≡ false → (isDigit (getD s at 0) || isPoint (getD s at 0)) ≡ false → (c : Cut) → c ≡ badAt 14 at
+      pub at-other : isMark (getD s at 0) ≡ false → (isDigit (getD s at 0) || isPoint (getD s at 0)) ≡ false → (c : Cut)
+          → c ≡ badAt 14 at
           → c ≡ cutAt s from
       unfolding tokenAt
       at-other m f c e = rw (← begins, lt-leb (length s) at more, no-letter, f, m) e

@@ -12,10 +12,12 @@ unfolding decimal
 decimal-cap a [] = omega arith
 decimal-cap a (x ∷ xs) =
     let step : min cap (min cap a * 10 + (x - 48)) ≡ min cap (a * 10 + (x - 48)) = omega arith in
-    sym (decimal-cap (min cap a * 10 + (x - 48)) xs) ∙ ap (λ (n : ℕ). min cap (decimal n xs)) step ∙ decimal-cap (a * 10 + (x - 48)) xs
+    sym (decimal-cap (min cap a * 10 + (x - 48)) xs) ∙ ap (λ (n : ℕ). min cap (decimal n xs)) step
+    ∙ decimal-cap (a * 10 + (x - 48)) xs
 
 -- one digit more
-pub decimal-more : (a b x : ℕ) (xs ys : List ℕ) → b ≡ min cap (a * 10 + (x - 48)) → ys ≡ x ∷ xs → min cap (decimal b xs) ≡ min cap (decimal a ys)
+pub decimal-more : (a b x : ℕ) (xs ys : List ℕ) → b ≡ min cap (a * 10 + (x - 48)) → ys ≡ x ∷ xs
+    → min cap (decimal b xs) ≡ min cap (decimal a ys)
 unfolding decimal
 decimal-more a b x xs ys e f = rw (e, f) (decimal-cap (a * 10 + (x - 48)) xs)
 
@@ -24,7 +26,7 @@ pub decimal-stop : (a : ℕ) (ys : List ℕ) → a ≤ cap → ys ≡ [] → a �
 unfolding decimal
 decimal-stop a ys h f = rw f (omega arith)
 
--- the digits of two rows are those of the second behind the first
+-- the digits of two lists are those of the second behind the first
 pub decimal-append : (a : ℕ) (xs ys : List ℕ) → decimal a (xs ++ ys) ≡ decimal (decimal a xs) ys
 unfolding decimal
 decimal-append a [] ys = refl

@@ -8,8 +8,10 @@ use lib.Dec.{T}
 use lib.ListN.{length, getD}
 use lib.Ieee.{binary64, fits}
 use lib.Ieee.Bits.{ofBits-toBits}
-use Rattle.tokens.specs.Symbol.{Word, CONST, PARAM, INCON, INTGRL, TIME, INSW, LIMIT, COMPAR, Symbol, mark, number, name, word}
-use Rattle.tokens.specs.Held.{wordKind, kindOf, argOf, symbolOf, heldRow}
+use Rattle.tokens.specs.Symbol.{Symbol, mark, number, name, word}
+use Rattle.tokens.specs.Kinds.{lastKind}
+use Rattle.tokens.specs.Held.{kindOf, argOf, symbolOf, heldRow}
+use Rattle.tokens.proofs.Words.{symbol-word}
 
 -- as many tokens as kinds
 pub held-length : (ks us : List ℕ) → length us ≡ length ks → length (heldRow ks us) ≡ length ks
@@ -19,7 +21,8 @@ held-length (k ∷ ks) [] h = absurd (omega arith)
 held-length (k ∷ ks) (a ∷ us) h = ap suc (held-length ks us (omega arith))
 
 -- the token at a place is that of the two numbers there; past the end it is the mark 0
-pub held-at : (ks us : List ℕ) (i : ℕ) → length us ≡ length ks → getD (heldRow ks us) i (mark 0) ≡ symbolOf (getD ks i 0) (getD us i 0)
+pub held-at : (ks us : List ℕ) (i : ℕ) → length us ≡ length ks
+    → getD (heldRow ks us) i (mark 0) ≡ symbolOf (getD ks i 0) (getD us i 0)
 unfolding heldRow
 held-at [] [] i h = refl
 held-at [] (a ∷ us) i h = absurd (omega arith)
@@ -29,7 +32,7 @@ held-at (k ∷ ks) (a ∷ us) (suc i) h = held-at ks us i (omega arith)
 
 -- a token that two numbers can hold: a number that binary64 has, a mark whose byte is above the other kinds
 abbrev pub Holds : Symbol → Type 0
-Holds (mark b) = 10 < b
+Holds (mark b) = lastKind < b
 Holds (number x) = T (fits binary64 x)
 Holds (name k) = Unit {0}
 Holds (word w) = Unit {0}
@@ -39,21 +42,11 @@ AllHold [] = Unit {0}
 AllHold (t ∷ ts) = Holds t × AllHold ts
 
 -- it comes back
-word-back : (w : Word) (a : ℕ) → symbolOf (wordKind w) a ≡ word w
-word-back CONST a = refl
-word-back PARAM a = refl
-word-back INCON a = refl
-word-back INTGRL a = refl
-word-back TIME a = refl
-word-back INSW a = refl
-word-back LIMIT a = refl
-word-back COMPAR a = refl
-
 symbol-back : (t : Symbol) → Holds t → symbolOf (kindOf t) (argOf t) ≡ t
-symbol-back (mark b) h = rw (lt-ltb 10 b h)
+symbol-back (mark b) h = rw (lt-ltb lastKind b h)
 symbol-back (number x) h = ap number (ofBits-toBits binary64 x h)
 symbol-back (name k) h = refl
-symbol-back (word w) h = word-back w 0
+symbol-back (word w) h = symbol-word w 0
 
 -- and so does the row
 pub held-back : (ts : List Symbol) → AllHold ts → heldRow (map kindOf ts) (map argOf ts) ≡ ts

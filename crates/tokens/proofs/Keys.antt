@@ -30,7 +30,7 @@ word-byte x t = ⊎-elim letter (λ f. digit (rw f at t)) (bool-cases (isLetter 
 first-byte : (x : ℕ) (xs : List ℕ) → run isWord (x ∷ xs) ≡ x ∷ xs → (0 < x) × (x < 256)
 first-byte x xs e = word-byte x (all-pass isWord x xs e .0)
 
--- of two rows of letters and digits with one key
+-- of two lists of letters and digits with one key
 pub key-injective : (xs ys : List ℕ) → run isWord xs ≡ xs → run isWord ys ≡ ys → keyOf xs ≡ keyOf ys → xs ≡ ys
 unfolding lowWord
 key-injective [] [] t u e = refl
@@ -43,14 +43,9 @@ key-injective (x ∷ xs) (y ∷ ys) t u e =
     let b : lowWord xs ≡ lowWord ys = omega arith in
     ap₂ _∷_ a (key-injective xs ys (all-pass isWord x xs t .1) (all-pass isWord y ys u .1) b)
 
--- a key is above 0
-pub key-above : (n : List ℕ) → run isWord n ≡ n → 0 < length n → 0 < keyOf n
-unfolding lowWord
-key-above [] t h = absurd (let z : ⊥ = omega arith in z)
-key-above (x ∷ xs) t h = omega (arith, first-byte x xs t)
-
--- and has no more bytes than the name
+-- a key has no more bytes than its name
 pub key-below : (n : List ℕ) → run isWord n ≡ n → keyOf n < 256 ^ length n
 unfolding lowWord
 key-below [] t = lit< tt
-key-below (x ∷ xs) t = rw (pow-suc 256 (length xs)) (omega (arith, first-byte x xs t, key-below xs (all-pass isWord x xs t .1)))
+key-below (x ∷ xs) t =
+    rw (pow-suc 256 (length xs)) (omega (arith, first-byte x xs t, key-below xs (all-pass isWord x xs t .1)))

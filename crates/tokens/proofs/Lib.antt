@@ -1,4 +1,3 @@
-mod Tens
 mod Decimals
 mod Numbers
 mod Cuts

@@ -4,7 +4,8 @@ use mathlib.Core.Path.{_≡_, refl, sym, ap, subst, _∙_}
 use mathlib.Core.Bool.{true, false, _&&_, _||_, cond}
 use mathlib.Core.List.{List, [], _∷_}
 use mathlib.Core.Logic.{⊎-elim}
-use native.Mathlib.Nat.{pow-suc, pow-le-pow-right, lt-of-lt-of-le, mul-le-mul-right, mul-assoc, mul-comm, one-mul, mul-one, zero-add}
+use native.Mathlib.Nat.{pow-suc, pow-le-pow-right, lt-of-lt-of-le, mul-le-mul-right, mul-assoc, mul-comm, one-mul}
+use native.Mathlib.Nat.{mul-one, zero-add}
 use native.Mathlib.Omega.{arith}
 use borrow.Author.Tests.{eq-eqb, ne-eqb, le-leb, lt-leb, leb-true}
 use lib.Dec.{eqb, leb, lit<}
@@ -15,16 +16,17 @@ use Rattle.laws.proofs.Tests.{cond-ind, and-true, lt-or-ge}
 use Rattle.laws.proofs.Runs.{run-short, run-run, all-pass}
 use Rattle.laws.specs.Runs.{run}
 use Rattle.limits.specs.Limits.{mostDigits, mostTens, exponentDigits}
-use Rattle.tokens.specs.declared.Decimal.{Decimal}
-use Rattle.tokens.specs.declared.Mantissa.{Mantissa}
+use Rattle.tokens.specs.declared.number.Decimal.{Decimal}
+use Rattle.tokens.specs.declared.number.Mantissa.{Mantissa}
 use Rattle.tokens.specs.declared.Cut.{Cut}
 use Rattle.tokens.specs.declared.Token.{Token}
 use Rattle.tokens.specs.declared.Token.the-variants.{Number, Bad}
-use Rattle.tokens.specs.declared.Power.{Power}
-use Rattle.tokens.specs.declared.Power.the-variants.{Of, Wrong}
+use Rattle.tokens.specs.declared.number.Power.{Power}
+use Rattle.tokens.specs.declared.number.Power.the-variants.{Of, Wrong}
 use Rattle.tokens.specs.Bytes.{digitsAt, isDigit, isWord, isPoint}
 use Rattle.tokens.specs.Number.{decimal, Digits, plainDigits, pointDigits, digitsFrom}
-use Rattle.tokens.specs.Number.{Exponent, exponent, wrong, signEnd, exponentOf, exponentFrom, tenTo, scaled, inRange, numberOf}
+use Rattle.tokens.specs.Number.{Exponent, exponent, wrong, signEnd, exponentOf, exponentFrom, tenTo, scaled}
+use Rattle.tokens.specs.Number.{inRange, numberOf}
 use Rattle.tokens.specs.Token.{cutOf, badAt, numberEnd, numberAt}
 use Rattle.tokens.specs.Capped.{cap, decimalAt, capped, powerOf}
 use Rattle.tokens.proofs.Decimals.{decimal-cap, decimal-append}
@@ -52,13 +54,16 @@ too-far m up down h k = ⊎-elim high low (lt-or-ge (down + mostTens) up)
     high l = rw (le-leb m mostDigits h, lt-leb up (down + mostTens) l)
 
     low : up ≤ down + mostTens → inRange m up down ≡ false
-    low l = let d : up + mostTens < down = omega arith in rw (le-leb m mostDigits h, le-leb up (down + mostTens) l, lt-leb down (up + mostTens) d)
+    low l =
+        let d : up + mostTens < down = omega arith in
+        rw (le-leb m mostDigits h, le-leb up (down + mostTens) l, lt-leb down (up + mostTens) d)
 
 -- neither is
 in-range : (m up down : ℕ) → m ≤ mostDigits → up ≤ down + mostTens → down ≤ up + mostTens → inRange m up down ≡ true
 in-range m up down h k l = rw (le-leb m mostDigits h, le-leb up (down + mostTens) k, le-leb down (up + mostTens) l)
 
-module _ (m up down k : ℕ) (x : Float) (h : m ≤ mostDigits) (apart : k ≡ (up - down) + (down - up)) (near : k ≤ mostTens) (power : x ≡ tenTo k) where
+module _ (m up down k : ℕ) (x : Float) (h : m ≤ mostDigits) (apart : k ≡ (up - down) + (down - up))
+    (near : k ≤ mostTens) (power : x ≡ tenTo k) where
   -- here m and k are in range
   good : inRange m up down ≡ true
   good = in-range m up down h (omega arith) (omega arith)
@@ -81,7 +86,8 @@ cap-unseen m up down = ⊎-elim over (λ g. ap (λ (x : ℕ). numberOf x up down
     same h = omega arith
 
     over : mostDigits < m → numberOf (min cap m) up down ≡ numberOf m up down
-    over h = sym (out-of-range (min cap m) up down (too-large (min cap m) up down (omega arith))) ∙ out-of-range m up down (too-large m up down h)
+    over h = sym (out-of-range (min cap m) up down (too-large (min cap m) up down (omega arith)))
+        ∙ out-of-range m up down (too-large m up down h)
 
 -- ---- the digits
 
@@ -98,9 +104,16 @@ pub behinds : (s : List ℕ) (from a : ℕ) (d : Decimal) → d ≡ decimalAt s 
 behinds s from a d e = rw e refl
 
 -- digits, a point, and digits again
-pub with-point : (s : List ℕ) (at : ℕ) (d e : Decimal) → d ≡ decimalAt s at 0 → d .behind ≡ 46 → e ≡ decimalAt s (d .end + 1) (d .value)
+pub with-point : (s : List ℕ) (at : ℕ) (d e : Decimal) → d ≡ decimalAt s at 0 → d .behind ≡ 46
+    → e ≡ decimalAt s (d .end + 1) (d .value)
     → _≡_ {A = Mantissa}
-    (record { value = e .value; after = e .end - (d .end + 1); count = e .end - (at + 1); end = e .end; behind = e .behind })
+    (record {
+      value = e .value;
+      after = e .end - (d .end + 1);
+      count = e .end - (at + 1);
+      end = e .end;
+      behind = e .behind;
+    })
     (capped s (digitsFrom s at))
 unfolding digitsFrom
 with-point s at d e p q r =
@@ -111,17 +124,21 @@ with-point s at d e p q r =
     let value = decimal-cap (decimal 0 w) f ∙ ap (min cap) (sym (decimal-append 0 w f)) in
     let after = less (at + length w + 1) (length f) in
     let count : end - (at + 1) ≡ length w + length f = omega arith in
-    rw (r, p, eq-eqb _ 46 q') (λ k. record { value = value k; after = after k; count = count k; end = end; behind = getD s end 0 })
+    rw (r, p, eq-eqb _ 46 q')
+    (λ k. record { value = value k; after = after k; count = count k; end = end; behind = getD s end 0 })
 
 -- digits alone
 pub no-point : (s : List ℕ) (at : ℕ) (d : Decimal) → d ≡ decimalAt s at 0 → (d .behind ≡ 46 → ⊥)
-    → _≡_ {A = Mantissa} (record { value = d .value; after = 0; count = d .end - at; end = d .end; behind = d .behind }) (capped s (digitsFrom s at))
+    → _≡_ {A = Mantissa} (record { value = d .value; after = 0; count = d .end - at; end = d .end; behind = d .behind })
+    (capped s (digitsFrom s at))
 unfolding digitsFrom
 no-point s at d p q =
     let w = digitsAt s at in
     let end = at + length w in
     let q' : getD s end 0 ≡ 46 → ⊥ = rw p at q in
-    rw (p, ne-eqb _ 46 q') (λ k. record { value = min cap (decimal 0 w); after = 0; count = less at (length w) k; end = end; behind = getD s end 0 })
+    rw (p, ne-eqb _ 46 q')
+    (λ k.
+    record { value = min cap (decimal 0 w); after = 0; count = less at (length w) k; end = end; behind = getD s end 0 })
 
 -- a digit is at most 9
 digit-small : (x : ℕ) → isDigit x ≡ true → x - 48 ≤ 9
@@ -138,12 +155,16 @@ decimal-small a (x ∷ xs) e =
     (lt-of-lt-of-le (decimal-small (a * 10 + (x - 48)) xs (t .1)) (mul-le-mul-right (10 ^ length xs) h))
 
 -- so an exponent of few digits is not held down
-pub exponent-small : (s : List ℕ) (i : ℕ) → length (digitsAt s i) ≤ exponentDigits → decimal 0 (digitsAt s i) < 10 ^ exponentDigits
+pub exponent-small : (s : List ℕ) (i : ℕ) → length (digitsAt s i) ≤ exponentDigits
+    → decimal 0 (digitsAt s i) < 10 ^ exponentDigits
 exponent-small s i h =
-    lt-of-lt-of-le (rw (one-mul (10 ^ length (digitsAt s i))) at (decimal-small 0 (digitsAt s i) (run-run isDigit (drop i s)))) (pow-le-pow-right (lit< tt) h)
+    lt-of-lt-of-le
+    (rw (one-mul (10 ^ length (digitsAt s i))) at (decimal-small 0 (digitsAt s i) (run-run isDigit (drop i s))))
+    (pow-le-pow-right (lit< tt) h)
 
 -- ---- the exponent: its letter stands at `at`, its digits from `from`
-module _ (s : List ℕ) (at from : ℕ) (d : Decimal) (letter : getD s at 0 ≡ 69) (sign : from ≡ signEnd s (at + 1)) (read : d ≡ decimalAt s from 0) where
+module _ (s : List ℕ) (at from : ℕ) (d : Decimal) (letter : getD s at 0 ≡ 69) (sign : from ≡ signEnd s (at + 1))
+    (read : d ≡ decimalAt s from 0) where
   -- how many digits the exponent has
   count : d .end - from ≡ length (digitsAt s (signEnd s (at + 1)))
   count = rw (read, ← sign) (less from (length (digitsAt s from)))
@@ -151,7 +172,9 @@ module _ (s : List ℕ) (at from : ℕ) (d : Decimal) (letter : getD s at 0 ≡ 
   -- none
   pub no-digit : d .end - from ≡ 0 → Wrong ≡ powerOf s (exponentFrom s at)
   unfolding exponentFrom
-  no-digit h = let l : length (digitsAt s (signEnd s (at + 1))) < 1 = omega (arith, count) in rw (eq-eqb _ 69 letter, lt-leb 1 _ l)
+  no-digit h =
+      let l : length (digitsAt s (signEnd s (at + 1))) < 1 = omega (arith, count) in
+      rw (eq-eqb _ 69 letter, lt-leb 1 _ l)
 
   -- too many
   pub too-many : exponentDigits < d .end - from → Wrong ≡ powerOf s (exponentFrom s at)
@@ -169,7 +192,14 @@ module _ (s : List ℕ) (at from : ℕ) (d : Decimal) (letter : getD s at 0 ≡ 
       let w = digitsAt s (signEnd s (at + 1)) in
       let l : length w ≤ exponentDigits = omega (arith, count) in
       let v : min cap (decimal 0 w) ≡ decimal 0 w = omega (arith, exponent-small s (signEnd s (at + 1)) l) in
-      rw (eq-eqb _ 69 letter, le-leb 1 (length w) (omega (arith, count)), le-leb (length w) exponentDigits l, read, sign, v)
+      rw (
+        eq-eqb _ 69 letter,
+        le-leb 1 (length w) (omega (arith, count)),
+        le-leb (length w) exponentDigits l,
+        read,
+        sign,
+        v,
+      )
 
   -- behind a minus
   pub digits-minus : (d .end - from ≡ 0 → ⊥) → d .end - from ≤ exponentDigits → getD s (at + 1) 0 ≡ 45
@@ -206,9 +236,11 @@ module _ (s : List ℕ) (at : ℕ) (m : Mantissa) (read : m ≡ capped s (digits
   empty h = rw (eq-eqb _ 0 (rw read at h))
 
   -- from what stands behind the digits to the number
-  pub through : (m .count ≡ 0 → ⊥) → (p : Power) → p ≡ powerOf s (exponentFrom s (m .end)) → endOf s at (digitsFrom s at) p ≡ numberAt s at
+  pub through : (m .count ≡ 0 → ⊥) → (p : Power) → p ≡ powerOf s (exponentFrom s (m .end))
+      → endOf s at (digitsFrom s at) p ≡ numberAt s at
   unfolding numberAt
-  through z p q = rw (ne-eqb _ 0 (rw read at z), q, read) (end-held s at (digitsFrom s at) (exponentFrom s (digitsFrom s at .end)))
+  through z p q =
+      rw (ne-eqb _ 0 (rw read at z), q, read) (end-held s at (digitsFrom s at) (exponentFrom s (digitsFrom s at .end)))
 
   -- the byte behind the digits
   pub behind-digits : m .behind ≡ getD s (m .end) 0
@@ -236,7 +268,8 @@ unfolding digitsFrom
 after-short s at m e =
     let p = at + length (digitsAt s at) in
     rw e
-    (cond-ind (λ (d : Digits). d .after ≤ length s) (isPoint (getD s p 0)) (pointDigits (digitsAt s at) (digitsAt s (p + 1)) (p + 1))
+    (cond-ind (λ (d : Digits). d .after ≤ length s) (isPoint (getD s p 0))
+    (pointDigits (digitsAt s at) (digitsAt s (p + 1)) (p + 1))
     (plainDigits (digitsAt s at) p) (λ _. digits-short s (p + 1)) (λ _. zero-le))
 
 -- an exponent's value is small
@@ -252,8 +285,10 @@ exponent-few s at =
     let w = digitsAt s from in
     let minus = eqb (getD s (at + 1) 0) 45 in
     cond-ind Small (eqb (getD s at 0) 69) (exponentOf minus w from) (exponent false 0 at)
-    (λ _. cond-ind Small (leb 1 (length w) && leb (length w) exponentDigits) (exponent minus (decimal 0 w) (from + length w)) wrong
-    (λ t. exponent-small s from (leb-true (length w) exponentDigits (and-true (leb 1 (length w)) (leb (length w) exponentDigits) t .1))) (λ _. tt))
+    (λ _. cond-ind Small (leb 1 (length w) && leb (length w) exponentDigits)
+    (exponent minus (decimal 0 w) (from + length w)) wrong
+    (λ t. exponent-small s from
+    (leb-true (length w) exponentDigits (and-true (leb 1 (length w)) (leb (length w) exponentDigits) t .1))) (λ _. tt))
     (λ _. lit< tt)
 
 -- and so it is where it is held
@@ -268,5 +303,6 @@ small-held s (exponent false e stop) h = lit< tt
 small-held s wrong h = tt
 
 -- so the sum with the count behind the point fits
-pub down-small : (s : List ℕ) (at up down stop b : ℕ) → Of up down stop b ≡ powerOf s (exponentFrom s at) → down < 10 ^ exponentDigits
+pub down-small : (s : List ℕ) (at up down stop b : ℕ) → Of up down stop b ≡ powerOf s (exponentFrom s at)
+    → down < 10 ^ exponentDigits
 down-small s at up down stop b q = subst SmallDown (sym q) (small-held s (exponentFrom s at) (exponent-few s at))

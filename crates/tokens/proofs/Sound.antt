@@ -1,23 +1,24 @@
 -- What every cut gives: a good token lies inside the text, the next place is behind it, and it is what its kind says.
 use Prim.Native.Nat.{ℕ, _+_, _≤_, _<_}
-use mathlib.Core.Path.{_≡_, refl, ap, _∙_}
+use mathlib.Core.Path.{_≡_, refl, ap}
 use mathlib.Core.Bool.{Bool, true, false, _||_, _&&_}
 use mathlib.Core.List.{List}
 use native.Mathlib.Omega.{arith}
 use borrow.Author.Tests.{ltb-false, leb-false, le-leb, eqb-false}
 use lib.Dec.{T, eqb, leb, ltb}
-use lib.ListN.{length, getD, take, drop}
+use lib.ListN.{length, getD}
 use lib.Ieee.{binary64, fits}
 use lib.Ieee.Scale.{finite}
 use Rattle.laws.proofs.Tests.{cond-ind}
-use Rattle.laws.proofs.Runs.{inside, run-more, run-room, run-take}
+use Rattle.laws.proofs.Runs.{inside, run-more, run-room}
 use Rattle.limits.specs.Limits.{nameBytes, exponentDigits}
 use Rattle.tokens.specs.declared.Token.{Token}
 use Rattle.tokens.specs.declared.Token.the-variants.{Name, Mark, Number, End, Bad}
 use Rattle.tokens.specs.declared.Cut.{Cut}
 use Rattle.tokens.specs.Bytes.{isLetter, isDigit, isPoint, isMark, isWord, wordAt, digitsAt, spacesAt}
 use Rattle.tokens.specs.Number.{decimal, Digits, plainDigits, pointDigits, digitsFrom}
-use Rattle.tokens.specs.Number.{Exponent, exponent, wrong, signEnd, exponentOf, exponentFrom, scaled, inRange, numberOf, signedNumber}
+use Rattle.tokens.specs.Number.{Exponent, exponent, wrong, signEnd, exponentOf, exponentFrom, scaled, inRange}
+use Rattle.tokens.specs.Number.{numberOf, signedNumber}
 use Rattle.tokens.specs.Token.{cutOf, badAt, numberEnd, numberAt, nameAt, tokenAt, cutAt}
 use Rattle.tokens.proofs.Values.{scaled-fine}
 
@@ -26,16 +27,14 @@ pub record Inside (s : List ℕ) (lo next : ℕ) : Type 0 where
   pub onward : lo < next
   pub room : next ≤ length s
 
--- a name is the longest run of letters and digits at its place
-pub record NameIn (s : List ℕ) (p n next : ℕ) : Type 0 where
-  pub count : n ≡ length (wordAt s p)
-  pub some : 0 < n
+-- a name has not too many bytes, and ends where the next place is
+pub record NameIn (p n next : ℕ) : Type 0 where
   pub few : n ≤ nameBytes
   pub ends : next ≡ p + n
 
 -- what holds of a cut from lo on, by its token
 abbrev pub Sound : List ℕ → ℕ → Token → ℕ → Type 0
-Sound s lo (Name p n) next = Inside s lo next × NameIn s p n next
+Sound s lo (Name p n) next = Inside s lo next × NameIn p n next
 Sound s lo (Mark b) next = Inside s lo next × (isMark b ≡ true)
 Sound s lo (Number x) next = Inside s lo next × T (finite x) × T (fits binary64 x)
 Sound s lo End next = Unit {0}
@@ -44,7 +43,8 @@ Sound s lo (Bad code) next = Unit {0}
 -- ---- numbers: the digits and the exponent end inside the text
 
 -- the digits, with a byte for each
-digits-room : (s : List ℕ) (at : ℕ) → at ≤ length s → (at + digitsFrom s at .count ≤ digitsFrom s at .end) × (digitsFrom s at .end ≤ length s)
+digits-room : (s : List ℕ) (at : ℕ) → at ≤ length s
+    → (at + digitsFrom s at .count ≤ digitsFrom s at .end) × (digitsFrom s at .end ≤ length s)
 unfolding digitsFrom
 digits-room s at h =
     let w = digitsAt s at in
@@ -79,7 +79,8 @@ exponent-room s i h =
     (λ e.
     let l = inside (λ (b : ℕ). eqb b 69) s i refl e in
     let g = sign-room s (i + 1) (omega arith) in
-    cond-ind P (leb 1 (length w) && leb (length w) exponentDigits) (exponent minus (decimal 0 w) (from + length w)) wrong
+    cond-ind P (leb 1 (length w) && leb (length w) exponentDigits)
+    (exponent minus (decimal 0 w) (from + length w)) wrong
     (λ _. (omega arith, run-room isDigit s from (g .1))) (λ _. tt))
     (λ _. (omega arith, h))
 
@@ -101,10 +102,12 @@ module _ (s : List ℕ) (lo : ℕ) where
   signed-sound m false e next i = value-sound (m .whole) e (m .after) next i
 
   -- the whole number, from its digits and its exponent
-  end-sound : (at : ℕ) (m : Digits) (e : Exponent) → lo < m .end → Stops (m .end) (length s) e → Good (numberEnd s at m e)
+  end-sound : (at : ℕ) (m : Digits) (e : Exponent) → lo < m .end → Stops (m .end) (length s) e
+      → Good (numberEnd s at m e)
   end-sound at m wrong h r = tt
   end-sound at m (exponent minus e stop) h r =
-      cond-ind Good (isWord (getD s stop 0) || isPoint (getD s stop 0)) (badAt 16 at) (cutOf (signedNumber m minus e) at stop) (λ _. tt)
+      cond-ind Good (isWord (getD s stop 0) || isPoint (getD s stop 0)) (badAt 16 at)
+      (cutOf (signedNumber m minus e) at stop) (λ _. tt)
       (λ _. signed-sound m minus e stop (record { onward = omega arith; room = r .1 }))
 
   -- a number has a digit, so it is behind its place
@@ -128,7 +131,7 @@ module _ (s : List ℕ) (lo : ℕ) where
       cond-ind Good (ltb nameBytes n) (badAt 15 at) (cutOf (Name at n) at (at + n)) (λ _. tt)
       (λ t. (
         record { onward = omega arith; room = run-room isWord s at (omega arith) },
-        record { count = refl; some = omega arith; few = ltb-false nameBytes n t; ends = refl },
+        record { few = ltb-false nameBytes n t; ends = refl },
       ))
 
   -- each token that can start at a place
@@ -156,7 +159,3 @@ cut-end s from h =
     let at = from + length (spacesAt s from) in
     let k : length s ≤ at = omega arith in
     rw (le-leb (length s) at k)
-
--- a name's bytes are that run
-pub name-bytes : (s : List ℕ) (p n next : ℕ) → NameIn s p n next → take n (drop p s) ≡ wordAt s p
-name-bytes s p n next x = ap (λ (k : ℕ). take k (drop p s)) (x .count) ∙ run-take isWord (drop p s)

@@ -12,14 +12,14 @@ use lib.Seq.{sets}
 use Rattle.tokens.specs.declared.Token.{Token}
 use Rattle.tokens.specs.declared.Token.the-variants.{Name, Mark, Number, End, Bad}
 use Rattle.tokens.specs.declared.Cut.{Cut}
-use Rattle.tokens.specs.declared.Held.{Held}
-use Rattle.tokens.specs.declared.Step.{Step}
-use Rattle.tokens.specs.declared.Step.the-variants.{Good, Over, Refused}
+use Rattle.tokens.specs.declared.step.Held.{Held}
+use Rattle.tokens.specs.declared.step.Step.{Step}
+use Rattle.tokens.specs.declared.step.Step.the-variants.{Good, Over, Refused}
 use Rattle.tokens.specs.declared.RowEnd.the-variants.{NoRoom, Tokens, Fault}
-use Rattle.tokens.specs.Symbol.{Symbol, mark, number, named}
+use Rattle.tokens.specs.Symbol.{Symbol, mark, number, symbolNamed}
 use Rattle.tokens.specs.Held.{kindOf, argOf}
 use Rattle.tokens.specs.Token.{cutAt}
-use Rattle.tokens.specs.Row.{Close, whole, bad, closed, onto, ahead, rowOf}
+use Rattle.tokens.specs.Row.{Close, all-good, bad, bare, onto, ahead, rowOf}
 use Rattle.tokens.specs.Steps.{heldAs, stepOf, stepAt}
 use Rattle.tokens.specs.Written.{closeEnd, rowEnd, kindsOf, argsOf, roomy, Written}
 use Rattle.tokens.proofs.Sound.{Inside, Sound, cut-sound}
@@ -29,15 +29,19 @@ use Rattle.tokens.proofs.Rows.{rest, rest-next}
 module _ (s : List ℕ) (from : ℕ) (c : Cut) (read : c ≡ cutAt s from) (t : Token) (is : c .token ≡ t) where
   -- the cut's token is sound
   pub told-sound : Sound s from t (c .next)
-  told-sound = subst (λ (x : Token). Sound s from x (c .next)) is (subst (λ (x : Cut). Sound s from (x .token) (x .next)) (sym read) (cut-sound s from))
+  told-sound = subst (λ (x : Token). Sound s from x (c .next)) is
+      (subst (λ (x : Cut). Sound s from (x .token) (x .next)) (sym read) (cut-sound s from))
 
   -- and decides the step
   pub told-step : stepOf s t (c .at) (c .next) ≡ stepAt s from
-  told-step = ap (λ (x : Token). stepOf s x (c .at) (c .next)) (sym is) ∙ ap (λ (x : Cut). stepOf s (x .token) (x .at) (x .next)) read
+  told-step = ap (λ (x : Token). stepOf s x (c .at) (c .next)) (sym is)
+      ∙ ap (λ (x : Cut). stepOf s (x .token) (x .at) (x .next)) read
 
 -- a name's part of the text
-pub part-bytes : (s : List ℕ) (p n : ℕ) (h : Held) → h ≡ heldAs (named (take (p + n - p) (drop p s))) → h ≡ heldAs (named (take n (drop p s)))
-part-bytes s p n h e = let f : p + n - p ≡ n = omega arith in e ∙ ap (λ (k : ℕ). heldAs (named (take k (drop p s)))) f
+pub part-bytes : (s : List ℕ) (p n : ℕ) (h : Held) → h ≡ heldAs (symbolNamed (take (p + n - p) (drop p s)))
+    → h ≡ heldAs (symbolNamed (take n (drop p s)))
+part-bytes s p n h e =
+    let f : p + n - p ≡ n = omega arith in e ∙ ap (λ (k : ℕ). heldAs (symbolNamed (take k (drop p s)))) f
 
 -- ---- a row from a step
 
@@ -52,13 +56,15 @@ pub record Taken (s : List ℕ) (from : ℕ) (h : Held) (next : ℕ) : Type 0 wh
 -- the end, and a bad token
 abbrev Follows : List ℕ → ℕ → Step → Type 0
 Follows s from (Good h next) = Taken s from h next
-Follows s from Over = rest s from ≡ closed whole
-Follows s from (Refused code at) = rest s from ≡ closed (bad code at)
+Follows s from Over = rest s from ≡ bare all-good
+Follows s from (Refused code at) = rest s from ≡ bare (bad code at)
 
 -- by the token of the cut
-follows : (s : List ℕ) (from : ℕ) (t : Token) (at next : ℕ) → Sound s from t next → rest s from ≡ ahead s t at (rest s next)
+follows : (s : List ℕ) (from : ℕ) (t : Token) (at next : ℕ) → Sound s from t next
+    → rest s from ≡ ahead s t at (rest s next)
     → Follows s from (stepOf s t at next)
-follows s from (Name p n) at next x e = record { symbol = named (take n (drop p s)); at = at; inside = x .0; held = refl; row = e }
+follows s from (Name p n) at next x e =
+    record { symbol = symbolNamed (take n (drop p s)); at = at; inside = x .0; held = refl; row = e }
 follows s from (Mark b) at next x e = record { symbol = mark b; at = at; inside = x .0; held = refl; row = e }
 follows s from (Number v) at next x e = record { symbol = number v; at = at; inside = x .0; held = refl; row = e }
 follows s from End at next x e = e
@@ -94,24 +100,35 @@ no-args s ks us h k =
 pub turn-first : (s ks us : List ℕ) → length s ≤ length ks → length s ≤ length us → Turn s ks us ks us 0 0
 unfolding rowOf
 turn-first s ks us h k =
-    record { room = (h, k); long = (refl, refl); count = omega arith; answer = ap (closeEnd (rest s 0 .close)) (zero-add _); kinds = refl; args = refl }
+    record {
+      room = (h, k);
+      long = (refl, refl);
+      count = omega arith;
+      answer = ap (closeEnd (rest s 0 .close)) (zero-add _);
+      kinds = refl;
+      args = refl;
+    }
 
 module _ (s ks₀ us₀ ks us : List ℕ) (from n : ℕ) (t : Turn s ks₀ us₀ ks us from n) where
   -- there is room
   full : roomy s ks₀ us₀ ≡ true
   full = rw (le-leb (length s) (length ks₀) (t .room .0), le-leb (length s) (length us₀) (t .room .1))
 
-  -- the row is closed: all of it is written
-  closing : (c : Close) → rest s from ≡ closed c → Written s ks₀ us₀ (closeEnd c n) ks us
+  -- no token is left: all of the row is written
+  closing : (c : Close) → rest s from ≡ bare c → Written s ks₀ us₀ (closeEnd c n) ks us
   closing c e =
       let all : closeEnd c (n + 0) ≡ rowEnd (rowOf s) = rw e at (t .answer) in
       let ks-all : ks ≡ sets ks₀ 0 (kindsOf (rowOf s)) = rw e at (t .kinds) in
       let us-all : us ≡ sets us₀ 0 (argsOf (rowOf s)) = rw e at (t .args) in
-      record { answer = rw full (ap (closeEnd c) (sym (add-zero n)) ∙ all); kinds = rw full ks-all; args = rw full us-all }
+      record {
+        answer = rw full (ap (closeEnd c) (sym (add-zero n)) ∙ all);
+        kinds = rw full ks-all;
+        args = rw full us-all;
+      }
 
   -- at the end of the text
   pub turn-over : Over ≡ stepAt s from → Written s ks₀ us₀ (Tokens n) ks us
-  turn-over e = closing whole (says s from Over e)
+  turn-over e = closing all-good (says s from Over e)
 
   -- at a bad token
   pub turn-refused : (code at : ℕ) → Refused code at ≡ stepAt s from → Written s ks₀ us₀ (Fault code n at) ks us

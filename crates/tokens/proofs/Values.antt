@@ -1,15 +1,18 @@
--- The value of a number: both operands are exact, so the result is the f64 nearest to m times 10 to the k, and it is finite.
+-- The value of a number: both operands are exact, so the result is the f64 nearest to m times 10 to the k, and it is
+-- finite.
 use Prim.Native.Nat.{ℕ, zero, suc, _+_, _-_, _*_, _^_, _≤_, _<_, suc-le-suc}
 use mathlib.Core.Path.{_≡_, refl, sym, ap, subst, _∙_}
 use mathlib.Core.Bool.{Bool, true, false, not, _&&_, cond, true≢false}
 use mathlib.Core.Logic.{⊎-elim}
-use native.Mathlib.Nat.{mul-one, mul-assoc, mul-comm, mul-left-comm, mul-pos, eq-or-lt-of-le, le-of-suc-le-suc, not-suc-le-zero}
+use native.Mathlib.Nat.{mul-one, mul-assoc, mul-comm, mul-left-comm, mul-pos, eq-or-lt-of-le, le-of-suc-le-suc}
+use native.Mathlib.Nat.{not-suc-le-zero}
 use native.Mathlib.Nat.{le-trans, le-of-eq, mul-le-mul-left, mul-le-mul-right, pow-le-pow-right, one-le-pow}
 use native.Mathlib.Omega.{arith}
 use borrow.Author.Tests.{ne-eqb, leb-true}
 use lib.Dec.{T, eqb, leb, ltb, eqb→eq, lit<, lit≤}
 use lib.IntN.{pos}
-use lib.Ieee.{Float, nan, inf, fin, Format, binary64, prec, emax, low, up, down, round, units, odd, mul, div, ofInt, fits, le}
+use lib.Ieee.{Float, nan, inf, fin, Format, binary64, prec, emax, low, up, down, round, units, odd, mul, div, ofInt}
+use lib.Ieee.{fits, le}
 use lib.Ieee.Exact.{HasValue}
 use lib.Ieee.Back.{round-whole}
 use lib.Ieee.Fits.{down-pos, round-is, and-l, and-r, mul-fits, div-fits}
@@ -55,10 +58,11 @@ exactly-value (inf s) n t = absurd t
 exactly-value (fin true m e) n t = absurd t
 exactly-value (fin false m e) n t = (refl, eqb→eq (m * up e * 1) (n * down e) t)
 
--- an f64 holds each power of ten up to 10 ^ 22
+-- an f64 holds each power of ten up to 10 ^ mostTens
 pub ten-exact : (k : ℕ) → k ≤ mostTens → HasValue (tenTo k) false (10 ^ k) 1
 unfolding exactly tenTo ofInt
-ten-exact k h = exactly-value (tenTo k) (10 ^ k) (all-at (λ (j : ℕ). exactly (tenTo j) (10 ^ j)) (suc mostTens) tt k (suc-le-suc h))
+ten-exact k h =
+    exactly-value (tenTo k) (10 ^ k) (all-at (λ (j : ℕ). exactly (tenTo j) (10 ^ j)) (suc mostTens) tt k (suc-le-suc h))
 
 -- ---- the product and the quotient of exact operands, rounded once
 
@@ -68,10 +72,11 @@ cross-mul P Q a b E D p q =
     mul-one (P * Q)
     ∙ ap (λ (x : ℕ). x * Q) (sym (mul-one P) ∙ p)
     ∙ ap (λ (x : ℕ). a * E * x) (sym (mul-one Q) ∙ q)
-    ∙ simp (mul-assoc, mul-comm, mul-left-comm)
+    ∙ simp (mul-assoc, mul-left-comm)
 
 -- a product of whole numbers that are held exactly is rounded once
-pub mul-round : (f : Format) (x y : Float) (a b : ℕ) → HasValue x false a 1 → HasValue y false b 1 → mul f x y ≡ round f false (a * b) 1
+pub mul-round : (f : Format) (x y : Float) (a b : ℕ) → HasValue x false a 1 → HasValue y false b 1
+    → mul f x y ≡ round f false (a * b) 1
 unfolding mul
 mul-round f nan y a b h k = absurd h
 mul-round f (inf s) y a b h k = absurd h
@@ -90,7 +95,8 @@ cross-div P Q a b E D p q =
     ap (λ (x : ℕ). x * D * b) (sym (mul-one P) ∙ p) ∙ r ∙ ap (λ (x : ℕ). a * (x * E)) (sym (sym (mul-one Q) ∙ q))
 
 -- a quotient of them is rounded once
-pub div-round : (f : Format) (x y : Float) (a b : ℕ) → 0 < b → HasValue x false a 1 → HasValue y false b 1 → div f x y ≡ round f false a b
+pub div-round : (f : Format) (x y : Float) (a b : ℕ) → 0 < b → HasValue x false a 1 → HasValue y false b 1
+    → div f x y ≡ round f false a b
 unfolding div
 div-round f nan y a b B h k = absurd h
 div-round f (inf s) y a b B h k = absurd h
@@ -105,13 +111,16 @@ div-round f (fin false m e) (fin false n d) a b B h k =
     (cross-div (m * up e) (n * up d) a b (down e) (down d) (h .1) (k .1)))
 
 -- for k of 0 or more: m times 10 ^ k, rounded once
-pub product : (m k : ℕ) → m ≤ mostDigits → k ≤ mostTens → mul binary64 (ofInt binary64 (pos m)) (tenTo k) ≡ round binary64 false (m * 10 ^ k) 1
+pub product : (m k : ℕ) → m ≤ mostDigits → k ≤ mostTens
+    → mul binary64 (ofInt binary64 (pos m)) (tenTo k) ≡ round binary64 false (m * 10 ^ k) 1
 product m k h l = mul-round binary64 (ofInt binary64 (pos m)) (tenTo k) m (10 ^ k) (whole-exact m h) (ten-exact k l)
 
 -- otherwise: m over 10 ^ -k, rounded once
-pub quotient : (m k : ℕ) → m ≤ mostDigits → k ≤ mostTens → div binary64 (ofInt binary64 (pos m)) (tenTo k) ≡ round binary64 false m (10 ^ k)
+pub quotient : (m k : ℕ) → m ≤ mostDigits → k ≤ mostTens
+    → div binary64 (ofInt binary64 (pos m)) (tenTo k) ≡ round binary64 false m (10 ^ k)
 quotient m k h l =
-    div-round binary64 (ofInt binary64 (pos m)) (tenTo k) m (10 ^ k) (one-le-pow k 10 (lit< tt)) (whole-exact m h) (ten-exact k l)
+    div-round binary64 (ofInt binary64 (pos m)) (tenTo k) m (10 ^ k) (one-le-pow k 10 (lit< tt)) (whole-exact m h)
+    (ten-exact k l)
 
 -- ---- what is rounded is finite where it is at most a finite value
 
@@ -131,7 +140,8 @@ odd-plain d (suc q) k l = tt
 units-plain : (f : Format) (q k : ℕ) → T (plain (units f false q k))
 unfolding units
 units-plain f q k =
-    cond-ind (λ (z : Float). T (plain z)) (ltb (q * 2 ^ k) (2 ^ (low f + suc (emax f)))) (odd (suc (prec f)) false q k (low f)) (inf false)
+    cond-ind (λ (z : Float). T (plain z)) (ltb (q * 2 ^ k) (2 ^ (low f + suc (emax f))))
+    (odd (suc (prec f)) false q k (low f)) (inf false)
     (λ _. odd-plain (suc (prec f)) q k (low f)) (λ _. tt)
 
 -- so is what was rounded
@@ -148,30 +158,39 @@ finite-under (inf false) (inf t) p q h = absurd q
 finite-under (inf false) (fin t n d) p q h = absurd h
 finite-under (fin s m e) y p q h = tt
 
--- at most 10 ^ 37 is finite
-round-finite : (a c : ℕ) → 0 < c → a ≤ 10 ^ 37 * c → T (finite (round binary64 false a c))
+-- the largest product
+abbrev largest : ℕ
+largest = mostDigits * 10 ^ mostTens
+
+-- what is at most that is finite
+round-finite : (a c : ℕ) → 0 < c → a ≤ largest * c → T (finite (round binary64 false a c))
 round-finite a c C h =
-    finite-under (round binary64 false a c) (round binary64 false (10 ^ 37) 1) (round-plain binary64 a c) (unfold round in tt)
-    (round-mono binary64 a c (10 ^ 37) 1 C (lit< tt) (le-trans (le-of-eq (mul-one a)) h))
+    finite-under (round binary64 false a c) (round binary64 false largest 1) (round-plain binary64 a c)
+    (unfold round in tt)
+    (round-mono binary64 a c largest 1 C (lit< tt) (le-trans (le-of-eq (mul-one a)) h))
 
 -- the product is finite
-product-finite : (m k : ℕ) → m ≤ mostDigits → k ≤ mostTens → T (finite (mul binary64 (ofInt binary64 (pos m)) (tenTo k)))
+product-finite : (m k : ℕ) → m ≤ mostDigits → k ≤ mostTens
+    → T (finite (mul binary64 (ofInt binary64 (pos m)) (tenTo k)))
 product-finite m k h l =
     rw (product m k h l)
     (round-finite (m * 10 ^ k) 1 (lit< tt)
-    (le-trans (mul-le-mul-right (10 ^ k) h) (le-trans (mul-le-mul-left mostDigits (pow-le-pow-right (lit< tt) l)) (lit≤ tt))))
+    (le-trans (mul-le-mul-right (10 ^ k) h)
+    (le-trans (mul-le-mul-left mostDigits (pow-le-pow-right (lit< tt) l)) (lit≤ tt))))
 
 -- so is the quotient
-quotient-finite : (m k : ℕ) → m ≤ mostDigits → k ≤ mostTens → T (finite (div binary64 (ofInt binary64 (pos m)) (tenTo k)))
+quotient-finite : (m k : ℕ) → m ≤ mostDigits → k ≤ mostTens
+    → T (finite (div binary64 (ofInt binary64 (pos m)) (tenTo k)))
 quotient-finite m k h l =
     let C : 1 ≤ 10 ^ k = one-le-pow k 10 (lit< tt) in
-    let one : 10 ^ 37 ≤ 10 ^ 37 * 10 ^ k = le-trans (le-of-eq (sym (mul-one (10 ^ 37)))) (mul-le-mul-left (10 ^ 37) C) in
+    let one : largest ≤ largest * 10 ^ k = le-trans (le-of-eq (sym (mul-one largest))) (mul-le-mul-left largest C) in
     rw (quotient m k h l) (round-finite m (10 ^ k) C (le-trans (le-trans h (lit≤ tt)) one))
 
 -- ---- the value of a number in range
 
 -- m and k are in range
-pub range : (m up down : ℕ) → inRange m up down ≡ true → (m ≤ mostDigits) × (up ≤ down + mostTens) × (down ≤ up + mostTens)
+pub range : (m up down : ℕ) → inRange m up down ≡ true
+    → (m ≤ mostDigits) × (up ≤ down + mostTens) × (down ≤ up + mostTens)
 range m up down t =
     let a = and-true (leb m mostDigits) (leb up (down + mostTens) && leb down (up + mostTens)) t in
     let b = and-true (leb up (down + mostTens)) (leb down (up + mostTens)) (a .1) in
@@ -179,18 +198,22 @@ range m up down t =
 
 -- the f64 nearest to m times 10 to the up less down
 pub scaled-round : (m up down : ℕ) → inRange m up down ≡ true
-    → scaled m up down ≡ cond (leb down up) (round binary64 false (m * 10 ^ (up - down)) 1) (round binary64 false m (10 ^ (down - up)))
+    → scaled m up down ≡ cond (leb down up) (round binary64 false (m * 10 ^ (up - down)) 1)
+    (round binary64 false m (10 ^ (down - up)))
 unfolding scaled
 scaled-round m up down t =
     let r = range m up down t in
-    ⊎-elim (λ b. rw b (product m (up - down) (r .0) (omega arith))) (λ b. rw b (quotient m (down - up) (r .0) (omega arith))) (bool-cases (leb down up))
+    ⊎-elim (λ b. rw b (product m (up - down) (r .0) (omega arith)))
+    (λ b. rw b (quotient m (down - up) (r .0) (omega arith))) (bool-cases (leb down up))
 
 -- it is finite, and an f64
-pub scaled-fine : (m up down : ℕ) → inRange m up down ≡ true → T (finite (scaled m up down)) × T (fits binary64 (scaled m up down))
+pub scaled-fine : (m up down : ℕ) → inRange m up down ≡ true
+    → T (finite (scaled m up down)) × T (fits binary64 (scaled m up down))
 unfolding scaled
 scaled-fine m up down t =
     let r = range m up down t in
     let x = ofInt binary64 (pos m) in
-    cond-ind (λ (z : Float). T (finite z) × T (fits binary64 z)) (leb down up) (mul binary64 x (tenTo (up - down))) (div binary64 x (tenTo (down - up)))
+    cond-ind (λ (z : Float). T (finite z) × T (fits binary64 z)) (leb down up) (mul binary64 x (tenTo (up - down)))
+    (div binary64 x (tenTo (down - up)))
     (λ _. (product-finite m (up - down) (r .0) (omega arith), mul-fits binary64 x (tenTo (up - down))))
     (λ _. (quotient-finite m (down - up) (r .0) (omega arith), div-fits binary64 x (tenTo (down - up))))

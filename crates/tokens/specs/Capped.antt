@@ -1,13 +1,14 @@
--- The parts of a number as code holds them: a number over mostDigits is held as one more than that, which is out of range too.
+-- The parts of a number as code holds them: a number over mostDigits is held as one more than that, which is out of
+-- range too.
 use Prim.Native.Nat.{ℕ, _+_, min}
 use mathlib.Core.Bool.{true, false}
 use mathlib.Core.List.{List}
 use lib.ListN.{length, getD}
 use Rattle.limits.specs.Limits.{mostDigits}
-use Rattle.tokens.specs.declared.Decimal.{Decimal}
-use Rattle.tokens.specs.declared.Mantissa.{Mantissa}
-use Rattle.tokens.specs.declared.Power.{Power}
-use Rattle.tokens.specs.declared.Power.the-variants.{Of, Wrong}
+use Rattle.tokens.specs.declared.number.Decimal.{Decimal}
+use Rattle.tokens.specs.declared.number.Mantissa.{Mantissa}
+use Rattle.tokens.specs.declared.number.Power.{Power}
+use Rattle.tokens.specs.declared.number.Power.the-variants.{Of, Wrong}
 use Rattle.tokens.specs.Bytes.{digitsAt}
 use Rattle.tokens.specs.Number.{Digits, decimal, Exponent, exponent, wrong}
 
@@ -22,7 +23,8 @@ decimalAt s from a =
 
 -- the digits before an exponent
 abbrev pub capped : List ℕ → Digits → Mantissa
-capped s d = record { value = min cap (d .whole); after = d .after; count = d .count; end = d .end; behind = getD s (d .end) 0 }
+capped s d =
+    record { value = min cap (d .whole); after = d .after; count = d .count; end = d .end; behind = getD s (d .end) 0 }
 
 -- an exponent: with a minus it stands in down, else in up
 abbrev pub powerOf : List ℕ → Exponent → Power

@@ -1,8 +1,11 @@
+-- the paper
 pub mod Bytes
 pub mod Number
 pub mod Token
 pub mod Symbol
 pub mod Row
+-- as code holds it
+pub mod Kinds
 pub mod Held
 pub mod Names
 pub mod Capped

@@ -1,4 +1,5 @@
--- A name as code reads it: its letters and digits are counted up to one more than a name may have, which is too many already.
+-- A name as code reads it: its letters and digits are counted up to one more than a name may have, which is too many
+-- already.
 use Prim.Native.Nat.{ℕ, _+_, min}
 use mathlib.Core.Bool.{cond}
 use mathlib.Core.List.{List}

@@ -1,23 +1,24 @@
--- Numbers: digits with at most one point and at least one digit, then optionally E, an optional sign and one or two digits.
+-- Numbers: digits with at most one point and at least one digit, then optionally E, an optional sign and one or two
+-- digits.
 use Prim.Native.Nat.{ℕ, _+_, _*_, _-_, _^_}
 use mathlib.Core.List.{List, [], _∷_, _++_}
 use mathlib.Core.Bool.{Bool, true, false, _&&_, _||_, cond}
 use lib.ListN.{length, getD}
-use lib.Dec.{eqb, leb, ltb}
+use lib.Dec.{eqb, leb}
 use lib.IntN.{pos}
 use lib.Ieee.{Float, binary64, mul, div, ofInt}
 use Rattle.limits.specs.Limits.{mostDigits, mostTens, exponentDigits}
 use Rattle.tokens.specs.declared.Token.{Token}
-use Rattle.tokens.specs.declared.Token.the-variants.{Name, Mark, Number, End, Bad}
-use Rattle.tokens.specs.Bytes.{isWord, isPoint, digitsAt}
+use Rattle.tokens.specs.declared.Token.the-variants.{Number, Bad}
+use Rattle.tokens.specs.Bytes.{isPoint, digitsAt}
 
 -- digits read as a whole number, behind the number a
 unfoldable pub decimal : ℕ → List ℕ → ℕ
 decimal a [] = a
 decimal a (b ∷ bs) = decimal (a * 10 + (b - 48)) bs
 
--- the digits before an exponent: read as a whole number without the point, which is m; how many stand after the point; how many there
--- are; and the place behind them
+-- the digits before an exponent: read as a whole number without the point, which is m; how many stand after the point;
+-- how many there are; and the place behind them
 pub record Digits : Type 0 where
   pub whole : ℕ
   pub after : ℕ
@@ -28,7 +29,8 @@ abbrev pub plainDigits : List ℕ → ℕ → Digits
 plainDigits w p = record { whole = decimal 0 w; after = 0; count = length w; end = p }
 
 abbrev pub pointDigits : List ℕ → List ℕ → ℕ → Digits
-pointDigits w f p = record { whole = decimal 0 (w ++ f); after = length f; count = length w + length f; end = p + length f }
+pointDigits w f p =
+    record { whole = decimal 0 (w ++ f); after = length f; count = length w + length f; end = p + length f }
 
 -- the digits from a place on: a run of them, and behind a point another
 unfoldable pub digitsFrom : List ℕ → ℕ → Digits
@@ -37,7 +39,8 @@ digitsFrom s at =
     let p = at + length w in
     cond (isPoint (getD s p 0)) (pointDigits w (digitsAt s (p + 1)) (p + 1)) (plainDigits w p)
 
--- what stands behind the digits: an exponent with its sign, value and the place behind it (0 where there is no E), or an E that begins none
+-- what stands behind the digits: an exponent with its sign, value and the place behind it (0 where there is no E), or
+-- an E that begins none
 pub data Exponent : Type 0 where
   exponent : Bool → ℕ → ℕ → Exponent
   wrong : Exponent
@@ -48,7 +51,8 @@ signEnd s at = cond (eqb (getD s at 0) 43 || eqb (getD s at 0) 45) (at + 1) at
 
 -- one or two digits: the exponent, with a minus or without
 abbrev pub exponentOf : Bool → List ℕ → ℕ → Exponent
-exponentOf minus d from = cond (leb 1 (length d) && leb (length d) exponentDigits) (exponent minus (decimal 0 d) (from + length d)) wrong
+exponentOf minus d from =
+    cond (leb 1 (length d) && leb (length d) exponentDigits) (exponent minus (decimal 0 d) (from + length d)) wrong
 
 unfoldable pub exponentFrom : List ℕ → ℕ → Exponent
 exponentFrom s at =
@@ -59,12 +63,14 @@ exponentFrom s at =
 unfoldable pub tenTo : ℕ → Float
 tenTo k = ofInt binary64 (pos (10 ^ k))
 
--- The value is m times 10^k. k is `up` less `down`: one multiplication for k of 0 or more, one division by 10^-k otherwise
+-- The value is m times 10^k. k is `up` less `down`: one multiplication for k of 0 or more, one division by 10^-k
+-- otherwise
 unfoldable pub scaled : ℕ → ℕ → ℕ → Float
 scaled m up down =
-    cond (leb down up) (mul binary64 (ofInt binary64 (pos m)) (tenTo (up - down))) (div binary64 (ofInt binary64 (pos m)) (tenTo (down - up)))
+    cond (leb down up) (mul binary64 (ofInt binary64 (pos m)) (tenTo (up - down)))
+    (div binary64 (ofInt binary64 (pos m)) (tenTo (down - up)))
 
--- m is at most 999,999,999,999,999 and k is from -22 to 22
+-- m is at most mostDigits, and k is at most mostTens from 0
 abbrev pub inRange : ℕ → ℕ → ℕ → Bool
 inRange m up down = leb m mostDigits && (leb up (down + mostTens) && leb down (up + mostTens))
 

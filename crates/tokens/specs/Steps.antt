@@ -4,10 +4,10 @@ use mathlib.Core.List.{List}
 use lib.ListN.{take, drop}
 use Rattle.tokens.specs.declared.Token.{Token}
 use Rattle.tokens.specs.declared.Token.the-variants.{Name, Mark, Number, End, Bad}
-use Rattle.tokens.specs.declared.Held.{Held}
-use Rattle.tokens.specs.declared.Step.{Step}
-use Rattle.tokens.specs.declared.Step.the-variants.{Good, Over, Refused}
-use Rattle.tokens.specs.Symbol.{Symbol, mark, number, named}
+use Rattle.tokens.specs.declared.step.Held.{Held}
+use Rattle.tokens.specs.declared.step.Step.{Step}
+use Rattle.tokens.specs.declared.step.Step.the-variants.{Good, Over, Refused}
+use Rattle.tokens.specs.Symbol.{Symbol, mark, number, symbolNamed}
 use Rattle.tokens.specs.Held.{kindOf, argOf}
 use Rattle.tokens.specs.Token.{cutAt}
 
@@ -17,7 +17,7 @@ heldAs t = record { kind = kindOf t; arg = argOf t }
 
 -- by the token of the cut: a token to be written, the end, or a bad one
 abbrev pub stepOf : List ℕ → Token → ℕ → ℕ → Step
-stepOf s (Name p n) at next = Good (heldAs (named (take n (drop p s)))) next
+stepOf s (Name p n) at next = Good (heldAs (symbolNamed (take n (drop p s)))) next
 stepOf s (Mark b) at next = Good (heldAs (mark b)) next
 stepOf s (Number x) at next = Good (heldAs (number x)) next
 stepOf s End at next = Over

@@ -1,7 +1,8 @@
 -- What the grammar sees of a token: a mark, a number, a name that is not reserved, or a reserved word.
 use Prim.Native.Nat.{ℕ}
-use mathlib.Core.List.{List}
-use mathlib.Core.Bool.{Bool, cond}
+use Prim.Native.String.{String}
+use mathlib.Core.List.{List, [], _∷_}
+use mathlib.Core.Bool.{cond}
 use lib.Ieee.{Float}
 use Rattle.laws.specs.Text.{bytes}
 use Rattle.laws.specs.Lists.{sameBytes}
@@ -11,6 +12,31 @@ use Rattle.bits.specs.Low.{lowWord}
 pub data Word : Type 0 where
   CONST PARAM INCON INTGRL TIME INSW LIMIT COMPAR : Word
 
+-- the bytes of a word, and which one it is
+pub record Reserved : Type 0 where
+  pub spelling : List ℕ
+  pub means : Word
+
+abbrev pub spelled : String → Word → Reserved
+spelled s w = record { spelling = bytes s; means = w }
+
+abbrev pub reserved : List Reserved
+reserved =
+    spelled "CONST" CONST
+    ∷ spelled "PARAM" PARAM
+    ∷ spelled "INCON" INCON
+    ∷ spelled "INTGRL" INTGRL
+    ∷ spelled "TIME" TIME
+    ∷ spelled "INSW" INSW
+    ∷ spelled "LIMIT" LIMIT
+    ∷ spelled "COMPAR" COMPAR
+    ∷ []
+
+-- f of the word that bytes spell, compared byte by byte with each of a list of words; another where they spell none
+unfoldable pub lookUp : {A : Type 0} → (Word → A) → A → List Reserved → List ℕ → A
+lookUp f other [] n = other
+lookUp f other (r ∷ rs) n = cond (sameBytes n (r .spelling)) (f (r .means)) (lookUp f other rs n)
+
 -- a mark by its byte, a number by its value, a name by its key, a reserved word
 pub data Symbol : Type 0 where
   mark : ℕ → Symbol
@@ -18,17 +44,11 @@ pub data Symbol : Type 0 where
   name : ℕ → Symbol
   word : Word → Symbol
 
--- a name's key: its bytes packed into a number, the first one lowest. Names of one key are one name (law `key-injective`)
+-- a name's key: its bytes packed into a number, the first one lowest. Names of one key are one name (law
+-- `key-injective`)
 abbrev pub keyOf : List ℕ → ℕ
 keyOf n = lowWord n
 
--- a name token's bytes, compared with the reserved words byte by byte
-unfoldable pub named : List ℕ → Symbol
-named n =
-    cond (sameBytes n (bytes "CONST")) (word CONST)
-    (cond (sameBytes n (bytes "PARAM")) (word PARAM)
-    (cond (sameBytes n (bytes "INCON")) (word INCON)
-    (cond (sameBytes n (bytes "INTGRL")) (word INTGRL)
-    (cond (sameBytes n (bytes "TIME")) (word TIME)
-    (cond (sameBytes n (bytes "INSW")) (word INSW)
-    (cond (sameBytes n (bytes "LIMIT")) (word LIMIT) (cond (sameBytes n (bytes "COMPAR")) (word COMPAR) (name (keyOf n)))))))))
+-- a name token's bytes: the reserved word that they spell, or a name
+unfoldable pub symbolNamed : List ℕ → Symbol
+symbolNamed n = lookUp word (name (keyOf n)) reserved n

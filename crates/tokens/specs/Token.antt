@@ -1,12 +1,12 @@
 -- Each cut gives the token together with the place where the next one begins.
 use Prim.Native.Nat.{ℕ, _+_}
 use mathlib.Core.List.{List}
-use mathlib.Core.Bool.{Bool, true, false, _||_, cond}
+use mathlib.Core.Bool.{_||_, cond}
 use lib.ListN.{length, getD}
 use lib.Dec.{eqb, leb, ltb}
 use Rattle.limits.specs.Limits.{nameBytes}
 use Rattle.tokens.specs.declared.Token.{Token}
-use Rattle.tokens.specs.declared.Token.the-variants.{Name, Mark, Number, End, Bad}
+use Rattle.tokens.specs.declared.Token.the-variants.{Name, Mark, End, Bad}
 use Rattle.tokens.specs.declared.Cut.{Cut}
 use Rattle.tokens.specs.Bytes.{isLetter, isDigit, isPoint, isWord, isMark, spacesAt, wordAt}
 use Rattle.tokens.specs.Number.{Digits, digitsFrom, Exponent, exponent, wrong, exponentFrom, signedNumber}
@@ -30,7 +30,7 @@ numberAt s at =
     let m = digitsFrom s at in
     cond (eqb (m .count) 0) (badAt 16 at) (numberEnd s at m (exponentFrom s (m .end)))
 
--- a name: a letter, then letters and digits, the longest run; over 6 characters it is 15
+-- a name: a letter, then letters and digits, the longest run; over nameBytes characters it is 15
 unfoldable pub nameAt : List ℕ → ℕ → Cut
 nameAt s at =
     let n = length (wordAt s at) in

@@ -9,11 +9,11 @@ use lib.Seq.{sets}
 use Rattle.tokens.specs.declared.RowEnd.{RowEnd}
 use Rattle.tokens.specs.declared.RowEnd.the-variants.{NoRoom, Tokens, Fault}
 use Rattle.tokens.specs.Held.{kindOf, argOf}
-use Rattle.tokens.specs.Row.{Close, whole, bad, Row, rowOf, symbols}
+use Rattle.tokens.specs.Row.{Close, all-good, bad, Row, rowOf, symbols}
 
 -- the answer for a row of n tokens: their count, and with a bad token behind them its code and place
 abbrev pub closeEnd : Close → ℕ → RowEnd
-closeEnd whole n = Tokens n
+closeEnd all-good n = Tokens n
 closeEnd (bad code at) n = Fault code n at
 
 abbrev pub rowEnd : Row → RowEnd

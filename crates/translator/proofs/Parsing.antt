@@ -12,7 +12,7 @@ use Rattle.deck.specs.Lines.{Line}
 use Rattle.deck.specs.Joined.{joined}
 use Rattle.deck.specs.Faults.{Flaw, none, flaw, sizeFlaw}
 use Rattle.tokens.specs.Held.{heldRow}
-use Rattle.tokens.specs.Row.{Placed, Close, whole, bad, rowOf, symbols}
+use Rattle.tokens.specs.Row.{Placed, Close, all-good, bad, rowOf, symbols}
 use Rattle.tokens.proofs.Rows.{row-short}
 use Rattle.drafts.specs.Tree.{Says as Statement}
 use Rattle.drafts.specs.Drafts.{Draft, draftsOf}
@@ -114,7 +114,7 @@ module _ (s : List ℕ) (x : Statement) where
 
   -- by how the row closes
   few-scanned : (ps : List Placed) → length ps ≤ length s → (c : Close) → scanned ps c ≡ says x → length (draftsOf x) ≤ length s
-  few-scanned ps h whole q = few-parsed ps h (readRow (symbols ps)) refl q
+  few-scanned ps h all-good q = few-parsed ps h (readRow (symbols ps)) refl q
   few-scanned ps h (bad c at) q = absurd (let z : _≡_ {A = ℕ} 0 1 = cc in omega arith)
 
   -- by the fault for size

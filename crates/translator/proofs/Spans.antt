@@ -15,7 +15,7 @@ use Rattle.deck.specs.Next.{width, runOf, nextOf, Lawful, foundFrom, cardsAt}
 use Rattle.deck.specs.declared.Cursor.{Cursor}
 use Rattle.deck.specs.declared.Found.{Found}
 use Rattle.deck.specs.declared.Found.the-variants.{Statement, End}
-use Rattle.deck.proofs.Bytes.{lineOf, line-at, lines-some, lines-tail}
+use Rattle.deck.proofs.Cutting.{lineOf, line-at, lines-some, lines-tail}
 use Rattle.deck.proofs.Parts.{part-le}
 use Rattle.deck.proofs.Steps.{found-next}
 use Rattle.translator.specs.Working.{Stands}

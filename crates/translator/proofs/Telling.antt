@@ -13,7 +13,7 @@ use Rattle.deck.specs.Faults.{Place, at-start, at-token, at-end, Flaw, flaw, si
 use Rattle.deck.specs.Joined.{joined}
 use Rattle.tokens.specs.Symbol.{Symbol, mark, number, name, word}
 use Rattle.tokens.specs.Held.{kindOf, argOf, heldRow}
-use Rattle.tokens.specs.Row.{Placed, Close, whole, bad, Row, rowOf, symbols}
+use Rattle.tokens.specs.Row.{Placed, Close, all-good, bad, Row, rowOf, symbols}
 use Rattle.tokens.specs.Written.{closeEnd, rowEnd, kindsOf, argsOf}
 use Rattle.tokens.specs.declared.RowEnd.the-variants.{NoRoom, Tokens, Fault}
 use Rattle.tokens.proofs.Holding.{Holds, AllHold, held-back}
@@ -85,7 +85,7 @@ pub never-full : (r : Row) → rowEnd r ≡ NoRoom → ⊥
 never-full r e = go (r .close) (length (r .tokens)) e
   where
     go : (c : Close) (n : ℕ) → closeEnd c n ≡ NoRoom → ⊥
-    go whole n e = let z : _≡_ {A = ℕ} 0 1 = cc in omega arith
+    go all-good n e = let z : _≡_ {A = ℕ} 0 1 = cc in omega arith
     go (bad code at) n e = let z : _≡_ {A = ℕ} 0 1 = cc in omega arith
 
 -- ---- by its size

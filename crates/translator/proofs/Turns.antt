@@ -14,7 +14,7 @@ use Rattle.deck.specs.Reports.{report}
 use Rattle.deck.specs.Next.{foundFrom, statementsFrom, cardsAt}
 use Rattle.deck.specs.declared.Cursor.{Cursor}
 use Rattle.deck.specs.declared.Found.the-variants.{Statement, End}
-use Rattle.deck.proofs.Linked.{Walk, walk, walk-end}
+use Rattle.deck.proofs.Walking.{Walk, walk, walk-end}
 use Rattle.drafts.specs.Drafts.{Draft}
 use Rattle.sheet.specs.Sheet.{Told, says, faulty, Sheet, saidBy, faultBy, said, statementFaults}
 use Rattle.sheet.specs.Reader.{told, sheetOf}

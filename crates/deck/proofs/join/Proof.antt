@@ -2,7 +2,7 @@
 use Prim.Native.Nat.{_<_}
 use native.Mathlib.Omega.{arith}
 use borrow.Author.Needs.{needs}
-use Rattle.deck.proofs.Bytes.{LineAt, lineOf, line-at}
+use Rattle.deck.proofs.Cutting.{LineAt, lineOf, line-at}
 use Rattle.deck.proofs.Parts.{part-le}
 use Rattle.deck.proofs.Writes.{cards-none, cards-end, join-none, join-all}
 use Rattle.deck.proofs.join.Statement.{statement}
@@ -11,15 +11,18 @@ use Rattle.deck.proofs.join.Tie as tie
 returns : tie.Need-returns
 returns c =
     let a = c .before .before .before .args in
-    join-none (a .text .now) (a .start) (a .cards) (a .out .now) (cards-none (a .text .now) (a .start) (a .cards) (omega arith))
+    join-none (a .text .now) (a .start) (a .cards) (a .out .now)
+    (cards-none (a .text .now) (a .start) (a .cards) (omega arith))
 
 returns-2 : tie.Need-returns-2
 returns-2 c =
     let a = c .before .before .before .before .args in
-    join-none (a .text .now) (a .start) (a .cards) (a .out .now) (cards-end (a .text .now) (a .start) (a .cards) (c .if2 .taken))
+    join-none (a .text .now) (a .start) (a .cards) (a .out .now)
+    (cards-end (a .text .now) (a .start) (a .cards) (c .if2 .taken))
 
 -- the first line
-line : (c : tie.After-line-end) → let a = c .before .before .before .before .before .args in LineAt (a .text .now) (a .start) (c .line-end .result)
+line : (c : tie.After-line-end) → let a = c .before .before .before .before .before .args in
+    LineAt (a .text .now) (a .start) (c .line-end .result)
 line c =
     let a = c .before .before .before .before .before .args in
     line-at (a .text .now) (a .start) (c .line-end .result) (c .before .if2 .left) (c .line-end .ensures .0)
@@ -30,7 +33,8 @@ join-spaced-requires c κs =
     let e = p .before .before .before in
     let a = e .before .before .before .before .before .args in
     let l = line e in
-    omega (arith, p .put-part .ensures .0, l .long, l .from, part-le (lineOf (a .text .now) (a .start) (e .line-end .result)))
+    omega
+    (arith, p .put-part .ensures .0, l .long, l .from, part-le (lineOf (a .text .now) (a .start) (e .line-end .result)))
 
 returns-3 : tie.Need-returns-3
 returns-3 c =
@@ -39,7 +43,8 @@ returns-3 c =
     let e = p .before .before .before in
     let a = e .before .before .before .before .before .args in
     let z : 0 < a .cards = omega arith in
-    join-all (a .text .now) (a .start) (a .cards) (a .out .now) (e .line-end .result) _ _ (p .put-part .result) (j .result)
+    join-all (a .text .now) (a .start) (a .cards) (a .out .now) (e .line-end .result) _ _ (p .put-part .result)
+    (j .result)
     z (line e) (p .put-part .ensures .0) (p .put-part .ensures .1) (j .ensures .0) (j .ensures .1)
 
 pub join-spec : {M : Type 1} → statement M

@@ -15,7 +15,8 @@ returns-2 : tie.Need-returns-2
 returns-2 c =
     let at-if1 = c .before .before in
     let at-count = at-if1 .before in
-    at-count .count-ends .ensures .0 ∙ sym (lines-closed (at-count .before .before .args .text .now) (omega (arith, at-if1 .if1 .left)) (c .if2 .taken))
+    at-count .count-ends .ensures .0
+    ∙ sym (lines-closed (at-count .before .before .args .text .now) (omega (arith, at-if1 .if1 .left)) (c .if2 .taken))
 
 returns-3 : tie.Need-returns-3
 returns-3 c =

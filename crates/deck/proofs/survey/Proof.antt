@@ -2,7 +2,7 @@
 use Prim.Native.Nat.{_-_}
 use borrow.Author.Needs.{needs}
 use lib.ListN.{length}
-use Rattle.deck.proofs.Bytes.{line-at}
+use Rattle.deck.proofs.Cutting.{line-at}
 use Rattle.deck.proofs.Tallies.{Counting, counting-first, counting-next, counting-last}
 use Rattle.deck.proofs.survey.Statement.{statement}
 use Rattle.deck.proofs.survey.Tie as tie
@@ -22,7 +22,8 @@ loop-again c =
     let b = e .before .before in
     let t = b .before .before .args .text .now in
     let l = line-at t (b .loop .at) (e .line-end .result) (e .before .loop-test .taken) (e .line-end .ensures .0) in
-    counting-next t (b .loop .at) (b .loop .n) (b .loop .inv) (e .line-end .result) (c .counted .result) l (c .counted .ensures)
+    counting-next t (b .loop .at) (b .loop .n) (b .loop .inv) (e .line-end .result) (c .counted .result) l
+    (c .counted .ensures)
 
 returns : tie.Need-returns Inv-loop μ-loop
 returns c =

@@ -20,13 +20,13 @@ element-copy-out-if1 : tie.Need-element-copy-out-if1 Inv-loop μ-loop
 element-copy-out-if1 c =
     let k = c .before .before .before .loop .k in
     let l = c .before .before .before .before .before .pre .1 k (c .before .before .loop-test .taken) in
-    omega (arith, c .wide .ensures .0)
+    omega (arith, c .index .ensures .0)
 
 returns : tie.Need-returns Inv-loop μ-loop
 returns c =
     let l = c .before .before .before .before .before .loop in
     let s = c .before .before .before .before .before .before .before .args in
-    let w = c .before .before .wide in
+    let w = c .before .before .index in
     sym
     (l .inv
     ∙ first-stop (openAt (s .used .now) (s .marks .now)) (s .end) (l .k) (omega arith)
@@ -36,7 +36,7 @@ loop-again : tie.Need-loop-again Inv-loop μ-loop
 loop-again c =
     let l = c .before .before .before .before .before .loop in
     let s = c .before .before .before .before .before .before .before .args in
-    let w = c .before .before .wide in
+    let w = c .before .before .index in
     l .inv
     ∙ first-pass (openAt (s .used .now) (s .marks .now)) (s .end) (l .k) (omega arith)
     (open-no (s .used .now) (s .marks .now) (l .k) (w .result) (w .ensures .0) (c .if1 .left))

@@ -16,14 +16,16 @@ returns-2 c = rw (le-leb _ _ (c .before .if1 .left), le-ltb _ _ (c .if2 .taken))
 
 returns-3 : tie.Need-returns-3
 unfolding fits
-returns-3 c = rw (le-leb _ _ (c .before .before .if1 .left), lt-ltb _ _ (c .before .if2 .left), lt-leb _ _ (c .if3 .taken))
+returns-3 c =
+    rw (le-leb _ _ (c .before .before .if1 .left), lt-ltb _ _ (c .before .if2 .left), lt-leb _ _ (c .if3 .taken))
 
 returns-4 : tie.Need-returns-4
 unfolding fits
 returns-4 c =
     let a = c .before .before .before in
     let e = sym (c .before .before .rows-end .ensures) ∙ c .before .if4 .taken in
-    rw (le-leb _ _ (a .before .before .if1 .left), lt-ltb _ _ (a .before .if2 .left), le-leb _ _ (a .if3 .left), e) (c .used-below .ensures)
+    rw (le-leb _ _ (a .before .before .if1 .left), lt-ltb _ _ (a .before .if2 .left), le-leb _ _ (a .if3 .left), e)
+    (c .used-below .ensures)
 
 returns-5 : tie.Need-returns-5
 unfolding fits

@@ -4,16 +4,19 @@ use native.Mathlib.Omega.{arith}
 use borrow.Author.Needs.{needs}
 use Rattle.limits.specs.Limits.{mostStatements}
 use Rattle.order.proofs.Settling.{blank}
-use Rattle.order.proofs.Going.{Going, going-start, going-found, going-long, going-end, going-stop, going-woken, going-step}
+use Rattle.order.proofs.Placing.{Going, going-start, going-found, going-long, going-end, going-stop, going-woken}
+use Rattle.order.proofs.Placing.{going-step}
 use Rattle.order.proofs.place.Statement.{statement}
 use Rattle.order.proofs.place.Tie as tie
 
 abbrev Inv-loop : tie.InvT-loop
-Inv-loop n starts used out₀ marks₀ ready₀ cursors₀ heads₀ links₀ waits₀ from₀ k₀ out marks ready cursors heads links waits from k =
+Inv-loop n starts used out₀ marks₀ ready₀ cursors₀ heads₀ links₀ waits₀ from₀ k₀ out marks ready cursors heads links
+    waits from k =
     Going n starts used out₀ out marks ready cursors heads links waits from k
 
 abbrev μ-loop : tie.MeasureT-loop
-μ-loop n starts used out₀ marks₀ ready₀ cursors₀ heads₀ links₀ waits₀ from₀ k₀ out marks ready cursors heads links waits from k = n - k
+μ-loop n starts used out₀ marks₀ ready₀ cursors₀ heads₀ links₀ waits₀ from₀ k₀ out marks ready cursors heads links waits
+    from k = n - k
 
 settle-all-requires : tie.Need-settle-all-requires Inv-loop μ-loop
 settle-all-requires c κs =
@@ -36,7 +39,8 @@ same-length c = going-long (c .before .before .before .before .loop .inv)
 returns : tie.Need-returns Inv-loop μ-loop
 returns c =
     let t = c .before .before .before in
-    going-stop (t .before .loop .inv) (t .loop-test .taken) (c .before .find .result) (c .before .find .ensures) (c .if1 .taken)
+    going-stop (t .before .loop .inv) (t .loop-test .taken) (c .before .find .result) (c .before .find .ensures)
+    (c .if1 .taken)
 
 -- the statement found is one of the n
 below : (c : tie.Else1 Inv-loop μ-loop) → c .before .find .result < mostStatements
@@ -64,7 +68,8 @@ wake-requires c κs =
     let e = c .before .before .before .before .before .before in
     let k = e .before in
     let g = k .before .before .before .loop .inv in
-    going-woken g (k .find .result) (k .find .ensures) (going-found g (k .find .result) (k .find .ensures) (e .if1 .left))
+    going-woken g (k .find .result) (k .find .ensures)
+    (going-found g (k .find .result) (k .find .ensures) (e .if1 .left))
 
 loop-again : tie.Need-loop-again Inv-loop μ-loop
 loop-again c =

@@ -22,16 +22,20 @@ returns c =
     let l = c .before .before .before .before .loop in
     let s = c .before .before .before .before .before .before .args in
     let e = getD (s .starts .now) (l .i - 1 + 1) 0 in
-    let w = c .before .wide .ensures .0 in
-    sym (l .inv .1 ∙ all-stop (endsIn (s .starts .now) (s .size)) (l .i) (omega arith) (lt-leb e (s .size) (omega arith)))
+    let w = c .before .index .ensures .0 in
+    sym
+    (l .inv .1 ∙ all-stop (endsIn (s .starts .now) (s .size)) (l .i) (omega arith) (lt-leb e (s .size) (omega arith)))
 
 loop-again : tie.Need-loop-again Inv-loop μ-loop
 loop-again c =
     let l = c .before .before .before .before .loop in
     let s = c .before .before .before .before .before .before .args in
     let e = getD (s .starts .now) (l .i - 1 + 1) 0 in
-    let w = c .before .wide .ensures .0 in
-    (omega arith, l .inv .1 ∙ all-pass (endsIn (s .starts .now) (s .size)) (l .i) (omega arith) (le-leb e (s .size) (omega arith)))
+    let w = c .before .index .ensures .0 in (
+      omega arith,
+      l .inv .1
+          ∙ all-pass (endsIn (s .starts .now) (s .size)) (l .i) (omega arith) (le-leb e (s .size) (omega arith)),
+    )
 
 returns-2 : tie.Need-returns-2 Inv-loop μ-loop
 returns-2 c =

@@ -15,29 +15,34 @@ S c = c .before .before .before .before .before .before .before .before .before
 advance-requires : tie.Need-advance-requires
 advance-requires c κs =
     let p = c .before .before .before .before .before .before .before .before .pre in
-    let x = c .before .before .wide2 .ensures .0 in
-    (omega (arith, p .0 .ends _ (p .1)), λ k h. omega (arith, p .0 .few, p .0 .below k (omega (arith, p .0 .ends _ (p .1)))))
+    let x = c .before .before .index2 .ensures .0 in (
+      omega (arith, p .0 .ends _ (p .1)),
+      λ k h. omega (arith, p .0 .few, p .0 .below k (omega (arith, p .0 .ends _ (p .1)))),
+    )
 
 returns : tie.Need-returns
 returns c =
     let a = c .before in
     let p = S a .pre in
-    settled-ready (p .0) (p .2) (S a .args .i) (p .1) (p .3) _ _ _ _ (a .before .before .before .before .before .wide .ensures .0)
-    (a .before .before .before .wide2 .ensures .0) (a .before .wide3 .ensures .0) (a .advance .ensures) (c .if1 .taken)
+    settled-ready (p .0) (p .2) (S a .args .i) (p .1) (p .3) _ _ _ _
+    (a .before .before .before .before .before .index .ensures .0)
+    (a .before .before .before .index2 .ensures .0) (a .before .index3 .ensures .0) (a .advance .ensures)
+    (c .if1 .taken)
 
 sub-cursors : tie.Need-sub-cursors
 sub-cursors c =
     let a = c .before in
     let s = S a .args in
-    let from = a .before .before .before .before .before .wide .result + a .before .wide3 .result in
-    let lo = first-from (openAt (s .used .now) (s .marks .now)) (a .before .before .before .wide2 .result - from) from in
+    let from = a .before .before .before .before .before .index .result + a .before .index3 .result in
+    let lo =
+    first-from (openAt (s .used .now) (s .marks .now)) (a .before .before .before .index2 .result - from) from in
     omega (arith, a .advance .ensures)
 
-shared-slice-read-wide-3 : tie.Need-shared-slice-read-wide-3
-shared-slice-read-wide-3 c =
+shared-slice-read-index-3 : tie.Need-shared-slice-read-index-3
+shared-slice-read-index-3 c =
     let a = c .before .before in
     let p = S a .pre in
-    omega (arith, p .0 .ends _ (p .1), a .before .before .before .wide2 .ensures .0, c .before .if1 .left)
+    omega (arith, p .0 .ends _ (p .1), a .before .before .before .index2 .ensures .0, c .before .if1 .left)
 
 attach-requires : tie.Need-attach-requires
 attach-requires c κs =
@@ -45,9 +50,11 @@ attach-requires c κs =
     let e = w .before .before in
     let a = e .before in
     let p = S a .pre in
-    let b = wait-below (p .0) (p .2) (S a .args .i) (p .1) (p .3) _ _ _ _ (a .before .before .before .before .before .wide .ensures .0)
-    (a .before .before .before .wide2 .ensures .0) (a .before .wide3 .ensures .0) (a .advance .ensures) (e .if1 .left) in
-    (omega (arith, p .0 .few, p .1), omega (arith, p .0 .few, b, w .wide4 .ensures .0))
+    let b = wait-below (p .0) (p .2) (S a .args .i) (p .1) (p .3) _ _ _ _
+    (a .before .before .before .before .before .index .ensures .0)
+    (a .before .before .before .index2 .ensures .0) (a .before .index3 .ensures .0) (a .advance .ensures)
+    (e .if1 .left) in
+    (omega (arith, p .0 .few, p .1), omega (arith, p .0 .few, b, w .index4 .ensures .0))
 
 returns-2 : tie.Need-returns-2
 returns-2 c =
@@ -55,9 +62,11 @@ returns-2 c =
     let e = w .before .before in
     let a = e .before in
     let p = S a .pre in
-    settled-wait (p .0) (p .2) (S a .args .i) (p .1) (p .3) _ _ _ _ (a .before .before .before .before .before .wide .ensures .0)
-    (a .before .before .before .wide2 .ensures .0) (a .before .wide3 .ensures .0) (a .advance .ensures) (e .if1 .left) (w .wide4 .result)
-    (w .wide4 .ensures .0) (c .attach .ensures)
+    settled-wait (p .0) (p .2) (S a .args .i) (p .1) (p .3) _ _ _ _
+    (a .before .before .before .before .before .index .ensures .0)
+    (a .before .before .before .index2 .ensures .0) (a .before .index3 .ensures .0) (a .advance .ensures) (e .if1 .left)
+    (w .index4 .result)
+    (w .index4 .ensures .0) (c .attach .ensures)
 
 pub settle-spec : {M : Type 1} → statement M
 settle-spec =
@@ -81,7 +90,7 @@ settle-spec =
     (λ c. search needs)
     (λ c. search needs)
     (λ c. search needs)
-    shared-slice-read-wide-3
+    shared-slice-read-index-3
     (λ c κs. search needs)
     attach-requires
     returns-2)

@@ -10,7 +10,8 @@ use Rattle.order.proofs.sort.Tie as tie
 place-requires : tie.Need-place-requires
 place-requires c κs =
     let s = c .before .before .before .before .before .before .args in
-    fits-iff (s .n) (s .starts .now) (s .used .now) (length (s .out .now)) .0 (sym (c .before .before .fit .ensures) ∙ c .before .if1 .taken)
+    fits-iff (s .n) (s .starts .now) (s .used .now) (length (s .out .now)) .0
+    (sym (c .before .before .fit .ensures) ∙ c .before .if1 .taken)
 
 returns : tie.Need-returns
 returns c =

@@ -22,7 +22,7 @@ returns c =
     let l = c .before .before .before .before .loop in
     let s = c .before .before .before .before .before .before .args in
     let j = getD (s .used .now) (l .k - 1) 0 in
-    let w = c .before .wide .ensures .0 in
+    let w = c .before .index .ensures .0 in
     sym (l .inv .1 ∙ all-stop (belowAt (s .n) (s .used .now)) (l .k) (omega arith) (le-ltb j (s .n) (omega arith)))
 
 loop-again : tie.Need-loop-again Inv-loop μ-loop
@@ -30,8 +30,11 @@ loop-again c =
     let l = c .before .before .before .before .loop in
     let s = c .before .before .before .before .before .before .args in
     let j = getD (s .used .now) (l .k - 1) 0 in
-    let w = c .before .wide .ensures .0 in
-    (omega arith, l .inv .1 ∙ all-pass (belowAt (s .n) (s .used .now)) (l .k) (omega arith) (lt-ltb j (s .n) (omega arith)))
+    let w = c .before .index .ensures .0 in (
+      omega arith,
+      l .inv .1
+          ∙ all-pass (belowAt (s .n) (s .used .now)) (l .k) (omega arith) (lt-ltb j (s .n) (omega arith)),
+    )
 
 returns-2 : tie.Need-returns-2 Inv-loop μ-loop
 returns-2 c =

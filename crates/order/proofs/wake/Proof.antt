@@ -3,22 +3,25 @@ use mathlib.Core.Bool.{true, false}
 use native.Mathlib.Omega.{arith}
 use borrow.Author.Needs.{needs}
 use Rattle.laws.specs.Counts.{count}
-use Rattle.order.proofs.Settling.{Waking, waking-first, waking-last, waking-one, waking-open, waking-ready, waking-wait, waking-less}
+use Rattle.order.proofs.Settling.{Waking, waking-first, waking-last, waking-one, waking-open, waking-ready}
+use Rattle.order.proofs.Settling.{waking-wait, waking-less}
 use Rattle.order.proofs.wake.Statement.{statement}
 use Rattle.order.proofs.wake.Tie as tie
 
 abbrev Inv-loop : tie.InvT-loop
-Inv-loop j n starts used marks ready₀ cursors₀ heads₀ links₀ waits₀ low least-ready₀ x₀ ready cursors heads links waits least-ready x =
+Inv-loop j n starts used marks ready₀ cursors₀ heads₀ links₀ waits₀ low least-ready₀ x₀ ready cursors heads links waits
+    least-ready x =
     Waking n starts used marks ready cursors heads links waits j low x least-ready
 
 abbrev μ-loop : tie.MeasureT-loop
-μ-loop j n starts used marks ready₀ cursors₀ heads₀ links₀ waits₀ low least-ready₀ x₀ ready cursors heads links waits least-ready x = count j waits
+μ-loop j n starts used marks ready₀ cursors₀ heads₀ links₀ waits₀ low least-ready₀ x₀ ready cursors heads links waits
+    least-ready x = count j waits
 
-element-copy-out-wide : tie.Need-element-copy-out-wide Inv-loop μ-loop
-element-copy-out-wide c = let p = c .before .before .pre in omega (arith, p .one, p .fit .few)
+element-copy-out-index : tie.Need-element-copy-out-index Inv-loop μ-loop
+element-copy-out-index c = let p = c .before .before .pre in omega (arith, p .one, p .fit .few)
 
 loop-holds : tie.Need-loop-holds Inv-loop μ-loop
-loop-holds c = waking-first (c .before .before .before .before .pre) (c .wide .ensures .0)
+loop-holds c = waking-first (c .before .before .before .before .pre) (c .index .ensures .0)
 
 settle-requires : tie.Need-settle-requires Inv-loop μ-loop
 settle-requires c κs =
@@ -38,7 +41,8 @@ loop-again c =
     let a = c .before .before in
     let w = a .before .before .before .before .before in
     let t = w .before .before in
-    waking-ready (t .before .loop .inv) (t .loop-test .taken) (rw (c .before .if1 .taken) at (a .settle .ensures)) (w .wide2 .ensures .0) (c .least .ensures)
+    waking-ready (t .before .loop .inv) (t .loop-test .taken) (rw (c .before .if1 .taken) at (a .settle .ensures))
+    (w .index2 .ensures .0) (c .least .ensures)
 
 loop-less-2 : tie.Need-loop-less-2 Inv-loop μ-loop
 loop-less-2 c =
@@ -51,7 +55,8 @@ loop-again-2 c =
     let a = c .before in
     let w = a .before .before .before .before .before in
     let t = w .before .before in
-    waking-wait (t .before .loop .inv) (t .loop-test .taken) (rw (c .if1 .left) at (a .settle .ensures)) (w .wide2 .ensures .0)
+    waking-wait (t .before .loop .inv) (t .loop-test .taken) (rw (c .if1 .left) at (a .settle .ensures))
+    (w .index2 .ensures .0)
 
 returns : tie.Need-returns Inv-loop μ-loop
 returns c = waking-last (c .before .loop .inv) (c .loop-test .left)
@@ -63,7 +68,7 @@ wake-spec =
     Inv-loop
     μ-loop
     (λ c. search needs)
-    element-copy-out-wide
+    element-copy-out-index
     (λ c κs. search needs)
     (λ c. search needs)
     (λ c. search needs)

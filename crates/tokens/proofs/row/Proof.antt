@@ -5,11 +5,12 @@ use mathlib.Core.List.{List}
 use native.Mathlib.Omega.{arith}
 use borrow.Author.Needs.{needs}
 use lib.ListN.{length}
-use Rattle.tokens.specs.declared.Held.{Held}
-use Rattle.tokens.specs.declared.Step.the-variants.{Good}
+use Rattle.tokens.specs.declared.step.Held.{Held}
+use Rattle.tokens.specs.declared.step.Step.the-variants.{Good}
 use Rattle.tokens.specs.Steps.{stepAt}
 use Rattle.tokens.proofs.Sound.{Inside}
-use Rattle.tokens.proofs.Steps.{Turn, no-kinds, no-args, turn-first, turn-over, turn-refused, turn-inside, turn-next}
+use Rattle.tokens.proofs.Steps.{Turn, no-kinds, no-args, turn-first, turn-over, turn-refused, turn-inside}
+use Rattle.tokens.proofs.Steps.{turn-next}
 use Rattle.tokens.proofs.row.Statement.{statement}
 use Rattle.tokens.proofs.row.Tie as tie
 
@@ -49,7 +50,8 @@ good k = sym (k .s2 .given .1) ∙ k .before .before .take-step .ensures
 onward : (k : tie.After-s2 Inv-loop μ-loop) → Inside (B (L k)) (L k .loop .from) (N k)
 onward k =
     let l = L k in
-    turn-inside (B l) (K l) (U l) (l .loop .kinds) (l .loop .args) (l .loop .from) (l .loop .n) (l .loop .inv) (H k) (N k) (good k)
+    turn-inside (B l) (K l) (U l) (l .loop .kinds) (l .loop .args) (l .loop .from) (l .loop .n) (l .loop .inv) (H k)
+    (N k) (good k)
 
 returns : tie.Need-returns Inv-loop μ-loop
 returns c =
@@ -90,17 +92,22 @@ returns-4 c =
     let e = c .before .s .given in
     let k = c .before .before .before in
     let l = k .before in
-    turn-refused (B l) (K l) (U l) (l .loop .kinds) (l .loop .args) (l .loop .from) (l .loop .n) (l .loop .inv) (e .0 .0) (e .0 .1 .0)
+    turn-refused (B l) (K l) (U l) (l .loop .kinds) (l .loop .args) (l .loop .from) (l .loop .n) (l .loop .inv)
+    (e .0 .0) (e .0 .1 .0)
     (sym (e .1) ∙ k .take-step .ensures)
 
 slice-write-kinds : tie.Need-slice-write-kinds Inv-loop μ-loop
-slice-write-kinds c = let t = L (c .before) .loop .inv in omega (arith, onward (c .before), t .room .0, t .long .0, t .count)
+slice-write-kinds c =
+    let t = L (c .before) .loop .inv in omega (arith, onward (c .before), t .room .0, t .long .0, t .count)
 
 mul-args : tie.Need-mul-args Inv-loop μ-loop
-mul-args c = let l = L (c .before) in let t = l .loop .inv in omega (arith, onward (c .before), t .room .1, t .long .1, t .count, S l .good)
+mul-args c =
+    let l = L (c .before) in let t = l .loop .inv in
+    omega (arith, onward (c .before), t .room .1, t .long .1, t .count, S l .good)
 
 slice-write-args : tie.Need-slice-write-args Inv-loop μ-loop
-slice-write-args c = let t = L (c .before) .loop .inv in omega (arith, onward (c .before), t .room .1, t .long .1, t .count)
+slice-write-args c =
+    let t = L (c .before) .loop .inv in omega (arith, onward (c .before), t .room .1, t .long .1, t .count)
 
 add-n : tie.Need-add-n Inv-loop μ-loop
 add-n c = let l = L (c .before) in omega (arith, onward (c .before), l .loop .inv .count, S l .good)
@@ -112,7 +119,8 @@ loop-again : tie.Need-loop-again Inv-loop μ-loop
 loop-again c =
     let k = c .before in
     let l = L k in
-    turn-next (B l) (K l) (U l) (l .loop .kinds) (l .loop .args) (l .loop .from) (l .loop .n) (l .loop .inv) (H k) (N k) (good k)
+    turn-next (B l) (K l) (U l) (l .loop .kinds) (l .loop .args) (l .loop .from) (l .loop .n) (l .loop .inv) (H k) (N k)
+    (good k)
 
 pub row-spec : {M : Type 1} → statement M
 row-spec =

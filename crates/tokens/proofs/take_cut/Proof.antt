@@ -33,7 +33,8 @@ returns-2 : tie.Need-returns-2
 returns-2 c =
     let l = c .before .before in
     let p = P l in
-    at-letter (S p) (F p) (A p) (p .past-spaces .ensures) (l .before .before .if1 .left) (sym (l .is-letter .ensures) ∙ c .before .if2 .taken)
+    at-letter (S p) (F p) (A p) (p .past-spaces .ensures) (l .before .before .if1 .left)
+    (sym (l .is-letter .ensures) ∙ c .before .if2 .taken)
     (c .read-name .result) (c .read-name .ensures)
 
 returns-3 : tie.Need-returns-3
@@ -41,7 +42,8 @@ returns-3 c =
     let m = c .before in
     let l = L m in
     let p = P l in
-    at-mark (S p) (F p) (A p) (p .past-spaces .ensures) (l .before .before .if1 .left) (sym (l .is-letter .ensures) ∙ m .before .if2 .left)
+    at-mark (S p) (F p) (A p) (p .past-spaces .ensures) (l .before .before .if1 .left)
+    (sym (l .is-letter .ensures) ∙ m .before .if2 .left)
     (sym (m .is-mark .ensures) ∙ c .if3 .taken)
 
 returns-4 : tie.Need-returns-4
@@ -50,7 +52,8 @@ returns-4 c =
     let m = G f in
     let l = L m in
     let p = P l in
-    at-figure (S p) (F p) (A p) (p .past-spaces .ensures) (l .before .before .if1 .left) (sym (l .is-letter .ensures) ∙ m .before .if2 .left)
+    at-figure (S p) (F p) (A p) (p .past-spaces .ensures) (l .before .before .if1 .left)
+    (sym (l .is-letter .ensures) ∙ m .before .if2 .left)
     (sym (f .is-figure .ensures) ∙ c .before .if4 .taken) (c .read-number .result) (c .read-number .ensures)
 
 returns-5 : tie.Need-returns-5
@@ -59,8 +62,10 @@ returns-5 c =
     let m = G f in
     let l = L m in
     let p = P l in
-    at-other (S p) (F p) (A p) (p .past-spaces .ensures) (l .before .before .if1 .left) (sym (l .is-letter .ensures) ∙ m .before .if2 .left)
-    (sym (m .is-mark .ensures) ∙ f .before .if3 .left) (sym (f .is-figure .ensures) ∙ c .before .if4 .left) (c .bad .result) (c .bad .ensures)
+    at-other (S p) (F p) (A p) (p .past-spaces .ensures) (l .before .before .if1 .left)
+    (sym (l .is-letter .ensures) ∙ m .before .if2 .left)
+    (sym (m .is-mark .ensures) ∙ f .before .if3 .left) (sym (f .is-figure .ensures) ∙ c .before .if4 .left)
+    (c .bad .result) (c .bad .ensures)
 
 pub take-cut-spec : {M : Type 1} → statement M
 take-cut-spec =

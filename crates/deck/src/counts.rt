@@ -1,0 +1,84 @@
+// How many lines and statements there are.
+use super::lines::is_dotted;
+use super::lines::is_passed;
+ghost use mathlib.Core.Path.{_≡_};
+ghost use Prim.Native.Nat.{_+_, _<_, _≤_, _^_};
+ghost use lib.Dec.{eqb};
+ghost use lib.ListN.{length};
+ghost use Rattle.laws.specs.Counts.{once};
+ghost use Rattle.deck.specs.Survey.{endsOf, tallied};
+
+// How many bytes are counted at once: fewer than a byte can count.
+const PART: usize = 192;
+
+// 1 of a byte 10, 0 of any other.
+fn one_of(b: u8) -> u8
+    ensures { λ r. ⌜ (r ≡ once (eqb b 10)) × (r ≤ 1) ⌝ }
+{
+    if b == 10 { 1 } else { 0 }
+}
+
+// How many bytes 10 a short part has.
+fn ends_in(part: &[u8]) -> u8
+    requires { ⌜ length (now part) < 256 ⌝ }
+    ensures { λ r. ⌜ r ≡ endsOf (now (part .entry)) ⌝ }
+{
+    let mut n: u8 = 0;
+    let mut i: usize = 0;
+    while i < part.len() {
+        n += one_of(part[i]);
+        i += 1;
+    }
+    n
+}
+
+// How many bytes 10 a text has, counted part by part.
+pub fn count_ends(text: &[u8]) -> usize
+    ensures { λ r. ⌜ (r ≡ endsOf (now (text .entry))) × (r ≤ length (now (text .entry))) ⌝ }
+{
+    let mut n: usize = 0;
+    let mut i: usize = 0;
+    while PART <= text.len() - i {
+        let e = i + PART;
+        n += ends_in(&text[i..e]) as usize;
+        i = e;
+    }
+    n + ends_in(&text[i..]) as usize
+}
+
+// Lines and the statements that begin in them, and whether the last of these continues.
+pub struct Tally {
+    pub lines: usize,
+    pub statements: usize,
+    pub more: bool,
+}
+
+// A tally with one line more.
+pub fn counted(n: Tally, line: &[u8]) -> Tally
+    requires { ⌜ (n .lines + 1 < 2 ^ 64) × (n .statements ≤ n .lines) ⌝ }
+    ensures { λ r. ⌜ r ≡ tallied n (now (line .entry)) ⌝ }
+{
+    let lines = n.lines + 1;
+    let statements = n.statements;
+    if n.more {
+        let more = is_dotted(line);
+        return Tally {
+            lines,
+            statements,
+            more,
+        };
+    }
+    if is_passed(line) {
+        return Tally {
+            lines,
+            statements,
+            more: false,
+        };
+    }
+    let more = is_dotted(line);
+    Tally {
+        lines,
+        statements: statements + 1,
+        more,
+    }
+}
