@@ -1,7 +1,7 @@
 -- How large a count is: at most one fault for each statement, so that the list holds them all, and no more records than there may be.
 use Prim.Native.Nat.{ℕ, zero, suc, _/_, _≤_}
 use mathlib.Core.Path.{_≡_, refl, ap}
-use mathlib.Core.Bool.{Bool, true, false, cond, _||_}
+use mathlib.Core.Bool.{Bool, true, false, _||_}
 use mathlib.Core.List.{List, [], _∷_, _++_}
 use native.Mathlib.Omega.{arith}
 use borrow.Author.Tests.{ltb-false}
@@ -22,7 +22,7 @@ use Rattle.records.specs.Record.{Rec}
 use Rattle.program.specs.Program.{program}
 use Rattle.drafts.specs.Kinds.{writes}
 use Rattle.program.specs.Written.{recordCount}
-use Rattle.translator.specs.Verdict.{Verdict, refused, ifFaults, fitted, programmed, modelled, judged, verdictOf, countOf}
+use Rattle.translator.specs.Verdict.{Verdict, refused, ifFaults, fitted, modelled, judged, verdictOf, countOf}
 use Rattle.translator.specs.Verdict.{faulty as flawed, translated}
 
 -- at most one for each element

@@ -10,5 +10,4 @@ pub mod Fitting
 pub mod Counted
 mod Writing
 mod Rooms
-mod Attempts
 pub mod Verdicts

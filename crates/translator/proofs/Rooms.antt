@@ -11,37 +11,23 @@ use lib.ListN.{length, take, replicate, length-map, length-replicate}
 use lib.Seq.{sets, length-sets}
 use Rattle.limits.specs.Limits.{mostStatements}
 use Rattle.laws.specs.Lists.{concat-map}
-use Rattle.deck.specs.Lines.{linesOf}
-use Rattle.deck.specs.Codes.{joinedRoom}
-use Rattle.deck.proofs.Tallies.{statements-le, lines-le}
 use Rattle.drafts.specs.Drafts.{Draft}
 use Rattle.sheet.specs.Sheet.{Numbered, Fault, said, statementFaults, faultList}
 use Rattle.sheet.specs.Reader.{sheetOf}
 use Rattle.sheet.specs.Layout.{draftsIn, Laid}
 use Rattle.translator.specs.declared.Tally.{Tally}
-use Rattle.translator.specs.declared.Reading.{Reading}
-use Rattle.translator.specs.declared.Reading.the-variants.{All, NoRoom}
 use Rattle.translator.specs.declared.Verdict.{Verdict}
 use Rattle.translator.specs.declared.Verdict.the-variants.{Faulty}
 use Rattle.translator.specs.Contract.{reply, replyOf}
 use Rattle.translator.specs.Verdict.{ifFaults, modelled, judged}
-use Rattle.translator.specs.Working.{RowFits, Read, Stopped, Reads, Ready, Concludes, Taken, Roomy, Judges}
+use Rattle.translator.specs.Working.{Read, Ready, Concludes, Taken, Room, Judges}
 use Rattle.translator.proofs.Fitting.{bounds-many, laid-fits}
 use Rattle.translator.proofs.Turns.{take-most, counts}
-use Rattle.translator.proofs.Verdicts.{sheet-many}
 
--- what an answer says
-module _ {text list₀ kinds args lines bounds list : List ℕ} {r : Reading} (w : Reads text list₀ r kinds args lines bounds list) where
-  pub all-read : {n : Tally} → r ≡ All n → Read text list₀ n kinds args lines bounds list
-  all-read e = rw e at (w .by-answer)
-
-  pub stopped : r ≡ NoRoom → Stopped text list₀ kinds list
-  stopped e = rw e at (w .by-answer)
-
-module _ {text list₀ ks us kinds₀ args₀ used lines₀ bounds₀ : List ℕ} (roomy : Roomy text list₀ ks us kinds₀ args₀ used lines₀ bounds₀)
+module _ {text list₀ kinds₀ args₀ lines₀ bounds₀ : List ℕ} (room : Room text list₀ kinds₀ args₀ lines₀ bounds₀)
     {n : Tally} {kinds args lines bounds list : List ℕ} (r : Read text list₀ n kinds args lines bounds list) where
   few : ltb mostStatements (length (sheetOf text)) ≡ false
-  few = le-ltb mostStatements (length (sheetOf text)) (roomy .room .few)
+  few = le-ltb mostStatements (length (sheetOf text)) (room .taken .few)
 
   -- 5: some fault stands, and the list is written
   pub says-five : (p : List ℕ) → 0 < n .faults → Judges text list₀ p (Faulty 5 (n .faults)) list p
@@ -73,7 +59,7 @@ module _ {text list₀ ks us kinds₀ args₀ used lines₀ bounds₀ : List ℕ
 
   -- no more statements than there may be
   pub statements-few : n .statements ≤ mostStatements
-  statements-few = omega (arith, r .statements, counts (sheetOf text), roomy .room .few)
+  statements-few = omega (arith, r .statements, counts (sheetOf text), room .taken .few)
 
   -- the drafts stand in both arrays
   abbrev drafts : List Draft
@@ -107,43 +93,32 @@ module _ {text list₀ ks us kinds₀ args₀ used lines₀ bounds₀ : List ℕ
   bounds-enough = omega (arith, bounds-count, take-most (n .statements + 1) bounds)
 
   -- and all fits
-  pub ready-so : length kinds ≡ length kinds₀
-      → Ready (take (n .statements) lines) (take (n .statements + 1) bounds) (take (n .drafts) kinds) (take (n .drafts) args) used list
-  ready-so kept =
-      let long : length list ≡ length list₀ = ap length (r .listed) ∙ length-sets list₀ 0 (faultList (statementFaults (sheetOf text))) in
+  pub ready-so : {used : List ℕ} → length text ≤ length used
+      → Ready (take (n .statements) lines) (take (n .statements + 1) bounds) (take (n .drafts) kinds)
+      (take (n .drafts) args) used list
+  ready-so uses =
+      let fs = faultList (statementFaults (sheetOf text)) in
+      let long : length list ≡ length list₀ = ap length (r .listed) ∙ length-sets list₀ 0 fs in
       record {
         statements = said (sheetOf text);
         laid = bounds-laid;
         fits =
             laid-fits (said (sheetOf text)) _ _ _ _ bounds-laid _ _ _ (omega (arith, statements-few, r .statements))
-            (omega (arith, kinds-many, r .within, roomy .room .brief)) (omega (arith, kinds-many, args-many))
-            (omega (arith, kinds-many, kinds-enough, kept, roomy .used-room)) (omega (arith, statements-few, r .statements, long, roomy .room .list-room));
+            (omega (arith, kinds-many, r .within, room .taken .brief)) (omega (arith, kinds-many, args-many))
+            (omega (arith, kinds-many, r .within, uses))
+            (omega (arith, statements-few, r .statements, long, room .taken .list-room));
       }
 
--- ---- the rooms: arrays of k places for drafts, of r for a row of tokens, of m for statements
-module _ {text list : List ℕ} (k r m : ℕ) where
-  pub roomy : Taken text list → k < 65536 → ((n : ℕ) → n ≤ joinedRoom → n ≤ length text → n ≤ r) → length (sheetOf text) ≤ m
-      → Roomy text list (replicate r 0) (replicate r 0) (replicate k 0) (replicate k 0) (replicate k 0) (replicate m 0) (replicate (m + 1) 0)
-  roomy taken small rows many =
-      let at : (n : ℕ) → length (replicate {A = ℕ} n 0) ≡ n = λ n. length-replicate {A = ℕ} n 0 in
-      let fits : RowFits text (replicate r 0) = λ n h i. omega (arith, at r, rows n h i) in
-      record {
-        room =
-            record {
-              few = taken .0;
-              brief = taken .1;
-              row-kinds = fits;
-              row-args = fits;
-              even = refl;
-              small = omega (arith, at k);
-              lines-room = omega (arith, at m);
-              bounds-room = omega (arith, at (m + 1));
-              bounds-first = rw (add-one m);
-              list-room = taken .2;
-            };
-        used-room = omega arith;
-      }
-
--- a text has no more statements than bytes
-pub sheet-bytes : (text : List ℕ) → length (sheetOf text) ≤ length text
-sheet-bytes text = omega (arith, sheet-many text, statements-le (linesOf text), lines-le text)
+-- a room: k places for drafts, and a place for each statement that there may be
+pub room-of : {text list : List ℕ} (k : ℕ) → Taken text list → length text ≤ k
+    → Room text list (replicate k 0) (replicate k 0) (replicate mostStatements 0) (replicate (mostStatements + 1) 0)
+room-of k taken h =
+    let places : length (replicate {A = ℕ} k 0) ≡ k = length-replicate {A = ℕ} k 0 in
+    record {
+      taken = taken;
+      kinds-room = omega (arith, places);
+      args-room = omega (arith, places);
+      lines-room = omega arith;
+      bounds-room = omega arith;
+      bounds-first = refl;
+    }

@@ -110,14 +110,13 @@ pub record Span (t : List ℕ) (at s k nx : ℕ) : Type 0 where
   pub from : at ≤ s
   pub joins : s + length (joined (cardsAt t s k)) ≤ nx
   pub within : at + length (joined (cardsAt t s k)) ≤ length t
-  pub upto : at + (nx - s) ≤ length t + 1
 
 pub span : (t : List ℕ) (c : Cursor) → Lawful c → c .at < length t → {f s k : ℕ} {d g : Bool} {nx : Cursor} → foundFrom t c ≡ Statement f s k d g nx
     → Span t (c .at) s k (nx .at)
 unfolding joined spread
 span t c h b {f} {s} {k} {d} {g} {nx} e =
     let both = go (cardsAt t s k) refl in
-    record { from = w .0; joins = both .0; within = both .1; upto = omega (arith, w .0, w .1, few) }
+    record { from = w .0; joins = both .0; within = both .1 }
   where
     w : (c .at ≤ s) × (nx .at ≡ s + spread (cardsAt t s k))
     w = rw e at (found-spans t c h)

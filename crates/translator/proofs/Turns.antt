@@ -4,7 +4,7 @@ use mathlib.Core.Path.{_≡_, refl, ap, _∙_}
 use mathlib.Core.Bool.{Bool, true, false}
 use mathlib.Core.List.{List, [], _∷_, _++_, map}
 use native.Mathlib.Omega.{arith}
-use lib.ListN.{length, take, replicate, length-append, length-map, length-set}
+use lib.ListN.{length, take, replicate, length-append, length-set}
 use lib.Seq.{length-sets}
 use Rattle.laws.specs.Lists.{concat-map}
 use Rattle.deck.specs.Joined.{joined}
@@ -15,12 +15,10 @@ use Rattle.deck.specs.Next.{foundFrom, statementsFrom, cardsAt}
 use Rattle.deck.specs.declared.Cursor.{Cursor}
 use Rattle.deck.specs.declared.Found.the-variants.{Statement, End}
 use Rattle.deck.proofs.Walking.{Walk, walk, walk-end}
-use Rattle.drafts.specs.Drafts.{Draft}
 use Rattle.sheet.specs.Sheet.{Told, says, faulty, Sheet, saidBy, faultBy, said, statementFaults}
 use Rattle.sheet.specs.Reader.{told, sheetOf}
-use Rattle.sheet.specs.Layout.{draftsIn}
 use Rattle.translator.specs.declared.Tally.{Tally}
-use Rattle.translator.specs.Working.{RowFits, Able, AddsOf, Adds, Progress, Room, Read, Stopped}
+use Rattle.translator.specs.Working.{Able, AddsOf, Adds, Progress, Room, Read}
 use Rattle.translator.proofs.Parsing.{drafts-few}
 use Rattle.translator.proofs.Spans.{Span, span, alone, first-near}
 use Rattle.translator.proofs.Progress.{progress-first, progress-said, progress-faulty, progress-last}
@@ -55,10 +53,11 @@ pub record Going (text kinds₀ args₀ lines₀ bounds₀ list₀ kinds args li
   pub long-lines : length lines ≡ length lines₀
   pub long-bounds : length bounds ≡ length bounds₀
 
-module _ {text ks us kinds args lines bounds list : List ℕ} where
+module _ {text kinds args lines bounds list : List ℕ} where
   -- the beginning
-  pub going-first : Room text ks us kinds args lines bounds list
-      → Going text kinds args lines bounds list kinds args lines bounds list (record { statements = 0; drafts = 0; faults = 0 }) (record { at = 0; line = 1 })
+  pub going-first : Room text list kinds args lines bounds
+      → Going text kinds args lines bounds list kinds args lines bounds list
+      (record { statements = 0; drafts = 0; faults = 0 }) (record { at = 0; line = 1 })
   going-first r =
       record {
         progress = progress-first text list kinds args lines bounds (r .bounds-first);
@@ -68,18 +67,12 @@ module _ {text ks us kinds args lines bounds list : List ℕ} where
         long-bounds = refl;
       }
 
-module _ {text ks₀ us₀ kinds₀ args₀ lines₀ bounds₀ list₀ kinds args lines bounds list : List ℕ} {n : Tally} {c : Cursor}
-    (room : Room text ks₀ us₀ kinds₀ args₀ lines₀ bounds₀ list₀) (g : Going text kinds₀ args₀ lines₀ bounds₀ list₀ kinds args lines bounds list n c) where
+module _ {text kinds₀ args₀ lines₀ bounds₀ list₀ kinds args lines bounds list : List ℕ} {n : Tally} {c : Cursor}
+    (room : Room text list₀ kinds₀ args₀ lines₀ bounds₀)
+    (g : Going text kinds₀ args₀ lines₀ bounds₀ list₀ kinds args lines bounds list n c) where
   -- the list keeps its length too
   pub going-list : length list ≡ length list₀
   going-list = ap length (g .progress .listed) ∙ simp length-sets
-
-  -- the drafts so far have their places
-  pub going-held : n .drafts ≤ length kinds
-  going-held =
-      let p = g .progress in
-      let many = ap length (p .kinds-held) ∙ length-map (draftsIn (said (p .done))) (λ (d : Draft). d .kind) in
-      omega (arith, many, p .drafts, take-most (n .drafts) kinds)
 
   -- the end
   pub going-last : foundFrom text c ≡ End → Read text list₀ n kinds args lines bounds list
@@ -98,22 +91,6 @@ module _ {text ks₀ us₀ kinds₀ args₀ lines₀ bounds₀ list₀ kinds arg
     near : Span text (c .at) s k (nx .at)
     near = span text c (g .progress .lawful) (step .bytes) e
 
-    -- the next cursor stands behind its start
-    pub going-on : s ≤ nx .at
-    going-on = omega (arith, near .joins)
-
-    -- fewer places for drafts are left than bytes up to the next cursor: then there are no more of them than bytes
-    pub going-stop : length kinds - n .drafts < nx .at - s → Stopped text list₀ kinds list
-    going-stop h =
-        let p = g .progress in
-        record {
-          full = omega (arith, p .short, near .upto, going-held);
-          done = p .done;
-          rest = map (report told) (statementsFrom text c);
-          split = p .split;
-          listed = p .listed;
-        }
-
     -- there is one more statement than those that are read
     left : n .statements + n .faults < length (sheetOf text)
     left =
@@ -124,36 +101,35 @@ module _ {text ks₀ us₀ kinds₀ args₀ lines₀ bounds₀ list₀ kinds arg
         let many = length-append (p .done) (report told one ∷ map (report told) (statementsFrom text nx)) in
         omega (arith, ap length all, many, counts (p .done), p .statements, p .faults)
 
-    -- what reading it asks, with two rows of room, where so many places are left
-    pub going-able : {ks us : List ℕ} → RowFits text ks → RowFits text us → nx .at - s ≤ length kinds - n .drafts
+    -- what reading it asks, with two rows that have room for its tokens
+    pub going-able : {ks us : List ℕ} → joinedRoom ≤ length ks → joinedRoom ≤ length us
         → Able text f s k d long (nx .at) n ks us kinds args lines bounds
-    going-able hk hu fit =
+    going-able hk hu =
         let p = g .progress in
-        let short = near .within in
-        let places : n .drafts + length (joined (cardsAt text s k)) ≤ length kinds = omega (arith, near .joins, going-held, fit) in
+        let places : n .drafts + length (joined (cardsAt text s k)) ≤ length text = omega (arith, p .short, near .within) in
         record {
           size = step .size;
           before =
               record {
                 short = step .short;
                 alone = λ z one. alone text c (p .lawful) e one (closed k d long z);
-                row-kinds = λ z. hk (length (joined (cardsAt text s k))) (step .short z) (omega (arith, short));
-                row-args = λ z. hu (length (joined (cardsAt text s k))) (step .short z) (omega (arith, short));
-                room-kinds = places;
-                room-args = omega (arith, places, room .even, g .long-kinds, g .long-args);
+                row-kinds = λ z. omega (arith, hk, step .short z);
+                row-args = λ z. omega (arith, hu, step .short z);
+                room-kinds = omega (arith, places, room .kinds-room, g .long-kinds);
+                room-args = omega (arith, places, room .args-room, g .long-args);
               };
-          first-fits = omega (arith, first-near text c (p .lawful) e, room .brief);
-          kinds-fit = omega (arith, room .small, g .long-kinds);
-          lines-room = omega (arith, left, room .lines-room, g .long-lines);
-          bounds-room = omega (arith, left, room .bounds-room, g .long-bounds);
-          faults-fit = omega (arith, left, room .few);
+          first-fits = omega (arith, first-near text c (p .lawful) e, room .taken .brief);
+          drafts-fit = omega (arith, places, room .taken .brief);
+          lines-room = omega (arith, left, room .taken .few, room .lines-room, g .long-lines);
+          bounds-room = omega (arith, left, room .taken .few, room .bounds-room, g .long-bounds);
+          faults-fit = omega (arith, left, room .taken .few);
         }
 
     -- behind it
-    pub going-next : nx .at - s ≤ length kinds - n .drafts → {kinds′ args′ lines′ bounds′ list′ : List ℕ} {n′ : Tally}
+    pub going-next : {kinds′ args′ lines′ bounds′ list′ : List ℕ} {n′ : Tally}
         → Adds (told (cardsAt text s k) d) f n kinds args lines bounds list n′ kinds′ args′ lines′ bounds′ list′
         → Going text kinds₀ args₀ lines₀ bounds₀ list₀ kinds′ args′ lines′ bounds′ list′ n′ nx
-    going-next fit {kinds′} {args′} {lines′} {bounds′} {list′} {n′} w =
+    going-next {kinds′} {args′} {lines′} {bounds′} {list′} {n′} w =
         let both = go (told (cardsAt text s k) d) refl (w .by-told) in
         record {
           progress = both .0;
@@ -170,8 +146,7 @@ module _ {text ks₀ us₀ kinds₀ args₀ lines₀ bounds₀ list₀ kinds arg
             let few = drafts-few (cardsAt text s k) d x q in
             let p = g .progress in
             let row : List ℕ = replicate joinedRoom 0 in
-            let rows : RowFits text row = λ n h _. omega (arith, h) in
-            let a = going-able {ks = row} {us = row} rows rows fit in
+            let a = going-able {ks = row} {us = row} (omega arith) (omega arith) in
             let more : Progress text list₀ nx _ _ _ _ _ list =
             progress-said p step x q (omega (arith, p .short, near .from, near .joins)) (omega (arith, p .short, near .within))
             (omega (arith, a .before .room-kinds)) (omega (arith, a .before .room-args)) (a .lines-room) (a .bounds-room) in

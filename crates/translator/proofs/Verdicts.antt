@@ -1,62 +1,44 @@
 -- The first four refusals, and that behind them the sheet's verdict is the text's.
 use Prim.Native.Nat.{ℕ, _≤_, _<_}
-use mathlib.Core.Path.{_≡_, refl, sym, ap, _∙_}
-use mathlib.Core.Bool.{Bool, true, false, cond}
+use mathlib.Core.Path.{_≡_, refl, ap, _∙_}
+use mathlib.Core.Bool.{false}
 use mathlib.Core.List.{List}
 use native.Mathlib.Omega.{arith}
-use borrow.Author.Tests.{ltb-false, lt-ltb, le-ltb}
+use borrow.Author.Tests.{lt-ltb, le-ltb}
 use lib.Dec.{ltb}
 use lib.ListN.{length, length-map}
 use Rattle.limits.specs.Limits.{faultRoom, textBytes, textLines, mostStatements}
 use Rattle.deck.specs.Lines.{linesOf}
 use Rattle.deck.specs.Reading.{fresh, reading}
 use Rattle.deck.specs.Reports.{report}
-use Rattle.deck.specs.declared.Sizes.{Sizes}
-use Rattle.deck.specs.Survey.{sizesOf}
 use Rattle.deck.proofs.Tallies.{statements-le, lines-le}
 use Rattle.sheet.specs.Reader.{told, sheetOf}
 use Rattle.translator.specs.declared.Verdict.{Verdict}
 use Rattle.translator.specs.declared.Verdict.the-variants.{Refused}
-use Rattle.translator.specs.Contract.{Reply, outcome, reply, replyOf, Translates, Gives}
+use Rattle.translator.specs.Contract.{Reply, outcome, replyOf, Translates, Gives}
 use Rattle.translator.specs.Verdict.{Verdict as Decision, refused, faulty, translated, judged, verdictOf, outcomeOf, translation}
-use Rattle.translator.specs.Working.{sizeNumber, Judges}
+use Rattle.translator.specs.Working.{Taken, Judges}
 
 -- a report for each statement
 pub sheet-many : (text : List ℕ) → length (sheetOf text) ≡ length (reading fresh 1 (linesOf text))
 unfolding sheetOf
 sheet-many text = length-map (reading fresh 1 (linesOf text)) (report told)
 
--- the refusal by two tests
-sized : (f p : List ℕ) (a b : Bool) (v : Decision) → (_≡_ {A = ℕ} (cond a 3 (cond b 4 0)) 0 → ⊥)
-    → reply (Refused (cond a 3 (cond b 4 0))) f p ≡ replyOf (cond a (refused 3) (cond b (refused 4) v)) f p
-sized f p true b v z = refl
-sized f p false true v z = refl
-sized f p false false v z = absurd (z refl)
-
-neither : (a b : Bool) → _≡_ {A = ℕ} (cond a 3 (cond b 4 0)) 0 → (a ≡ false) × (b ≡ false)
-neither true b h = absurd (omega arith)
-neither false true h = absurd (omega arith)
-neither false false h = (refl, refl)
+-- neither too many lines nor too many statements
+abbrev pub Sized : List ℕ → Type 0
+Sized text = (length (linesOf text) ≤ textLines) × (length (reading fresh 1 (linesOf text)) ≤ mostStatements)
 
 -- few lines have few statements
-pub sized-lines : (text : List ℕ) → length (linesOf text) ≤ mostStatements → sizeNumber (sizesOf text) ≡ 0
-sized-lines text h =
-    let a = statements-le (linesOf text) in
-    rw (le-ltb textLines (length (linesOf text)) (omega arith), le-ltb mostStatements (length (reading fresh 1 (linesOf text))) (omega arith))
+pub lines-sized : (text : List ℕ) → length (linesOf text) ≤ mostStatements → Sized text
+lines-sized text h = (omega arith, omega (arith, statements-le (linesOf text)))
 
-pub sized-bytes : (text : List ℕ) → length text ≤ mostStatements → sizeNumber (sizesOf text) ≡ 0
-sized-bytes text h = sized-lines text (omega (arith, lines-le text))
+-- few bytes have few lines
+pub bytes-sized : (text : List ℕ) → length text ≤ mostStatements → Sized text
+bytes-sized text h = lines-sized text (omega (arith, lines-le text))
 
--- the sizes tell
-module _ {n m : Sizes} (e : n ≡ m) where
-  pub sized-three : textLines < n .lines → sizeNumber m ≡ 3
-  sized-three h = rw (← e, lt-ltb textLines (n .lines) h)
-
-  pub sized-four : n .lines ≤ textLines → mostStatements < n .statements → sizeNumber m ≡ 4
-  sized-four h k = rw (← e, le-ltb textLines (n .lines) h, lt-ltb mostStatements (n .statements) k)
-
-  pub sized-none : n .lines ≤ textLines → n .statements ≤ mostStatements → sizeNumber m ≡ 0
-  sized-none h k = rw (← e, le-ltb textLines (n .lines) h, le-ltb mostStatements (n .statements) k)
+-- none of the four refusals: the text is taken
+pub taken-so : (text f : List ℕ) → faultRoom ≤ length f → length text ≤ textBytes → Sized text → Taken text f
+taken-so text f room short sized = record { few = rw (sheet-many text) (sized .1); brief = short; list-room = room }
 
 module _ (text f p : List ℕ) where
   pub says-one : length f < faultRoom → Translates text f p (Refused 1) f p
@@ -71,27 +53,27 @@ module _ (text f p : List ℕ) where
     unfolding verdictOf
     says-two h = rw (enough, lt-ltb textBytes (length text) h)
 
-    module _ (short : length text ≤ textBytes) {k : ℕ} (sizes : k ≡ sizeNumber (sizesOf text)) where
+    module _ (short : length text ≤ textBytes) where
       brief : ltb textBytes (length text) ≡ false
       brief = le-ltb textBytes (length text) short
 
-      -- too many lines or statements
-      pub says-sized : (k ≡ 0 → ⊥) → Translates text f p (Refused k) f p
-      unfolding verdictOf judged
-      says-sized z =
-          rw (enough, brief, sheet-many text, sizes)
-          (sized f p (ltb textLines (length (linesOf text))) (ltb mostStatements (length (reading fresh 1 (linesOf text)))) _ λ e. z (sizes ∙ e))
-
-      -- neither
-      few : k ≡ 0 → (ltb textLines (length (linesOf text)) ≡ false) × (ltb mostStatements (length (reading fresh 1 (linesOf text))) ≡ false)
-      few z = neither (ltb textLines (length (linesOf text))) (ltb mostStatements (length (reading fresh 1 (linesOf text)))) (sym sizes ∙ z)
-
-      pub sheet-few : k ≡ 0 → length (sheetOf text) ≤ mostStatements
-      sheet-few z = rw (sheet-many text) (ltb-false mostStatements (length (reading fresh 1 (linesOf text))) (few z .1))
-
-      pub says-judged : k ≡ 0 → (r : Verdict) {f′ p′ : List ℕ} → Judges text f p r f′ p′ → Translates text f p r f′ p′
+      pub says-three : textLines < length (linesOf text) → Translates text f p (Refused 3) f p
       unfolding verdictOf
-      says-judged z r w = rw (enough, brief, few z .0) w
+      says-three h = rw (enough, brief, lt-ltb textLines (length (linesOf text)) h)
+
+      module _ (lines : length (linesOf text) ≤ textLines) where
+        lined : ltb textLines (length (linesOf text)) ≡ false
+        lined = le-ltb textLines (length (linesOf text)) lines
+
+        pub says-four : mostStatements < length (reading fresh 1 (linesOf text)) → Translates text f p (Refused 4) f p
+        unfolding verdictOf judged
+        says-four h =
+            rw (enough, brief, lined, sheet-many text, lt-ltb mostStatements (length (reading fresh 1 (linesOf text))) h)
+
+        -- behind them the sheet's verdict is the text's
+        pub says-judged : (r : Verdict) {f′ p′ : List ℕ} → Judges text f p r f′ p′ → Translates text f p r f′ p′
+        unfolding verdictOf
+        says-judged r w = rw (enough, brief, lined) w
 
 -- the reply to a verdict has its number and count
 by-case : (v : Decision) (f p : List ℕ) → outcome (replyOf v f p .answer) (replyOf v f p .faults) (replyOf v f p .program) ≡ outcomeOf v f p

@@ -1,14 +1,13 @@
 -- What the parts of `translate` meet.
-use Prim.Native.Nat.{ℕ, suc, _+_, _-_, _*_, _≤_, _<_}
+use Prim.Native.Nat.{ℕ, suc, _+_, _-_, _*_, _/_, _≤_, _<_}
 use mathlib.Core.Path.{_≡_}
-use mathlib.Core.Bool.{Bool, true, false, cond}
+use mathlib.Core.Bool.{Bool, true, false}
 use mathlib.Core.List.{List, [], _∷_, _++_, map}
-use lib.Dec.{eqb, ltb}
+use lib.Dec.{ltb}
 use lib.ListN.{length, take, drop, set, replicate}
 use lib.Seq.{sets}
-use Rattle.limits.specs.Limits.{mostStatements, mostDefinitions, textBytes, textLines, faultRoom}
+use Rattle.limits.specs.Limits.{mostStatements, mostDefinitions, textBytes, faultRoom}
 use Rattle.deck.specs.declared.Cursor.{Cursor}
-use Rattle.deck.specs.declared.Sizes.{Sizes}
 use Rattle.bits.specs.Low.{lowBytes}
 use Rattle.deck.specs.Lines.{Line}
 use Rattle.deck.specs.Joined.{joined}
@@ -31,10 +30,6 @@ use Rattle.translator.specs.Verdict.{modelled, judged}
 use Rattle.translator.specs.declared.Told.{Told as Answer}
 use Rattle.translator.specs.declared.Told.the-variants.{Says, Faulty}
 use Rattle.translator.specs.declared.Tally.{Tally}
-use Rattle.translator.specs.declared.Reading.{Reading}
-use Rattle.translator.specs.declared.Reading.the-variants.{All, NoRoom}
-use Rattle.translator.specs.declared.room.Attempt.{Attempt}
-use Rattle.translator.specs.declared.room.Attempt.the-variants.{Given, NoRoom as NoRoom′}
 
 -- the kinds of drafts, and their arguments
 abbrev pub kindsOf : List Draft → List ℕ
@@ -85,10 +80,6 @@ pub record Stands (text : List ℕ) (start next : ℕ) (body : List ℕ) : Type 
   pub upto : next ≤ length text + 1
   pub same : take (next - 1 - start) (drop start text) ≡ body
 
--- a row has a place for each byte that a joined text of a text can have
-abbrev pub RowFits : List ℕ → List ℕ → Type 0
-RowFits text row = (n : ℕ) → n ≤ joinedRoom → n ≤ length text → n ≤ length row
-
 -- what reading the statement of so many lines asks: its joined text has room, and so have its drafts; of one line it is what stands there
 pub record Before (text : List ℕ) (start cards next code : ℕ) (ks us : List ℕ) (p : ℕ) (l u : List ℕ) : Type 0 where
   pub short : code ≡ 0 → length (joined (cardsAt text start cards)) ≤ joinedRoom
@@ -108,11 +99,11 @@ entryOf line code = lowBytes 2 line ++ (code ∷ 0 ∷ [])
 pub record Able (text : List ℕ) (first start cards : ℕ) (closed long : Bool) (next : ℕ) (n : Tally) (ks us kinds args lines bounds : List ℕ) : Type 0 where
   pub size : Size (cardsAt text start cards) closed (sizeCode cards closed long)
   pub before : Before text start cards next (sizeCode cards closed long) ks us (n .drafts) kinds args
-  pub first-fits : first < 65536
-  pub kinds-fit : length kinds < 65536
+  pub first-fits : first ≤ textBytes
+  pub drafts-fit : n .drafts + length (joined (cardsAt text start cards)) ≤ textBytes
   pub lines-room : n .statements < length lines
   pub bounds-room : n .statements + 1 < length bounds
-  pub faults-fit : n .faults < 65536
+  pub faults-fit : n .faults < mostStatements
 
 -- what it gives: where the statement says x, its drafts, its number and their end are noted; where it has a fault, that is listed
 abbrev pub AddsOf : Told → ℕ → Tally → List ℕ → List ℕ → List ℕ → List ℕ → List ℕ
@@ -156,18 +147,20 @@ pub record Progress (text list₀ : List ℕ) (c : Cursor) (n : Tally) (kinds ar
   pub short : n .drafts ≤ c .at
   pub within : n .drafts ≤ length text
 
--- the room that all of it needs, with any number of places for drafts
-pub record Room (text ks us kinds args lines bounds list : List ℕ) : Type 0 where
+-- a text that is not too large, and a list that has room for its faults
+pub record Taken (text list : List ℕ) : Type 0 where
   pub few : length (sheetOf text) ≤ mostStatements
   pub brief : length text ≤ textBytes
-  pub row-kinds : RowFits text ks
-  pub row-args : RowFits text us
-  pub even : length args ≡ length kinds
-  pub small : length kinds < 65536
-  pub lines-room : length (sheetOf text) ≤ length lines
-  pub bounds-room : length (sheetOf text) < length bounds
-  pub bounds-first : take 1 bounds ≡ 0 ∷ []
   pub list-room : faultRoom ≤ length list
+
+-- the room that all of it needs: a place for a draft for each byte, and for each statement
+pub record Room (text list kinds args lines bounds : List ℕ) : Type 0 where
+  pub taken : Taken text list
+  pub kinds-room : length text ≤ length kinds
+  pub args-room : length text ≤ length args
+  pub lines-room : mostStatements ≤ length lines
+  pub bounds-room : mostStatements < length bounds
+  pub bounds-first : take 1 bounds ≡ 0 ∷ []
 
 -- what reading all gives: the whole sheet is done
 pub record Read (text list₀ : List ℕ) (n : Tally) (kinds args lines bounds list : List ℕ) : Type 0 where
@@ -177,23 +170,6 @@ pub record Read (text list₀ : List ℕ) (n : Tally) (kinds args lines bounds l
   pub laid : Laid (said (sheetOf text)) (take (n .drafts) kinds) (take (n .drafts) args) (take (n .statements) lines) (take (suc (n .statements)) bounds)
   pub listed : list ≡ sets list₀ 0 (faultList (statementFaults (sheetOf text)))
   pub within : n .drafts ≤ length text
-
--- what it gives where the next statement's drafts might not fit: there are no more places for drafts than bytes. The reports before that
--- statement are `done`, and their faults stand in the list
-pub record Stopped (text list₀ kinds list : List ℕ) : Type 0 where
-  pub full : length kinds ≤ length text
-  pub done : Sheet
-  pub rest : Sheet
-  pub split : sheetOf text ≡ done ++ rest
-  pub listed : list ≡ sets list₀ 0 (faultList (statementFaults done))
-
--- one or the other, by the answer
-abbrev pub ReadsOf : Reading → List ℕ → List ℕ → List ℕ → List ℕ → List ℕ → List ℕ → List ℕ → Type 0
-ReadsOf (All n) text list₀ kinds args lines bounds list = Read text list₀ n kinds args lines bounds list
-ReadsOf NoRoom text list₀ kinds args lines bounds list = Stopped text list₀ kinds list
-
-pub record Reads (text list₀ : List ℕ) (r : Reading) (kinds args lines bounds list : List ℕ) : Type 0 where
-  pub by-answer : ReadsOf r text list₀ kinds args lines bounds list
 
 -- ---- from the sheet to the verdict
 
@@ -232,41 +208,10 @@ pub record Planned (p : Plan) (places rows order lines bounds kinds args : List 
 abbrev pub Concludes : List Numbered → List ℕ → List ℕ → Verdict → List ℕ → List ℕ → Type 0
 Concludes ss f p r f′ p′ = reply r f′ p′ ≡ replyOf (modelled (length p) ss) f p
 
--- the refusal for the count of lines or statements, 0 where there is none
-abbrev pub sizeNumber : Sizes → ℕ
-sizeNumber n = cond (ltb textLines (n .lines)) 3 (cond (ltb mostStatements (n .statements)) 4 0)
-
--- ---- the working room
-
--- a text that is not too large, and a list that has room for its faults
-abbrev pub Taken : List ℕ → List ℕ → Type 0
-Taken text list = (length (sheetOf text) ≤ mostStatements) × (length text ≤ textBytes) × (faultRoom ≤ length list)
-
--- what judging asks: room for all that is read of the text, and a place for a use of each draft
-pub record Roomy (text list ks us kinds args used lines bounds : List ℕ) : Type 0 where
-  pub room : Room text ks us kinds args lines bounds list
-  pub used-room : length kinds ≤ length used
-
 -- the answer r and the buffers f′ and p′ are what the sheet's verdict gives for the buffers f and p
 abbrev pub Judges : List ℕ → List ℕ → List ℕ → Verdict → List ℕ → List ℕ → Type 0
 Judges text f p r f′ p′ = reply r f′ p′ ≡ replyOf (judged (length p) (sheetOf text)) f p
 
--- no verdict was given: the text has at least as many bytes as there were places for drafts. The program is as it was, and a further attempt
--- with the list f′, on which some faults may stand already, gives what it would have given with the list f
-pub record Untold (text : List ℕ) (places : ℕ) (f p f′ p′ : List ℕ) : Type 0 where
-  pub full : places ≤ length text
-  pub program : p′ ≡ p
-  pub long : length f′ ≡ length f
-  pub same : replyOf (judged (length p) (sheetOf text)) f′ p ≡ replyOf (judged (length p) (sheetOf text)) f p
-
--- what an attempt with so many places for drafts gives, by the answer
-abbrev pub TriesOf : Attempt → List ℕ → ℕ → List ℕ → List ℕ → List ℕ → List ℕ → Type 0
-TriesOf (Given v) text places f p f′ p′ = Judges text f p v f′ p′
-TriesOf NoRoom′ text places f p f′ p′ = Untold text places f p f′ p′
-
-pub record Tries (text : List ℕ) (places : ℕ) (f p : List ℕ) (r : Attempt) (f′ p′ : List ℕ) : Type 0 where
-  pub by-answer : TriesOf r text places f p f′ p′
-
--- the places for drafts of a room by its number: the large one, the vast one, and any other the whole one
-abbrev pub roomPlaces : ℕ → ℕ
-roomPlaces room = cond (eqb room 0) 1536 (cond (eqb room 1) 5120 16385)
+-- the places for drafts of the room between the smallest and the largest
+abbrev pub quarter : ℕ
+quarter = textBytes / 4

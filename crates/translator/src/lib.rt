@@ -9,10 +9,9 @@ ghost use Rattle.tokens.specs.Row.{Placed, symbols, rowOf};
 ghost use Rattle.grammar.specs.Parser.{readRow};
 ghost use Rattle.deck.specs.Joined.{joined};
 ghost use Rattle.deck.specs.Next.{cardsAt};
-ghost use Rattle.deck.specs.Survey.{sizesOf};
 ghost use Rattle.sheet.specs.Reader.{parsed, tokened, told};
 ghost use Rattle.translator.specs.Working.{Tells, RowRoom, JoinedRoom, CardsRoom, Size, Before};
-ghost use Rattle.translator.specs.Working.{entryOf, Able, Adds, Room, Reads, sizeNumber};
+ghost use Rattle.translator.specs.Working.{entryOf, Able, Adds, Room, Read};
 ghost use Rattle.translator.specs.Contract.{Translates};
 
 mod finish;
@@ -45,12 +44,6 @@ struct Tally {
     statements: usize,
     drafts: usize,
     faults: usize,
-}
-
-// What reading all statements gives: how many there are, or that their drafts do not fit.
-enum Reading {
-    All(Tally),
-    NoRoom,
 }
 
 // ---- one statement
@@ -212,22 +205,21 @@ fn read_one(
     }
 }
 
-// Reads all statements of a text; the tokens of one are held in two lent rows. It stops where the drafts have too little room left: a statement
-// has no more drafts than there are bytes from its start to the next.
+// Reads all statements of a text.
 fn read_all(
     text: &[u8],
-    row_kinds: &mut [u8],
-    row_args: &mut [u64],
     kinds: &mut [u8],
     args: &mut [u64],
     lines: &mut [u16],
     bounds: &mut [u16],
     list: &mut [u8],
-) -> Reading
-    requires { ⌜ Room (now text) (now «row_kinds») (now «row_args») (now kinds) (now args) (now lines) (now bounds) (now list) ⌝ }
-    ensures { λ r. ⌜ Reads (now (text .entry)) (now (list .entry)) r
+) -> Tally
+    requires { ⌜ Room (now text) (now list) (now kinds) (now args) (now lines) (now bounds) ⌝ }
+    ensures { λ r. ⌜ Read (now (text .entry)) (now (list .entry)) r
         (now (kinds .exit)) (now (args .exit)) (now (lines .exit)) (now (bounds .exit)) (now (list .exit)) ⌝ }
 {
+    let mut row_kinds = [0u8; deck::JOINED_BYTES];
+    let mut row_args = [0u64; deck::JOINED_BYTES];
     let mut n = Tally {
         statements: 0,
         drafts: 0,
@@ -245,11 +237,8 @@ fn read_all(
             next,
         } = found
         else {
-            return Reading::All(n);
+            return n;
         };
-        if kinds.len() - n.drafts < next.at - start {
-            return Reading::NoRoom;
-        }
         n = read_one(
             text,
             first,
@@ -259,8 +248,8 @@ fn read_all(
             long,
             next.at,
             n,
-            &mut *row_kinds,
-            &mut *row_args,
+            &mut row_kinds,
+            &mut row_args,
             &mut *kinds,
             &mut *args,
             &mut *lines,
@@ -273,29 +262,11 @@ fn read_all(
 
 // ---- the entry
 
-// The refusal for the count of lines or statements, 3 or 4, or 0. Where a text has few bytes or lines, it has few statements.
-fn size_number(text: &[u8]) -> u8
-    ensures { λ r. ⌜ r ≡ sizeNumber (sizesOf (now (text .entry))) ⌝ }
-{
-    if text.len() <= STATEMENTS {
-        return 0;
-    }
-    if deck::line_count(text) <= STATEMENTS {
-        return 0;
-    }
-    let sizes = deck::survey(text);
-    if TEXT_LINES < sizes.lines {
-        return 3;
-    }
-    if STATEMENTS < sizes.statements {
-        return 4;
-    }
-    0
-}
-
 // The verdict on a text: its number, the count, and the fault list or the program written to the front of what is lent.
+// Few bytes or few lines have few statements, which are not counted then.
 pub fn translate(text: &[u8], faults: &mut [u8], program: &mut [u8]) -> Verdict
-    ensures { λ r. ⌜ Translates (now (text .entry)) (now (faults .entry)) (now (program .entry)) r (now (faults .exit)) (now (program .exit)) ⌝ }
+    ensures { λ r. ⌜ Translates (now (text .entry)) (now (faults .entry)) (now (program .entry)) r
+        (now (faults .exit)) (now (program .exit)) ⌝ }
 {
     if faults.len() < FAULT_ROOM {
         return Verdict::Refused(1);
@@ -303,9 +274,18 @@ pub fn translate(text: &[u8], faults: &mut [u8], program: &mut [u8]) -> Verdict
     if TEXT_BYTES < text.len() {
         return Verdict::Refused(2);
     }
-    let number = size_number(text);
-    if number != 0 {
-        return Verdict::Refused(number);
+    if text.len() <= STATEMENTS {
+        return room::in_small_room(text, faults, program);
     }
-    room::in_some_room(text, faults, program)
+    if deck::line_count(text) <= STATEMENTS {
+        return room::in_large_room(text, faults, program);
+    }
+    let sizes = deck::survey(text);
+    if TEXT_LINES < sizes.lines {
+        return Verdict::Refused(3);
+    }
+    if STATEMENTS < sizes.statements {
+        return Verdict::Refused(4);
+    }
+    room::in_large_room(text, faults, program)
 }

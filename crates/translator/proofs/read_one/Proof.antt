@@ -48,7 +48,7 @@ cast-bounds c =
     let r = c .before .before .before .before .before .before .before .before .before .before .before in
     let s = B (Z r) in
     let few = drafts-few (C s) (s .args .closed) in
-    omega (arith, end-near (s .args .n) (tells r) (length (joined (C s))) few (c .before .r .given .1), s .pre .before .room-kinds, s .pre .kinds-fit)
+    omega (arith, end-near (s .args .n) (tells r) (length (joined (C s))) few (c .before .r .given .1), s .pre .drafts-fit)
 
 slice-write-lines : tie.Need-slice-write-lines
 slice-write-lines c =

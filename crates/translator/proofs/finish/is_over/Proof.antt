@@ -1,5 +1,4 @@
 -- Where the drafts are few, so are the records; else they are counted.
-use mathlib.Core.Path.{_∙_, sym}
 use native.Mathlib.Omega.{arith}
 use borrow.Author.Needs.{needs}
 use borrow.Author.Tests.{lt-ltb, le-ltb}

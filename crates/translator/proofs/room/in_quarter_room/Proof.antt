@@ -1,0 +1,25 @@
+-- A quarter of the largest room.
+use borrow.Author.Needs.{needs}
+use Rattle.translator.specs.Working.{quarter}
+use Rattle.translator.proofs.Rooms.{room-of}
+use Rattle.translator.proofs.room.in_quarter_room.Statement.{statement}
+use Rattle.translator.proofs.room.in_quarter_room.Tie as tie
+
+judge-requires : tie.Need-judge-requires
+judge-requires c κs =
+    let start = c .before .before .before .before .before .before .before .before .before .before in
+    (room-of quarter (start .pre .0) (start .pre .1), start .pre .1)
+
+pub in-quarter-room-spec : {M : Type 1} → statement M
+in-quarter-room-spec =
+    tie.close
+    (tie.spec
+    (λ c. search needs)
+    (λ c. search needs)
+    (λ c. search needs)
+    (λ c. search needs)
+    (λ c. search needs)
+    judge-requires
+    (λ c. search needs)
+    (λ c. search needs)
+    (λ c. search needs))
