@@ -7,7 +7,7 @@ use native.Mathlib.Omega.{arith}
 use borrow.Author.Tests.{lt-ltb, ltb-true, ltb-false}
 use mathlib.Core.Logic.{⊎-elim}
 use lib.Dec.{ltb}
-use lib.ListN.{length, length-map, length-replicate}
+use lib.ListN.{length, replicate, length-map, length-replicate}
 use lib.Seq.{sets}
 use Rattle.limits.specs.Limits.{mostDefinitions, mostStatements}
 use Rattle.sheet.specs.Sheet.{Numbered, Fault, faultList}
@@ -23,9 +23,9 @@ use Rattle.model.proofs.Clean.{order-good}
 use Rattle.model.specs.Definitions.{Def, definitions, equationCount}
 use Rattle.model.specs.Faults.{faults21, nameFaults, faults24, modelFaults, orderOf, usesIn as uses}
 use Rattle.model.specs.Places.{keysIn, placesIn, doubles, resolved, nameless, equationRows, assignedSlots, usedIn, startsFrom, loopAt, loops}
-use Rattle.model.specs.Plan.{Lent, lent, Outcome, outcome, refused, faulted, some, fit, closed, weighed, tested, tabled, named, distinct}
+use Rattle.model.specs.Plan.{Lent, lent, PlanOutcome, planOutcome, refused, faulted, some, fit, orderedPlan, weighed, tested, linkedPlan, distinct}
 use Rattle.model.specs.Plan.{sheeted, planned}
-use Rattle.translator.specs.Working.{zeros, blank, held}
+use Rattle.translator.specs.Working.{blank, held}
 use Rattle.model.proofs.Meant.{keys-meant, doubles-meant, names-meant, rows-meant, order-meant, loops-meant}
 
 -- without a 24 all equations are placed
@@ -75,25 +75,25 @@ module _ (ss : List Numbered) (kinds args lines bounds : List ℕ) (laid : Laid 
 
   -- the three arrays: with the places; with the equations too; with their order too
   abbrev placed : Lent
-  placed = lent (held places) zeros zeros
+  placed = lent (held mostDefinitions places) (replicate mostStatements 0) (replicate mostStatements 0)
 
   abbrev ruled : Lent
-  ruled = lent (held places) (held rows) zeros
+  ruled = lent (held mostDefinitions places) (held mostStatements rows) (replicate mostStatements 0)
 
   abbrev filled : Lent
-  filled = lent (held places) (held rows) (held (orderOf ds))
+  filled = lent (held mostDefinitions places) (held mostStatements rows) (held mostStatements (orderOf ds))
 
   -- the plan of a sheet without fault
-  abbrev pub whole : Outcome
-  whole =
-      outcome (record { number = 0; count = 0; definitions = length places; equations = length rows }) slots (sets used 0 table) faults filled
+  abbrev pub soundPlan : PlanOutcome
+  soundPlan =
+      planOutcome (record { number = 0; count = 0; definitions = length places; equations = length rows }) slots (sets used 0 table) faults filled
 
   -- too many definitions; or faults, listed; or none
-  pub data Conclusion (o : Outcome) : Type 0 where
+  pub data Conclusion (o : PlanOutcome) : Type 0 where
     many : ltb mostDefinitions (length ds) ≡ true → o .plan .number ≡ 6 → o .faults ≡ faults → Conclusion o
     flawed : (f : Fault) (fs : List Fault) → ltb mostDefinitions (length ds) ≡ false → modelFaults ss ≡ f ∷ fs → o .plan .number ≡ 7
         → o .plan .count ≡ length (f ∷ fs) → o .faults ≡ sets faults 0 (faultList (f ∷ fs)) → Conclusion o
-    sound : ltb mostDefinitions (length ds) ≡ false → modelFaults ss ≡ [] → o ≡ whole → Conclusion o
+    sound : ltb mostDefinitions (length ds) ≡ false → modelFaults ss ≡ [] → o ≡ soundPlan → Conclusion o
 
   count-keys : length (keysIn kinds args) ≡ length ds
   count-keys = ap length (keys-meant ss kinds args lines bounds laid) ∙ length-map ds (λ (d : Def). d .key)
@@ -109,7 +109,7 @@ module _ (ss : List Numbered) (kinds args lines bounds : List ℕ) (laid : Laid 
     -- 24: fewer are placed than there are, and these are the faults; or all are, and there is none
     by-loops : faults21 [] ss ≡ [] → nameFaults ds ds ≡ []
         → Conclusion (weighed rows (length places) lines bounds kinds slots (sets used 0 table) faults ruled)
-    unfolding weighed closed modelFaults
+    unfolding weighed orderedPlan modelFaults
     by-loops e g =
         rw (order-meant ss kinds args lines bounds laid e) (go (ltb (length (orderOf ds)) (length rows)) refl)
       where
@@ -125,13 +125,13 @@ module _ (ss : List Numbered) (kinds args lines bounds : List ℕ) (laid : Laid 
         fewer (f ∷ fs) q h = flawed-by f fs slots (sets used 0 table) filled (model ∙ q)
 
         go : (b : Bool) → ltb (length (orderOf ds)) (length rows) ≡ b
-            → Conclusion (cond b (faulted (loops (orderOf ds) rows lines) slots (sets used 0 table) faults filled) whole)
+            → Conclusion (cond b (faulted (loops (orderOf ds) rows lines) slots (sets used 0 table) faults filled) soundPlan)
         go true t = fewer (loops (orderOf ds) rows lines) refl (ltb-true (length (orderOf ds)) (length rows) t)
         go false t = sound few (model ∙ no-loops ds rows lines (omega (arith, ltb-false (length (orderOf ds)) (length rows) t, n)) n) refl
 
     -- 22 and 23
-    by-names : faults21 [] ss ≡ [] → Conclusion (named places lines bounds kinds slots used faults placed)
-    unfolding named tabled tested modelFaults
+    by-names : faults21 [] ss ≡ [] → Conclusion (linkedPlan places lines bounds kinds slots used faults placed)
+    unfolding linkedPlan tested modelFaults
     by-names e = go (nameless places lines bounds kinds slots) refl
       where
         go : (fs : List Fault) → nameless places lines bounds kinds slots ≡ fs
@@ -147,17 +147,17 @@ module _ (ss : List Numbered) (kinds args lines bounds : List ℕ) (laid : Laid 
     by-doubles = go (doubles lines bounds kinds args) refl
       where
         go : (fs : List Fault) → doubles lines bounds kinds args ≡ fs
-            → Conclusion (cond (some fs) (faulted fs args used faults placed) (named places lines bounds kinds slots used faults placed))
+            → Conclusion (cond (some fs) (faulted fs args used faults placed) (linkedPlan places lines bounds kinds slots used faults placed))
         go [] q = by-names (sym (doubles-meant ss kinds args lines bounds laid) ∙ q)
         go (f ∷ fs) q = rw (some-cons f fs) (flawed-by f fs args used placed (rw (sym (doubles-meant ss kinds args lines bounds laid) ∙ q)))
 
   -- CONCLUSION: of arrays that fit, what is planned is one of the three
-  pub concluded : fit lines bounds kinds (length args) (length used) (length faults) mostStatements mostStatements mostStatements ≡ true
+  pub concluded : fit lines bounds kinds (length args) (length used) (length faults) mostDefinitions mostStatements mostStatements ≡ true
       → Conclusion (planned lines bounds kinds args used faults blank)
   unfolding planned sheeted
-  concluded h = rw (length-replicate {A = ℕ} mostStatements 0, h, count-keys) (go (ltb mostDefinitions (length ds)) refl)
+  concluded h = rw (length-replicate {A = ℕ} mostDefinitions 0, length-replicate {A = ℕ} mostStatements 0, h, count-keys) (go (ltb mostDefinitions (length ds)) refl)
     where
       go : (b : Bool) → ltb mostDefinitions (length ds) ≡ b
-          → Conclusion (cond b (outcome (refused 6 0) args used faults placed) (distinct lines bounds kinds args used faults placed))
+          → Conclusion (cond b (planOutcome (refused 6 0) args used faults placed) (distinct lines bounds kinds args used faults placed))
       go true t = many t refl refl
       go false t = by-doubles t

@@ -16,7 +16,7 @@ use Rattle.sheet.specs.Layout.{Laid}
 use Rattle.model.specs.Definitions.{Def, definitions}
 use Rattle.model.specs.Faults.{modelFaults, orderOf}
 use Rattle.model.specs.Places.{keysIn, placesIn, resolved, equationRows}
-use Rattle.model.specs.Plan.{Outcome}
+use Rattle.model.specs.Plan.{PlanOutcome}
 use Rattle.records.specs.Record.{Rec, recBytes, programBytes}
 use Rattle.program.specs.Program.{program}
 use Rattle.program.specs.Written.{recordCount, writtenProgram}
@@ -25,7 +25,7 @@ use Rattle.translator.specs.declared.Verdict.{Verdict}
 use Rattle.translator.specs.declared.Verdict.the-variants.{Refused, Faulty, Translated}
 use Rattle.translator.specs.Verdict.{programmed, modelled}
 use Rattle.translator.specs.Contract.{reply, replyOf}
-use Rattle.translator.proofs.Concluding.{whole, Conclusion, many, flawed, sound}
+use Rattle.translator.proofs.Concluding.{soundPlan, Conclusion, many, flawed, sound}
 
 -- a record has 16 bytes
 pub length-program : (rs : List Rec) → length (programBytes rs) ≡ recordBytes * length rs
@@ -49,7 +49,7 @@ module _ (ss : List Numbered) (kinds args lines bounds : List ℕ) (laid : Laid 
   abbrev pub Decides : Verdict → List ℕ → List ℕ → Type 0
   Decides r f p = reply r f p ≡ replyOf (modelled (length prog) ss) faults prog
 
-  module _ (o : Outcome) (c : Conclusion ss kinds args lines bounds laid used faults o) where
+  module _ (o : PlanOutcome) (c : Conclusion ss kinds args lines bounds laid used faults o) where
     -- number 6
     pub decides-six : o .plan .number ≡ 6 → Decides (Refused 6) (o .faults) prog
     decides-six e = go c
@@ -57,7 +57,7 @@ module _ (ss : List Numbered) (kinds args lines bounds : List ℕ) (laid : Laid 
         go : Conclusion ss kinds args lines bounds laid used faults o → Decides (Refused 6) (o .faults) prog
         go (many t n f) = rw (t, f)
         go (flawed f fs t m n k l) = absurd (omega arith)
-        go (sound t m q) = absurd (let z : 0 ≡ 6 = sym (ap (λ (x : Outcome). x .plan .number) q) ∙ e in omega arith)
+        go (sound t m q) = absurd (let z : 0 ≡ 6 = sym (ap (λ (x : PlanOutcome). x .plan .number) q) ∙ e in omega arith)
 
     -- number 7
     pub decides-seven : o .plan .number ≡ 7 → Decides (Faulty 7 (o .plan .count)) (o .faults) prog
@@ -66,15 +66,15 @@ module _ (ss : List Numbered) (kinds args lines bounds : List ℕ) (laid : Laid 
         go : Conclusion ss kinds args lines bounds laid used faults o → Decides (Faulty 7 (o .plan .count)) (o .faults) prog
         go (many t n f) = absurd (omega arith)
         go (flawed f fs t m n k l) = rw (t, m, k, l)
-        go (sound t m q) = absurd (let z : 0 ≡ 7 = sym (ap (λ (x : Outcome). x .plan .number) q) ∙ e in omega arith)
+        go (sound t m q) = absurd (let z : 0 ≡ 7 = sym (ap (λ (x : PlanOutcome). x .plan .number) q) ∙ e in omega arith)
 
     -- neither: the model is sound
     pub decides-sound : (o .plan .number ≡ 6 → ⊥) → (o .plan .number ≡ 7 → ⊥)
-        → (ltb mostDefinitions (length ds) ≡ false) × (modelFaults ss ≡ []) × (o ≡ whole ss kinds args lines bounds laid used faults)
+        → (ltb mostDefinitions (length ds) ≡ false) × (modelFaults ss ≡ []) × (o ≡ soundPlan ss kinds args lines bounds laid used faults)
     decides-sound a b = go c
       where
         go : Conclusion ss kinds args lines bounds laid used faults o
-            → (ltb mostDefinitions (length ds) ≡ false) × (modelFaults ss ≡ []) × (o ≡ whole ss kinds args lines bounds laid used faults)
+            → (ltb mostDefinitions (length ds) ≡ false) × (modelFaults ss ≡ []) × (o ≡ soundPlan ss kinds args lines bounds laid used faults)
         go (many t n f) = absurd (a n)
         go (flawed f fs t m n k l) = absurd (b n)
         go (sound t m q) = (t, m, q)

@@ -9,7 +9,7 @@ use native.Mathlib.Nat.{add-zero}
 use borrow.Author.Tests.{le-leb, eq-eqb, le-ltb}
 use lib.Dec.{eqb, leb}
 use lib.ListN.{length, getD, length-append, length-map}
-use Rattle.limits.specs.Limits.{mostStatements, textBytes, faultBytes}
+use Rattle.limits.specs.Limits.{mostStatements, mostDefinitions, textBytes, faultBytes}
 use Rattle.laws.specs.Lists.{concat-map}
 use Rattle.laws.specs.Places.{anyIn}
 use Rattle.laws.proofs.Gathers.{none-any}
@@ -45,7 +45,7 @@ bounds-rise o (s ∷ ss) (suc j) h = bounds-rise (o + length (draftsOf (s .says)
 -- FIT: with room for all
 pub laid-fits : (ss : List Numbered) (kinds args lines bounds : List ℕ) → Laid ss kinds args lines bounds → (a u f : ℕ)
     → length ss ≤ mostStatements → length kinds ≤ textBytes → length kinds ≤ a → length kinds ≤ u → faultBytes * length ss ≤ f
-    → fit lines bounds kinds a u f mostStatements mostStatements mostStatements ≡ true
+    → fit lines bounds kinds a u f mostDefinitions mostStatements mostStatements ≡ true
 unfolding fit roomy inTurn
 laid-fits ss kinds args lines bounds laid a u f few short ha hu hf =
     let n : length lines ≡ length ss = ap length (laid .lines-held) ∙ length-map ss (λ (s : Numbered). s .line) in
@@ -57,7 +57,8 @@ laid-fits ss kinds args lines bounds laid a u f few short ha hu hf =
     eq-eqb (getD bounds (length lines) 0) (length kinds) (rw (n, laid .bounds-held) (omega (arith, bounds-end 0 ss, m))) in
     let turn : not (anyIn (falls bounds) (length lines) 0) ≡ true = rw (n, none-any (falls bounds) (length ss) 0 rises) in
     let most : leb mostStatements mostStatements ≡ true = le-leb mostStatements mostStatements (omega arith) in
-    let room : roomy mostStatements mostStatements mostStatements ≡ true = and-both _ _ most (and-both _ _ most most) in
+    let room : roomy mostDefinitions mostStatements mostStatements ≡ true =
+    and-both _ _ (le-leb mostDefinitions mostDefinitions (omega arith)) (and-both _ _ most most) in
     and-both _ _ (le-leb (length lines) mostStatements (omega arith))
     (and-both _ _ (eq-eqb (length bounds) (length lines + 1) (rw (laid .bounds-held) (omega (arith, bounds-many 0 ss, n))))
     (and-both _ _ (le-leb _ _ short)

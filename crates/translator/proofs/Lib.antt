@@ -3,7 +3,6 @@ pub mod Progress
 mod Telling
 mod Parsing
 mod Turns
-mod Entries
 pub mod Concluding
 pub mod Deciding
 pub mod Fitting

@@ -12,7 +12,6 @@ use Rattle.laws.specs.Lists.{concat-map}
 use Rattle.laws.proofs.Lists.{concat-append}
 use Rattle.laws.proofs.Concats.{map-append}
 use Rattle.laws.proofs.Sets.{sets-append}
-use Rattle.bits.specs.Low.{lowBytes}
 use Rattle.deck.specs.Faults.{Place}
 use Rattle.deck.specs.Reading.{Statement}
 use Rattle.deck.specs.Reports.{Report, report}
@@ -21,10 +20,11 @@ use Rattle.deck.specs.declared.Cursor.{Cursor}
 use Rattle.deck.proofs.Walking.{Walk}
 use Rattle.drafts.specs.Tree.{Says}
 use Rattle.drafts.specs.Drafts.{Draft, draftsOf}
-use Rattle.sheet.specs.Sheet.{Told, says, faulty, Sheet, Numbered, said, Fault, statementFaults, faultEntry, faultList}
+use Rattle.limits.specs.Limits.{faultBytes}
+use Rattle.sheet.specs.Sheet.{Told, says, faulty, Sheet, Numbered, said, Fault, statementFaults, entryOf, faultEntry, faultList}
 use Rattle.sheet.specs.Reader.{told, sheetOf}
 use Rattle.sheet.specs.Layout.{draftsIn, boundsFrom}
-use Rattle.model.proofs.Reporting.{list-length}
+use Rattle.sheet.proofs.Entries.{list-length}
 use Rattle.translator.specs.declared.Tally.{Tally}
 use Rattle.translator.specs.Working.{kindsOf, argsOf, Progress, Read}
 
@@ -157,7 +157,7 @@ module _ {text list₀ kinds args lines bounds list : List ℕ} {c : Cursor} {n 
   -- it has a fault: what is held stays, and the fault is listed behind those before it
   pub progress-faulty : (code : ℕ) (q : Place) → told (cardsAt text s k) d ≡ faulty code q → (kinds′ args′ list′ : List ℕ)
       → take (n .drafts) kinds′ ≡ take (n .drafts) kinds → take (n .drafts) args′ ≡ take (n .drafts) args
-      → list′ ≡ sets list (n .faults * 4) (lowBytes 2 f ++ (code ∷ 0 ∷ []))
+      → list′ ≡ sets list (faultBytes * n .faults) (entryOf f code)
       → Progress text list₀ nx (record { statements = n .statements; drafts = n .drafts; faults = n .faults + 1 }) kinds′ args′ lines bounds list′
   unfolding here concat-map faultEntry
   progress-faulty code q e kinds′ args′ list′ hk ha hl =
@@ -166,7 +166,7 @@ module _ {text list₀ kinds args lines bounds list : List ℕ} {c : Cursor} {n 
       let new : Fault = record { line = f; code = code; place = q } in
       let more : statementFaults done ≡ old ++ (new ∷ []) = faults-snoc (p .done) (here (faulty code q)) in
       let same : said done ≡ said (p .done) = said-snoc (p .done) (here (faulty code q)) ∙ append-nil (said (p .done)) in
-      let at : n .faults * 4 ≡ 0 + length (faultList old) = omega (arith, p .faults, list-length old) in
+      let at : faultBytes * n .faults ≡ 0 + length (faultList old) = omega (arith, p .faults, list-length old) in
       record {
         done = done;
         split = split-next e;

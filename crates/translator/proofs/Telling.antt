@@ -22,12 +22,13 @@ use Rattle.tokens.proofs.Answers.{ends-well, ends-badly}
 use Rattle.drafts.specs.Tree.{Says as Statement}
 use Rattle.drafts.specs.Drafts.{draftsOf}
 use Rattle.grammar.specs.Parser.{readRow}
-use Rattle.sheet.specs.Sheet.{Told, says, faulty}
+use Rattle.limits.specs.Limits.{faultBytes}
+use Rattle.sheet.specs.Sheet.{Told, says, faulty, entryOf}
 use Rattle.sheet.specs.Reader.{parsed, scanned, tokened, sized, told}
 use Rattle.translator.specs.declared.Told.{Told as Answer}
 use Rattle.translator.specs.declared.Told.the-variants.{Says, Faulty}
 use Rattle.translator.specs.declared.Tally.{Tally}
-use Rattle.translator.specs.Working.{TellsOf, Tells, Size, entryOf, AddsOf, Adds}
+use Rattle.translator.specs.Working.{TellsOf, Tells, Size, AddsOf, Adds}
 
 -- ---- what is told
 
@@ -125,7 +126,7 @@ module _ {t : Told} {l u l′ u′ : List ℕ} {r : Answer} (n : Tally) (w : Tel
       go (faulty c q) (a, b, d) = absurd (let z : _≡_ {A = ℕ} 0 1 = cc in omega arith)
 
   -- where it has a fault, that is listed
-  pub adds-faulty : {code : ℕ} (first : ℕ) (ls bs fs fs′ : List ℕ) → r ≡ Faulty code → fs′ ≡ sets fs (n .faults * 4) (entryOf first code)
+  pub adds-faulty : {code : ℕ} (first : ℕ) (ls bs fs fs′ : List ℕ) → r ≡ Faulty code → fs′ ≡ sets fs (faultBytes * n .faults) (entryOf first code)
       → Adds t first n l u ls bs fs (record { statements = n .statements; drafts = n .drafts; faults = n .faults + 1 }) l′ u′ ls bs fs′
   adds-faulty {code} first ls bs fs fs′ e f = record { long-kinds = w .long-kinds; long-args = w .long-args; by-told = go t (w .by-told) }
     where
@@ -134,4 +135,4 @@ module _ {t : Told} {l u l′ u′ : List ℕ} {r : Answer} (n : Tally) (w : Tel
       go (says x) (a, b, c) = absurd (let z : _≡_ {A = ℕ} 0 1 = cc in omega arith)
       go (faulty c q) (a, b, d) =
           let k : code ≡ c = cc in
-          (refl, b, d, refl, refl, f ∙ ap (λ (c : ℕ). sets fs (n .faults * 4) (entryOf first c)) k)
+          (refl, b, d, refl, refl, f ∙ ap (λ (c : ℕ). sets fs (faultBytes * n .faults) (entryOf first c)) k)

@@ -5,39 +5,40 @@ use mathlib.Core.Bool.{Bool, true, false, _||_}
 use mathlib.Core.List.{List, []}
 use native.Mathlib.Omega.{arith}
 use native.Mathlib.Nat.{zero-add}
-use borrow.Author.Tests.{ltb-true, ltb-false}
-use lib.Dec.{ltb}
-use lib.ListN.{length, take, length-replicate}
+use borrow.Author.Tests.{leb-true, ltb-true, ltb-false}
+use lib.Dec.{leb, ltb}
+use lib.ListN.{length, take, replicate, length-replicate}
 use lib.Seq.{sets, length-sets, length-take-le, take-all}
 use Rattle.limits.specs.Limits.{mostDefinitions, mostStatements, mostRecords, recordBytes}
+use Rattle.laws.proofs.Tests.{and-true}
 use Rattle.laws.proofs.Bools.{or-false}
 use Rattle.sheet.specs.Sheet.{Numbered}
 use Rattle.sheet.specs.Layout.{Laid}
 use Rattle.model.specs.Definitions.{Def, definitions, equationCount}
 use Rattle.model.specs.Faults.{modelFaults, orderOf}
 use Rattle.model.specs.Places.{placesIn, equationRows}
-use Rattle.model.specs.Plan.{lent, Outcome, outcome, Plans}
+use Rattle.model.specs.Plan.{lent, PlanOutcome, planOutcome, Plans, fit}
 use Rattle.model.specs.declared.answer.Plan.{Plan}
 use Rattle.model.proofs.Clean.{no-faults}
+use Rattle.model.proofs.Staging.{rows-few}
 use Rattle.model.proofs.Meant.{places-meant, rows-meant}
 use Rattle.program.specs.Written.{recordCount, writtenProgram, fitting}
 use Rattle.translator.specs.declared.Verdict.{Verdict}
 use Rattle.translator.specs.declared.Verdict.the-variants.{Refused, Faulty, Translated}
-use Rattle.translator.specs.Working.{zeros, blank, held, Ready, Planned, Concludes}
-use Rattle.translator.proofs.Counted.{equations-few}
+use Rattle.translator.specs.Working.{blank, held, Ready, Planned, Concludes}
 use Rattle.translator.proofs.Progress.{take-sets}
-use Rattle.translator.proofs.Concluding.{Conclusion, concluded, whole, all-placed}
+use Rattle.translator.proofs.Concluding.{Conclusion, concluded, soundPlan, all-placed}
 use Rattle.translator.proofs.Deciding.{written, decides-six, decides-seven, decides-sound, decides-eight, decides-eight′, decides-zero}
 use Rattle.translator.proofs.Deciding.{program-long}
 
 -- a row that an array holds stands at its front
-pub take-held : (l : List ℕ) (n : ℕ) → n ≡ length l → length l ≤ mostStatements → take n (held l) ≡ l
-take-held l n e h =
-    let m : length zeros ≡ mostStatements = length-replicate {A = ℕ} mostStatements 0 in
-    ap (λ (k : ℕ). take k (sets zeros 0 l)) (e ∙ sym (zero-add (length l))) ∙ take-sets zeros 0 l (omega (arith, m, h))
+pub take-held : (m : ℕ) (l : List ℕ) (n : ℕ) → n ≡ length l → length l ≤ m → take n (held m l) ≡ l
+take-held m l n e h =
+    let long = length-replicate {A = ℕ} m 0 in
+    ap (λ (k : ℕ). take k (sets (replicate m 0) 0 l)) (e ∙ sym (zero-add (length l))) ∙ take-sets (replicate m 0) 0 l (omega (arith, long, h))
 
-length-held : (l : List ℕ) → length (held l) ≡ mostStatements
-length-held l = length-sets zeros 0 l ∙ length-replicate {A = ℕ} mostStatements 0
+length-held : (m : ℕ) (l : List ℕ) → length (held m l) ≡ m
+length-held m l = length-sets (replicate m 0) 0 l ∙ length-replicate {A = ℕ} m 0
 
 -- a front has its length
 pub front : (n : ℕ) (l : List ℕ) → n ≤ length l → n ≡ length (take n l)
@@ -60,37 +61,37 @@ module _ {p : Plan} {places rows order lines bounds kinds args : List ℕ} (s : 
   order-many : length (orderOf ds) ≡ equationCount ds
   order-many = all-placed ds (no-faults (s .statements) (s .clean) .2)
 
-  places-short : length (placesIn kinds) ≤ mostStatements
+  places-short : length (placesIn kinds) ≤ mostDefinitions
   places-short = omega (arith, places-many, few)
 
   rows-short : length (equationRows (length lines) bounds kinds) ≤ mostStatements
-  rows-short = omega (arith, rows-many, few, equations-few ds)
+  rows-short = omega (arith, rows-few (length lines) bounds kinds, s .short)
 
   order-short : length (orderOf ds) ≤ mostStatements
-  order-short = omega (arith, order-many, few, equations-few ds)
+  order-short = omega (arith, order-many, rows-many, rows-short)
 
   -- the three rows, cut from their arrays
   pub places-room : p .definitions ≤ length places
-  places-room = rw (s .places-held, length-held (placesIn kinds)) (omega (arith, s .definitions-counted, places-short))
+  places-room = rw (s .places-held, length-held mostDefinitions (placesIn kinds)) (omega (arith, s .definitions-counted, places-short))
 
   pub rows-room : p .equations ≤ length rows
-  rows-room = rw (s .rows-held, length-held (equationRows (length lines) bounds kinds)) (omega (arith, s .equations-counted, rows-short))
+  rows-room = rw (s .rows-held, length-held mostStatements (equationRows (length lines) bounds kinds)) (omega (arith, s .equations-counted, rows-short))
 
   pub order-room : p .equations ≤ length order
-  order-room = rw (s .order-held, length-held (orderOf ds)) (omega (arith, s .equations-counted, rows-short))
+  order-room = rw (s .order-held, length-held mostStatements (orderOf ds)) (omega (arith, s .equations-counted, rows-short))
 
   pub places-cut : take (p .definitions) places ≡ placesIn kinds
-  places-cut = rw (s .places-held) (take-held (placesIn kinds) (p .definitions) (s .definitions-counted) places-short)
+  places-cut = rw (s .places-held) (take-held mostDefinitions (placesIn kinds) (p .definitions) (s .definitions-counted) places-short)
 
   pub rows-cut : take (p .equations) rows ≡ equationRows (length lines) bounds kinds
   rows-cut =
       rw (s .rows-held)
-      (take-held (equationRows (length lines) bounds kinds) (p .equations) (s .equations-counted) rows-short)
+      (take-held mostStatements (equationRows (length lines) bounds kinds) (p .equations) (s .equations-counted) rows-short)
 
   pub order-cut : take (p .equations) order ≡ orderOf ds
   order-cut =
       rw (s .order-held)
-      (take-held (orderOf ds) (p .equations) (s .equations-counted ∙ rows-many ∙ sym order-many) order-short)
+      (take-held mostStatements (orderOf ds) (p .equations) (s .equations-counted ∙ rows-many ∙ sym order-many) order-short)
 
   -- what is written is the program's bytes
   pub written-cut : {r₁ r₂ r₃ : List ℕ} → r₁ ≡ take (p .definitions) places → r₂ ≡ take (p .equations) rows
@@ -146,11 +147,15 @@ module _ {lines bounds kinds args used faults : List ℕ} (ready : Ready lines b
     {p : Plan} {args′ used′ faults′ places rows order : List ℕ}
     (plans : Plans lines bounds kinds args used faults blank p args′ used′ faults′ (lent places rows order))
     (ss : List Numbered) (laid : Laid ss kinds args lines bounds) (out : List ℕ) where
-  abbrev reached : Outcome
-  reached = outcome p args′ used′ faults′ (lent places rows order)
+  abbrev reached : PlanOutcome
+  reached = planOutcome p args′ used′ faults′ (lent places rows order)
 
   conclusion : Conclusion ss kinds args lines bounds laid used faults reached
   conclusion = rw plans (concluded ss kinds args lines bounds laid used faults (ready .fits))
+
+  lines-short : length lines ≤ mostStatements
+  unfolding fit
+  lines-short = leb-true _ _ (and-true (leb (length lines) mostStatements) _ (ready .fits) .0)
 
   pub says-six : p .number ≡ 6 → Concludes ss faults out (Refused 6) faults′ out
   says-six e = decides-six ss kinds args lines bounds laid used faults out reached conclusion e
@@ -161,7 +166,7 @@ module _ {lines bounds kinds args used faults : List ℕ} (ready : Ready lines b
   -- neither number: the model is sound, the fault list untouched
   module _ (not-six : p .number ≡ 6 → ⊥) (not-seven : p .number ≡ 7 → ⊥) where
     sound : (ltb mostDefinitions (length (definitions ss)) ≡ false) × (modelFaults ss ≡ [])
-        × (reached ≡ whole ss kinds args lines bounds laid used faults)
+        × (reached ≡ soundPlan ss kinds args lines bounds laid used faults)
     sound = decides-sound ss kinds args lines bounds laid used faults out reached conclusion not-six not-seven
 
     pub planned-so : Planned p places rows order lines bounds kinds args′
@@ -173,16 +178,17 @@ module _ {lines bounds kinds args used faults : List ℕ} (ready : Ready lines b
           laid = laid;
           few = sound .0;
           clean = sound .1;
-          args-resolved = ap (λ (o : Outcome). o .args) e;
-          definitions-counted = ap (λ (o : Outcome). o .plan .definitions) e;
-          equations-counted = ap (λ (o : Outcome). o .plan .equations) e;
-          places-held = ap (λ (o : Outcome). o .arrays .places) e;
-          rows-held = ap (λ (o : Outcome). o .arrays .rows) e;
-          order-held = ap (λ (o : Outcome). o .arrays .order) e;
+          args-resolved = ap (λ (o : PlanOutcome). o .args) e;
+          definitions-counted = ap (λ (o : PlanOutcome). o .plan .definitions) e;
+          short = lines-short;
+          equations-counted = ap (λ (o : PlanOutcome). o .plan .equations) e;
+          places-held = ap (λ (o : PlanOutcome). o .arrays .places) e;
+          rows-held = ap (λ (o : PlanOutcome). o .arrays .rows) e;
+          order-held = ap (λ (o : PlanOutcome). o .arrays .order) e;
         }
 
     pub says-rest : (r : Verdict) {out′ : List ℕ}
         → ((s : Planned p places rows order lines bounds kinds args′) (f : List ℕ) → Concludes (s .statements) f out r f out′)
         → Concludes ss faults out r faults′ out′
     unfolding planned-so
-    says-rest r w = rw (ap (λ (o : Outcome). o .faults) (sound .2)) (w planned-so faults)
+    says-rest r w = rw (ap (λ (o : PlanOutcome). o .faults) (sound .2)) (w planned-so faults)

@@ -6,9 +6,8 @@ use mathlib.Core.List.{List, [], _∷_, _++_, map}
 use lib.Dec.{ltb}
 use lib.ListN.{length, take, drop, set, replicate}
 use lib.Seq.{sets}
-use Rattle.limits.specs.Limits.{mostStatements, mostDefinitions, textBytes, faultRoom}
+use Rattle.limits.specs.Limits.{mostStatements, mostDefinitions, textBytes, faultRoom, faultBytes}
 use Rattle.deck.specs.declared.Cursor.{Cursor}
-use Rattle.bits.specs.Low.{lowBytes}
 use Rattle.deck.specs.Lines.{Line}
 use Rattle.deck.specs.Joined.{joined}
 use Rattle.deck.specs.Faults.{sizeFlaw}
@@ -16,7 +15,7 @@ use Rattle.deck.specs.Codes.{sizeCode, flawOf, joinedRoom}
 use Rattle.deck.specs.Reports.{report}
 use Rattle.deck.specs.Next.{statementsFrom, cardsAt}
 use Rattle.drafts.specs.Drafts.{Draft, draftsOf}
-use Rattle.sheet.specs.Sheet.{Told, says, faulty, Sheet, Numbered, said, statementFaults, faultList}
+use Rattle.sheet.specs.Sheet.{Told, says, faulty, Sheet, Numbered, said, statementFaults, entryOf, faultList}
 use Rattle.sheet.specs.Reader.{told, sheetOf}
 use Rattle.sheet.specs.Layout.{draftsIn, boundsFrom, Laid}
 use Rattle.model.specs.Definitions.{definitions}
@@ -89,10 +88,6 @@ pub record Before (text : List ℕ) (start cards next code : ℕ) (ks us : List 
   pub room-kinds : p + length (joined (cardsAt text start cards)) ≤ length l
   pub room-args : p + length (joined (cardsAt text start cards)) ≤ length u
 
--- a fault's four bytes
-abbrev pub entryOf : ℕ → ℕ → List ℕ
-entryOf line code = lowBytes 2 line ++ (code ∷ 0 ∷ [])
-
 -- ---- one statement more
 
 -- what it asks of the arrays besides
@@ -121,7 +116,7 @@ AddsOf (faulty c q) first n l u ls bs fs r l′ u′ ls′ bs′ fs′ =
     × (take (n .drafts) u′ ≡ take (n .drafts) u)
     × (ls′ ≡ ls)
     × (bs′ ≡ bs)
-    × (fs′ ≡ sets fs (n .faults * 4) (entryOf first c))
+    × (fs′ ≡ sets fs (faultBytes * n .faults) (entryOf first c))
 
 -- by what was told, and by what stands in the buffers before and after
 pub record Adds (t : Told) (first : ℕ) (n : Tally) (l u ls bs fs : List ℕ) (r : Tally) (l′ u′ ls′ bs′ fs′ : List ℕ) : Type 0 where
@@ -173,22 +168,19 @@ pub record Read (text list₀ : List ℕ) (n : Tally) (kinds args lines bounds l
 
 -- ---- from the sheet to the verdict
 
--- an array of zeros, and three that are lent to the plan
-abbrev pub zeros : List ℕ
-zeros = replicate mostStatements 0
+-- a row at the front of an array of n zeros
+abbrev pub held : ℕ → List ℕ → List ℕ
+held n l = sets (replicate n 0) 0 l
 
+-- the three arrays that are lent to the plan: a place for each definition, for each statement, and for the order of these
 abbrev pub blank : Lent
-blank = lent zeros zeros zeros
-
--- a row in such an array, zeros behind
-abbrev pub held : List ℕ → List ℕ
-held l = sets zeros 0 l
+blank = lent (replicate mostDefinitions 0) (replicate mostStatements 0) (replicate mostStatements 0)
 
 -- the arrays hold some statements, and fit
 pub record Ready (lines bounds kinds args used faults : List ℕ) : Type 0 where
   pub statements : List Numbered
   pub laid : Laid statements kinds args lines bounds
-  pub fits : fit lines bounds kinds (length args) (length used) (length faults) mostStatements mostStatements mostStatements ≡ true
+  pub fits : fit lines bounds kinds (length args) (length used) (length faults) mostDefinitions mostStatements mostStatements ≡ true
 
 -- the arrays held some statements whose model is sound; the names of their arguments are resolved, and the plan is theirs
 pub record Planned (p : Plan) (places rows order lines bounds kinds args : List ℕ) : Type 0 where
@@ -200,9 +192,10 @@ pub record Planned (p : Plan) (places rows order lines bounds kinds args : List 
   pub args-resolved : args ≡ resolved (keysIn kinds named) kinds named
   pub definitions-counted : p .definitions ≡ length (placesIn kinds)
   pub equations-counted : p .equations ≡ length (equationRows (length lines) bounds kinds)
-  pub places-held : places ≡ held (placesIn kinds)
-  pub rows-held : rows ≡ held (equationRows (length lines) bounds kinds)
-  pub order-held : order ≡ held (orderOf (definitions statements))
+  pub short : length lines ≤ mostStatements
+  pub places-held : places ≡ held mostDefinitions (placesIn kinds)
+  pub rows-held : rows ≡ held mostStatements (equationRows (length lines) bounds kinds)
+  pub order-held : order ≡ held mostStatements (orderOf (definitions statements))
 
 -- the answer r and the buffers f′ and p′ are what the verdict on the model of the statements gives for the buffers f and p
 abbrev pub Concludes : List Numbered → List ℕ → List ℕ → Verdict → List ℕ → List ℕ → Type 0

@@ -10,6 +10,7 @@ ghost use Rattle.sheet.specs.Sheet.{Numbered};
 ghost use Rattle.sheet.specs.Layout.{Laid};
 ghost use Rattle.translator.specs.Working.{Planned, Ready, Concludes};
 use super::Verdict;
+use limits::DEFINITIONS;
 use limits::RECORD_BYTES;
 use limits::RECORDS;
 use limits::STATEMENTS;
@@ -81,7 +82,7 @@ pub(crate) fn conclude(
     ensures { λ r. ⌜ ((ss : List Numbered) → Laid ss (now (kinds .entry)) (now (args .entry)) (now (lines .entry)) (now (bounds .entry))
         → Concludes ss (now (faults .entry)) (now (out .entry)) r (now (faults .exit)) (now (out .exit))) ⌝ }
 {
-    let mut places = [0u16; STATEMENTS];
+    let mut places = [0u16; DEFINITIONS];
     let mut rows = [0u16; STATEMENTS];
     let mut order = [0u16; STATEMENTS];
     let plan = model::plan(

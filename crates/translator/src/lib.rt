@@ -2,8 +2,6 @@
 ghost use mathlib.Core.Path.{_≡_};
 ghost use mathlib.Core.Bool.{Bool};
 ghost use mathlib.Core.List.{List};
-ghost use Prim.Native.Nat.{_*_, _<_};
-ghost use lib.Seq.{sets};
 ghost use Rattle.tokens.specs.Held.{heldRow};
 ghost use Rattle.tokens.specs.Row.{Placed, symbols, rowOf};
 ghost use Rattle.grammar.specs.Parser.{readRow};
@@ -11,7 +9,7 @@ ghost use Rattle.deck.specs.Joined.{joined};
 ghost use Rattle.deck.specs.Next.{cardsAt};
 ghost use Rattle.sheet.specs.Reader.{parsed, tokened, told};
 ghost use Rattle.translator.specs.Working.{Tells, RowRoom, JoinedRoom, CardsRoom, Size, Before};
-ghost use Rattle.translator.specs.Working.{entryOf, Able, Adds, Room, Read};
+ghost use Rattle.translator.specs.Working.{Able, Adds, Room, Read};
 ghost use Rattle.translator.specs.Contract.{Translates};
 
 mod finish;
@@ -135,14 +133,6 @@ fn read_statement(
     read_cards(text, start, cards, row_kinds, row_args, kinds, args, place)
 }
 
-// Writes a fault to the list, behind so many others.
-fn put_fault(list: &mut [u8], count: usize, line: usize, code: u8)
-    requires { ⌜ (line < 65536) × (count < 65536) ⌝ }
-    ensures { λ _. ⌜ now (list .exit) ≡ sets (now (list .entry)) (count * 4) (entryOf line code) ⌝ }
-{
-    bits::put_low(list, count * 4, 4, line as u64 + 65536 * code as u64);
-}
-
 // ---- all statements
 
 // One statement more: its drafts, its number and where its drafts end; or its fault.
@@ -195,7 +185,7 @@ fn read_one(
             }
         }
         Told::Faulty(fault) => {
-            put_fault(list, f, first, fault);
+            sheet::put_fault(list, f, first, fault);
             Tally {
                 statements: s,
                 drafts: d,
