@@ -16,7 +16,7 @@ use Rattle.grammar.specs.Grammar.{expr, Der, unsigned, sign, Signed, uns
 use Rattle.grammar.specs.Grammar.{Initially, of-number, of-name, Derives, of-constants, of-assignment, of-state}
 use Rattle.grammar.specs.Parser.{End, got, bad, Res, onward, bind, byIntegral, signedNumber, many, initially, parse, calls}
 use Rattle.grammar.specs.Parser.{assigned, integrated, statement, ended, entire, read, answer, readRow}
-use Rattle.grammar.proofs.Outcome.{clash, OutEnd}
+use Rattle.grammar.proofs.Endings.{clash, OutEnd}
 use Rattle.grammar.proofs.Looks.{add-other, as-known}
 use Rattle.grammar.proofs.Whole.{Stated, StatedVia, entire-out}
 use Rattle.grammar.proofs.Complete.{bind-end, begins-term, complete}

@@ -14,7 +14,7 @@ use Rattle.drafts.specs.Drafts.{draft, drafted}
 use Rattle.grammar.specs.Look.{next, rest, byteOf, addOp, mulOp, signed, Opening, group, give-to, shapeOf}
 use Rattle.grammar.specs.Grammar.{Mode, expr, term, factor, terms, factors, opened, list}
 use Rattle.grammar.specs.Parser.{give, stop, tell, bind, when, byOp, byShape, byGiven, need, behindSign, signDrafts, openDrafts, step, parse, rank, reads}
-use Rattle.grammar.proofs.Outcome.{Out}
+use Rattle.grammar.proofs.Endings.{Out}
 use Rattle.grammar.proofs.Sound.{Done, Via, At, sound}
 use Rattle.grammar.proofs.Enough.{step-cong, enough}
 

@@ -11,7 +11,7 @@ use Rattle.grammar.specs.Look.{next, rest, byteOf, none, addOp, mulOp, O
 use Rattle.grammar.specs.Grammar.{Mode, expr, term, factor, terms, factors, opened, list}
 use Rattle.grammar.specs.Grammar.{Der, unsigned, sign, no-terms, add, a-term, no-factors, mul, a-leaf, grouped, called, opening, last, comma}
 use Rattle.grammar.specs.Parser.{End, got, Res, onward, bind, parse, rank}
-use Rattle.grammar.proofs.Outcome.{clash}
+use Rattle.grammar.proofs.Endings.{clash}
 use Rattle.grammar.proofs.Looks.{add-no-mul, factor-no-add}
 
 -- the token after what is read does not go on with it

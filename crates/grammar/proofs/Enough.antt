@@ -16,7 +16,7 @@ use Rattle.grammar.specs.Grammar.{Mode, expr, term, factor, terms, facto
 use Rattle.grammar.specs.Grammar.{Der, unsigned, sign, no-terms, add, a-term, no-factors, mul, a-leaf, grouped, called, opening, last, comma}
 use Rattle.grammar.specs.Parser.{End, got, bad, Res, tell, onward, bind, when, byOp, byShape, byGiven, need}
 use Rattle.grammar.specs.Parser.{behindSign, signDrafts, step, parse, rank}
-use Rattle.grammar.proofs.Outcome.{OutEnd, here-mark, is-mark}
+use Rattle.grammar.proofs.Endings.{OutEnd, here-mark, is-mark}
 use Rattle.grammar.proofs.Looks.{add-here, mul-here, call-here, as-shaped}
 use Rattle.grammar.proofs.Sound.{Done, Via, At, sound}
 

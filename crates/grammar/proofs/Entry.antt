@@ -18,43 +18,43 @@ use Rattle.grammar.specs.declared.Parsed.the-variants.{Done, Fault, NoRo
 use Rattle.drafts.specs.Tree.{Says}
 use Rattle.drafts.specs.Drafts.{Draft}
 use Rattle.grammar.specs.Parser.{End, got, bad, Res, onward, bind, statement, ended, entire, calls, answer, readRow}
-use Rattle.grammar.specs.Contract.{Outcome, outcome, wrote, parsedAs, rowOutcome, ParsesRow, Ready, passed, partOf, partWrote, Meets}
+use Rattle.grammar.specs.Contract.{ParseOutcome, parseOutcome, wrote, parsedAs, rowOutcome, ParsesRow, Ready, passed, partOf, partWrote, Meets}
 use Rattle.grammar.proofs.Room.{Fits, FitsEnd, statement-fits}
 use Rattle.grammar.proofs.Meets.{Went, went, place-is}
 
 -- the outcome of a reading of n tokens
-abbrev answered : ℕ → Res Says → ℕ → List ℕ → List ℕ → Outcome Parsed
+abbrev answered : ℕ → Res Says → ℕ → List ℕ → List ℕ → ParseOutcome Parsed
 answered n x p l u = wrote (parsedAs (p + length (x .out)) (answer n (x .end))) (x .out) p l u
 
 -- a statement that stops
-entire-stops : (n : ℕ) (x : Res Says) (r : Part) (p : ℕ) (l u l₁ u₁ : List ℕ) → (r .code ≡ 0 → ⊥) → outcome r l₁ u₁ ≡ partWrote n x p l u
-    → outcome (Fault (r .code) (r .next)) l₁ u₁ ≡ answered n (bind x ended) p l u
+entire-stops : (n : ℕ) (x : Res Says) (r : Part) (p : ℕ) (l u l₁ u₁ : List ℕ) → (r .code ≡ 0 → ⊥) → parseOutcome r l₁ u₁ ≡ partWrote n x p l u
+    → parseOutcome (Fault (r .code) (r .next)) l₁ u₁ ≡ answered n (bind x ended) p l u
 unfolding bind wrote
 entire-stops n x r p l u l₁ u₁ z h = go (x .end) h
   where
-    go : (t : End Says) → outcome r l₁ u₁ ≡ wrote (partOf n (p + length (x .out)) t) (x .out) p l u
-        → outcome (Fault (r .code) (r .next)) l₁ u₁ ≡ answered n (onward (x .out) t ended) p l u
-    go (got e t) h = absurd (z (ap (λ (y : Outcome Part). y .reply .code) h))
-    go (bad d t) h = ap (λ (y : Outcome Part). outcome (Fault (y .reply .code) (y .reply .next)) (y .kinds) (y .args)) h
+    go : (t : End Says) → parseOutcome r l₁ u₁ ≡ wrote (partOf n (p + length (x .out)) t) (x .out) p l u
+        → parseOutcome (Fault (r .code) (r .next)) l₁ u₁ ≡ answered n (onward (x .out) t ended) p l u
+    go (got e t) h = absurd (z (ap (λ (y : ParseOutcome Part). y .reply .code) h))
+    go (bad d t) h = ap (λ (y : ParseOutcome Part). parseOutcome (Fault (y .reply .code) (y .reply .next)) (y .kinds) (y .args)) h
 
 -- a part ends with a code that is a byte
-part-byte : (n : ℕ) (s : List Symbol) (x : Res Says) (r : Part) (p : ℕ) (l u l₁ u₁ : List ℕ) → Fits s 0 0 x → outcome r l₁ u₁ ≡ partWrote n x p l u
+part-byte : (n : ℕ) (s : List Symbol) (x : Res Says) (r : Part) (p : ℕ) (l u l₁ u₁ : List ℕ) → Fits s 0 0 x → parseOutcome r l₁ u₁ ≡ partWrote n x p l u
     → r .code < 256
 unfolding wrote
 part-byte n s x r p l u l₁ u₁ f h = go (x .end) (f .ends) h
   where
-    go : (t : End Says) → FitsEnd s 0 0 (length (x .out)) t → outcome r l₁ u₁ ≡ wrote (partOf n (p + length (x .out)) t) (x .out) p l u → r .code < 256
-    go (got e t) f h = let a = ap (λ (y : Outcome Part). y .reply .code) h in omega arith
-    go (bad d t) f h = let a = ap (λ (y : Outcome Part). y .reply .code) h in omega (arith, f .4)
+    go : (t : End Says) → FitsEnd s 0 0 (length (x .out)) t → parseOutcome r l₁ u₁ ≡ wrote (partOf n (p + length (x .out)) t) (x .out) p l u → r .code < 256
+    go (got e t) f h = let a = ap (λ (y : ParseOutcome Part). y .reply .code) h in omega arith
+    go (bad d t) f h = let a = ap (λ (y : ParseOutcome Part). y .reply .code) h in omega (arith, f .4)
 
 -- a statement that passes, and what is left
 module _ (n : ℕ) (x : Res Says) (e : Says) (p q : ℕ) (l u l₁ u₁ : List ℕ) (up : q ≡ p + length (x .out))
     (a : l₁ ≡ sets l p (map (λ (d : Draft). d .kind) (x .out))) (b : u₁ ≡ sets u p (map (λ (d : Draft). d .arg) (x .out))) where
-  entire-ends : x .end ≡ got e [] → outcome (Done q) l₁ u₁ ≡ answered n (bind x ended) p l u
+  entire-ends : x .end ≡ got e [] → parseOutcome (Done q) l₁ u₁ ≡ answered n (bind x ended) p l u
   unfolding bind wrote
   entire-ends h = rw (h, append-nil, up, a, b)
 
-  entire-more : (c : Symbol) (s : List Symbol) → x .end ≡ got e (c ∷ s) → outcome (Fault 18 (n - length (c ∷ s))) l₁ u₁ ≡ answered n (bind x ended) p l u
+  entire-more : (c : Symbol) (s : List Symbol) → x .end ≡ got e (c ∷ s) → parseOutcome (Fault 18 (n - length (c ∷ s))) l₁ u₁ ≡ answered n (bind x ended) p l u
   unfolding bind wrote
   entire-more c s h = rw (h, append-nil, a, b)
 
@@ -87,7 +87,7 @@ module _ (ks us : List ℕ) (p : ℕ) (l u : List ℕ) where
         record { even = even; within = omega arith; room-kinds = omega arith; room-args = omega arith }
 
     entry-by : {r : Parsed} {l₁ u₁ : List ℕ}
-        → outcome r l₁ u₁ ≡ answered (length ks) (bind (statement (calls (heldRow ks us)) levels (heldRow ks us)) ended) p l u → ParsesRow ks us l u p r l₁ u₁
+        → parseOutcome r l₁ u₁ ≡ answered (length ks) (bind (statement (calls (heldRow ks us)) levels (heldRow ks us)) ended) p l u → ParsesRow ks us l u p r l₁ u₁
     unfolding rowOutcome readRow entire
     entry-by h =
         rw (

@@ -16,7 +16,7 @@ use Rattle.grammar.specs.Look.{next, Paren, Call, shapeOf}
 use Rattle.grammar.specs.Grammar.{Derives}
 use Rattle.grammar.specs.Parser.{End, got, bad, Res, entire, calls, Read, read, fault, answer, readRow}
 use Rattle.grammar.specs.Meaning.{Calm, Front, Wrong, TooDeep, Meaning, wrong, deep}
-use Rattle.grammar.proofs.Outcome.{clash, Code, for-grammar, for-depth, OutEnd, Fronts}
+use Rattle.grammar.proofs.Endings.{clash, Code, for-grammar, for-depth, OutEnd, Fronts}
 use Rattle.grammar.proofs.Whole.{Stated, StatedVia, stated-le, entire-out}
 use Rattle.grammar.proofs.Accepts.{entire-complete, accepts}
 use Rattle.grammar.proofs.Local.{Like, LocEnd}

@@ -1,4 +1,4 @@
-pub mod Outcome
+pub mod Endings
 pub mod Looks
 pub mod Sound
 pub mod Whole

@@ -15,7 +15,7 @@ use Rattle.grammar.specs.Look.{Shape, Leaf, Paren, Call, NoFactor, shape
 use Rattle.grammar.specs.Grammar.{Mode, expr, term, factor, terms, factors, opened, list}
 use Rattle.grammar.specs.Parser.{End, got, bad, Res, give, stop, tell, onward, bind, when, byOp, byShape, byGiven, need}
 use Rattle.grammar.specs.Parser.{behindSign, signDrafts, openDrafts, parse}
-use Rattle.grammar.proofs.Outcome.{here-mark, is-mark}
+use Rattle.grammar.proofs.Endings.{here-mark, is-mark}
 use Rattle.grammar.proofs.Looks.{add-here, mul-here, leaf-here, call-here, as-shaped}
 use Rattle.grammar.proofs.Sound.{At}
 use Rattle.grammar.proofs.Complete.{bind-end}

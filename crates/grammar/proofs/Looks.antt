@@ -14,7 +14,7 @@ use Rattle.grammar.specs.Look.{next, rest, byteOf, Op, none, op, addOp, 
 use Rattle.grammar.specs.Look.{Opening, group, pair, pair-of, triple, triple-of, triple-of-two, Given, whole, wants, give-to}
 use Rattle.grammar.specs.Look.{Shape, Leaf, Paren, Call, NoFactor, shapeOf, Start, Constants, Integral, Named, Valued, Other, startOf}
 use Rattle.grammar.specs.Parser.{signDrafts, openDrafts}
-use Rattle.grammar.proofs.Outcome.{clash, here, is-mark}
+use Rattle.grammar.proofs.Endings.{clash, here, is-mark}
 
 -- what is seen of the next token is not what is seen past the end: it stands there
 here-by : {X : Type 0} (f : Symbol → X) (s : List Symbol) → (f (next s) ≡ f (mark 0) → ⊥) → s ≡ next s ∷ rest s

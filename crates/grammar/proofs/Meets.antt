@@ -17,7 +17,7 @@ use Rattle.grammar.specs.declared.expressions.Part.{Part}
 use Rattle.drafts.specs.Drafts.{Draft, draft}
 use Rattle.grammar.specs.Look.{next, rest, byteOf}
 use Rattle.grammar.specs.Parser.{End, got, bad, Res, give, stop, tell, onward, bind, when, need}
-use Rattle.grammar.specs.Contract.{Outcome, outcome, wrote, opDrafts, PutsOp, passed, stopped, partOf, partWrote, Meets}
+use Rattle.grammar.specs.Contract.{ParseOutcome, parseOutcome, wrote, opDrafts, PutsOp, passed, stopped, partOf, partWrote, Meets}
 use Rattle.grammar.proofs.Clauses.{rest-at, left-at}
 use Rattle.grammar.proofs.Room.{Fits, FitsEnd}
 use Rattle.grammar.proofs.Seen.{token-at, mark-test}
@@ -51,18 +51,18 @@ pub record Went {A : Type 0} (row : List Symbol) (x : Res A) (i p : ℕ) (l u : 
   pub args : u₁ ≡ sets u p (map (λ (d : Draft). d .arg) (x .out))
 
 pub went : {A : Type 0} (row : List Symbol) (x : Res A) (i p : ℕ) (l u : List ℕ) (j q : ℕ) (l₁ u₁ : List ℕ) → i ≤ length row → Fits (drop i row) 0 0 x
-    → outcome (passed j q) l₁ u₁ ≡ partWrote (length row) x p l u → Went row x i p l u j q l₁ u₁
+    → parseOutcome (passed j q) l₁ u₁ ≡ partWrote (length row) x p l u → Went row x i p l u j q l₁ u₁
 unfolding wrote
 went {A} row x i p l u j q l₁ u₁ le f h = go (x .end) refl (f .ends) h
   where
     go : (t : End A) → x .end ≡ t → FitsEnd (drop i row) 0 0 (length (x .out)) t
-        → outcome (passed j q) l₁ u₁ ≡ wrote (partOf (length row) (p + length (x .out)) t) (x .out) p l u → Went row x i p l u j q l₁ u₁
+        → parseOutcome (passed j q) l₁ u₁ ≡ wrote (partOf (length row) (p + length (x .out)) t) (x .out) p l u → Went row x i p l u j q l₁ u₁
     go (got e t) s r h =
         let a = length-append (r .0) t in
         let b = ap length (r .1) in
         let c = length-drop i row in
-        let m : j ≡ length row - length t = ap (λ (z : Outcome Part). z .reply .next) h in
-        let n : q ≡ p + length (x .out) = ap (λ (z : Outcome Part). z .reply .place) h in
+        let m : j ≡ length row - length t = ap (λ (z : ParseOutcome Part). z .reply .next) h in
+        let n : q ≡ p + length (x .out) = ap (λ (z : ParseOutcome Part). z .reply .place) h in
         let z : t ≡ drop j row = left-at row (r .0) t i le (r .1) ∙ ap (λ (k : ℕ). drop k row) (sym m) in
         record {
           what = e;
@@ -71,10 +71,10 @@ went {A} row x i p l u j q l₁ u₁ le f h = go (x .end) refl (f .ends) h
           inside = omega arith;
           few = omega arith;
           up = n;
-          kinds = ap (λ (z : Outcome Part). z .kinds) h;
-          args = ap (λ (z : Outcome Part). z .args) h;
+          kinds = ap (λ (z : ParseOutcome Part). z .kinds) h;
+          args = ap (λ (z : ParseOutcome Part). z .args) h;
         }
-    go (bad c t) s r h = let a = ap (λ (z : Outcome Part). z .reply .code) h in absurd (omega (arith, r .3))
+    go (bad c t) s r h = let a = ap (λ (z : ParseOutcome Part). z .reply .code) h in absurd (omega (arith, r .3))
 
 -- ---- one reading after another, from place to place
 
@@ -99,13 +99,13 @@ bind-wrote n x k e t p q l u l₁ u₁ h up a b =
 
 -- where the one stops, so do both
 stop-wrote : {A B : Type 0} (n : ℕ) (x : Res A) (k : A → List Symbol → Res B) (r : Part) (p : ℕ) (l u l₁ u₁ : List ℕ) → (r .code ≡ 0 → ⊥)
-    → outcome r l₁ u₁ ≡ partWrote n x p l u → outcome r l₁ u₁ ≡ partWrote n (bind x k) p l u
+    → parseOutcome r l₁ u₁ ≡ partWrote n x p l u → parseOutcome r l₁ u₁ ≡ partWrote n (bind x k) p l u
 unfolding bind wrote
 stop-wrote {A} n x k r p l u l₁ u₁ z h = go (x .end) h
   where
-    go : (t : End A) → outcome r l₁ u₁ ≡ wrote (partOf n (p + length (x .out)) t) (x .out) p l u
-        → outcome r l₁ u₁ ≡ partWrote n (onward (x .out) t k) p l u
-    go (got e t) h = absurd (z (ap (λ (y : Outcome Part). y .reply .code) h))
+    go : (t : End A) → parseOutcome r l₁ u₁ ≡ wrote (partOf n (p + length (x .out)) t) (x .out) p l u
+        → parseOutcome r l₁ u₁ ≡ partWrote n (onward (x .out) t k) p l u
+    go (got e t) h = absurd (z (ap (λ (y : ParseOutcome Part). y .reply .code) h))
     go (bad d t) h = h
 
 -- and nothing read after it

@@ -20,7 +20,7 @@ use Rattle.grammar.specs.Parser.{End, got, bad, Res, give, stop, tell, o
 use Rattle.grammar.specs.Parser.{behindSign, signDrafts, openDrafts, parse, rank, reads, byStart, byName, byNumber, byIntegral}
 use Rattle.grammar.specs.Parser.{signedValue, aNumber, signedNumber, onMore, valued, many, initially}
 use Rattle.grammar.specs.Parser.{assigned, rated, started, integrated, equated, statement, ended, entire}
-use Rattle.grammar.proofs.Outcome.{here-mark, is-mark}
+use Rattle.grammar.proofs.Endings.{here-mark, is-mark}
 use Rattle.grammar.proofs.Looks.{add-here, mul-here, leaf-here, call-here, Bare, bare-value, bare-name, bare-time, as-shaped, start-cases}
 
 -- a front w of s is read, and n drafts are written: with b more there are at most a more than tokens; at a fault none are due any more, and

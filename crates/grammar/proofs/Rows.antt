@@ -13,7 +13,7 @@ use Rattle.grammar.specs.Grammar.{expr}
 use Rattle.grammar.specs.Parser.{got, Res, give, stop, tell, bind, byStart, byName, byNumber, byIntegral, need, behindSign, parse}
 use Rattle.grammar.specs.Parser.{signedValue, aNumber, signedNumber, onMore, valued, many, initially}
 use Rattle.grammar.specs.Parser.{assigned, rated, started, integrated, equated, statement, ended, entire}
-use Rattle.grammar.proofs.Outcome.{Asked, Before, Out, OutEnd, here-mark}
+use Rattle.grammar.proofs.Endings.{Asked, Before, Out, OutEnd, here-mark}
 use Rattle.grammar.proofs.Looks.{add-here, start-cases}
 use Rattle.grammar.proofs.Whole.{signed-out, initially-out}
 use Rattle.grammar.proofs.Enough.{bind-cong, mark-cong, need-cong, shorter, rest-le, enough}

@@ -18,8 +18,8 @@ use Rattle.grammar.specs.Grammar.{Mode, expr, term, factor, terms, facto
 use Rattle.grammar.specs.Grammar.{Der, unsigned, sign, no-terms, add, a-term, no-factors, mul, a-leaf, grouped, called, opening, last, comma}
 use Rattle.grammar.specs.Parser.{give, stop, tell, bind, when, byOp, byShape, byGiven, need, behindSign, signDrafts, openDrafts, parse}
 use Rattle.grammar.specs.Meaning.{Calm}
-use Rattle.grammar.proofs.Outcome.{clash, Asked, Out, out-mono, out-tell, out-mark, out-give, out-stop, out-rest, out-bind, out-need}
-use Rattle.grammar.proofs.Outcome.{for-depth, here-mark, Begins, Fronts, calm-end, extend, behind, fresh}
+use Rattle.grammar.proofs.Endings.{clash, Asked, Out, out-mono, out-tell, out-mark, out-give, out-stop, out-rest, out-bind, out-need}
+use Rattle.grammar.proofs.Endings.{for-depth, here-mark, Begins, Fronts, calm-end, extend, behind, fresh}
 use Rattle.grammar.proofs.Looks.{add-here, mul-here, leaf-here, call-here, as-shaped, sign-drafts, so-far, new-drafts, as-gave}
 
 -- what is derived with d levels is derived with more

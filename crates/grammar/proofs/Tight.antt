@@ -13,7 +13,7 @@ use Rattle.grammar.specs.Grammar.{expr, term, factor, Der, unsigned, no-
 use Rattle.grammar.specs.Grammar.{Derives, of-constants, of-assignment, of-state}
 use Rattle.grammar.specs.Parser.{bad, bind, parse}
 use Rattle.grammar.specs.Meaning.{Front}
-use Rattle.grammar.proofs.Outcome.{clash, Begins}
+use Rattle.grammar.proofs.Endings.{clash, Begins}
 use Rattle.grammar.proofs.Sound.{zero-list}
 use Rattle.grammar.proofs.Complete.{complete}
 use Rattle.grammar.proofs.Local.{bind-bad}

@@ -22,8 +22,8 @@ use Rattle.grammar.specs.Grammar.{Signed, unsigned-number, signed-number
 use Rattle.grammar.specs.Parser.{End, got, bad, Res, give, stop, bind, onward, byName, byNumber, behindSign}
 use Rattle.grammar.specs.Parser.{signedValue, aNumber, signedNumber, initially}
 use Rattle.grammar.specs.Codes.{skipOf}
-use Rattle.grammar.specs.Contract.{Within, outcome, wrote, stopped, partWrote, Meets, valueOf, numberAt, initialAt}
-use Rattle.grammar.proofs.Outcome.{clash, Asked, Before, Out, OutEnd}
+use Rattle.grammar.specs.Contract.{Within, parseOutcome, wrote, stopped, partWrote, Meets, valueOf, numberAt, initialAt}
+use Rattle.grammar.proofs.Endings.{clash, Asked, Before, Out, OutEnd}
 use Rattle.grammar.proofs.Whole.{signed-out, initially-out}
 use Rattle.grammar.proofs.Clauses.{rest-at, left-at}
 use Rattle.grammar.proofs.Seen.{token-at, stands, is-name, no-name, is-number, no-number}
@@ -210,7 +210,7 @@ module _ {A : Type 0} (f : A → Draft) (x : List Symbol → Res A) {L : Asked A
       record { same = go (x (drop i (heldRow ks us)) .out) (x (drop i (heldRow ks us)) .end) (quiet .silent) (quiet .faults) h }
     where
       go : (o : List Draft) (t : End A) → o ≡ [] → Grammar t → Missing j ≡ valueOf f (length ks) t
-          → outcome (stopped 18 j) l u ≡ partWrote (length ks) (onward o t k) p l u
+          → parseOutcome (stopped 18 j) l u ≡ partWrote (length ks) (onward o t k) p l u
       go o (got e t) s g h = clash (cc)
       go o (bad c t) s g h = let m : j ≡ length ks - length t = cc in rw (s, g, m)
 

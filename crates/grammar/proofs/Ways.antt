@@ -22,7 +22,7 @@ use Rattle.grammar.specs.Grammar.{Mode, expr, term, factor, terms, facto
 use Rattle.grammar.specs.Parser.{Res, give, tell, bind, byOp, behindSign, signDrafts, reads}
 use Rattle.grammar.specs.Codes.{kindOp, skipOf}
 use Rattle.grammar.specs.Contract.{opDrafts, PutsOp, Ready, passed, Meets, Parses}
-use Rattle.grammar.proofs.Outcome.{clash}
+use Rattle.grammar.proofs.Endings.{clash}
 use Rattle.grammar.proofs.Clauses.{rest-at, reads-expr, reads-terms, reads-term, reads-factors}
 use Rattle.grammar.proofs.Room.{reads-fits}
 use Rattle.grammar.proofs.Seen.{token-at, stands, add-seen, mul-seen}

@@ -13,8 +13,8 @@ use Rattle.grammar.specs.Grammar.{Derives, of-constants, of-assignment, 
 use Rattle.grammar.specs.Parser.{Res, give, stop, tell, bind, byStart, byName, byNumber, byIntegral, need, behindSign, parse}
 use Rattle.grammar.specs.Parser.{signedValue, aNumber, signedNumber, onMore, valued, many, initially}
 use Rattle.grammar.specs.Parser.{assigned, rated, started, integrated, equated, statement, ended, entire}
-use Rattle.grammar.proofs.Outcome.{Asked, Before, Out, out-mark, out-tell, out-give, out-stop, out-rest, out-bind, out-map, out-need}
-use Rattle.grammar.proofs.Outcome.{here-mark, Fronts, extend, behind, fresh}
+use Rattle.grammar.proofs.Endings.{Asked, Before, Out, out-mark, out-tell, out-give, out-stop, out-rest, out-bind, out-map, out-need}
+use Rattle.grammar.proofs.Endings.{here-mark, Fronts, extend, behind, fresh}
 use Rattle.grammar.proofs.Looks.{add-here, start-cases}
 use Rattle.drafts.proofs.Postfix.{drafted-items}
 use Rattle.grammar.proofs.Sound.{der-le, nought, zero-expr, sound}

@@ -21,17 +21,17 @@ use Rattle.grammar.specs.Grammar.{Mode}
 use Rattle.grammar.specs.Parser.{End, got, bad, Res, reads, signedNumber, many, initially, entire, calls, Read, read, fault, readRow}
 
 -- an answer and the two buffers
-pub record Outcome (R : Type 0) : Type 0 where
+pub record ParseOutcome (R : Type 0) : Type 0 where
   pub reply : R
   pub kinds : List ℕ
   pub args : List ℕ
 
-abbrev pub outcome : {R : Type 0} → R → List ℕ → List ℕ → Outcome R
-outcome r l u = record { reply = r; kinds = l; args = u }
+abbrev pub parseOutcome : {R : Type 0} → R → List ℕ → List ℕ → ParseOutcome R
+parseOutcome r l u = record { reply = r; kinds = l; args = u }
 
 -- these drafts stand from place p on
-unfoldable pub wrote : {R : Type 0} → R → List Draft → ℕ → List ℕ → List ℕ → Outcome R
-wrote r o p l u = outcome r (sets l p (map (λ (x : Draft). x .kind) o)) (sets u p (map (λ (x : Draft). x .arg) o))
+unfoldable pub wrote : {R : Type 0} → R → List Draft → ℕ → List ℕ → List ℕ → ParseOutcome R
+wrote r o p l u = parseOutcome r (sets l p (map (λ (x : Draft). x .kind) o)) (sets u p (map (λ (x : Draft). x .arg) o))
 
 -- the draft that an operator of this kind writes; of 0 none
 abbrev pub opDrafts : ℕ → List Draft
@@ -51,21 +51,21 @@ parsedAs q (read x) = Done q
 parsedAs q (fault c i) = Fault c i
 
 -- the row that kinds and arguments hold, its answer and its drafts; a fault's drafts too
-abbrev pub rowWrote : List Symbol → ℕ → List ℕ → List ℕ → Outcome Parsed
+abbrev pub rowWrote : List Symbol → ℕ → List ℕ → List ℕ → ParseOutcome Parsed
 rowWrote row p l u =
     let o = entire (calls row) levels row .out in
     wrote (parsedAs (p + length o) (readRow row)) o p l u
 
 -- where the arguments are not as many as the kinds, or a buffer has no room for as many drafts as there are tokens, nothing is written
-unfoldable pub rowOutcome : List ℕ → List ℕ → List ℕ → List ℕ → ℕ → Outcome Parsed
+unfoldable pub rowOutcome : List ℕ → List ℕ → List ℕ → List ℕ → ℕ → ParseOutcome Parsed
 rowOutcome ks us l u p =
     cond (eqb (length us) (length ks) && (leb (p + length ks) (length l) && leb (p + length ks) (length u)))
     (rowWrote (heldRow ks us) p l u)
-    (outcome NoRoom l u)
+    (parseOutcome NoRoom l u)
 
 -- the whole promise of `parse_row`: two outcomes that it allows are equal
 abbrev pub ParsesRow : List ℕ → List ℕ → List ℕ → List ℕ → ℕ → Parsed → List ℕ → List ℕ → Type 0
-ParsesRow ks us l u p r l′ u′ = outcome r l′ u′ ≡ rowOutcome ks us l u p
+ParsesRow ks us l u p r l′ u′ = parseOutcome r l′ u′ ≡ rowOutcome ks us l u p
 
 -- ---- the parts, each from a place of the row on
 
@@ -93,12 +93,12 @@ abbrev pub partOf : {A : Type 0} → ℕ → ℕ → End A → Part
 partOf n q (got e t) = passed (n - length t) q
 partOf n q (bad c t) = stopped c (n - length t)
 
-abbrev pub partWrote : {A : Type 0} → ℕ → Res A → ℕ → List ℕ → List ℕ → Outcome Part
+abbrev pub partWrote : {A : Type 0} → ℕ → Res A → ℕ → List ℕ → List ℕ → ParseOutcome Part
 partWrote n x p l u = wrote (partOf n (p + length (x .out)) (x .end)) (x .out) p l u
 
 -- what it gives: the answer and the buffers are those of the reader x at place i
 pub record Meets {A : Type 0} (ks us : List ℕ) (x : List Symbol → Res A) (i p : ℕ) (l u : List ℕ) (r : Part) (l′ u′ : List ℕ) : Type 0 where
-  pub same : outcome r l′ u′ ≡ partWrote (length ks) (x (drop i (heldRow ks us))) p l u
+  pub same : parseOutcome r l′ u′ ≡ partWrote (length ks) (x (drop i (heldRow ks us))) p l u
 
 -- what a member of the cycle gives, in its mode and with d levels still allowed
 pub record Parses (ks us : List ℕ) (m : Mode) (d i p : ℕ) (l u : List ℕ) (r : Part) (l′ u′ : List ℕ) : Type 0 where

@@ -5,9 +5,9 @@ use mathlib.Core.List.{List}
 use native.Mathlib.Omega.{arith}
 use lib.ListN.{length}
 use lib.Ieee.{Float}
-use Rattle.grammar.specs.Contract.{Outcome as ParseOutcome}
+use Rattle.grammar.specs.Contract.{ParseOutcome}
 use Rattle.grammar.specs.declared.Parsed.{Parsed}
-use Rattle.model.specs.Plan.{Outcome as PlanOutcome}
+use Rattle.model.specs.Plan.{PlanOutcome}
 use Rattle.program.specs.Program.{program}
 use Rattle.evaluator.specs.declared.Answer.{Answer}
 use Rattle.evaluator.specs.Evaluate.{Outcome as RunOutcome, outcome}
@@ -18,7 +18,7 @@ use Rattle.translator.specs.Verdict.{Outcome}
 use Rattle.tally.specs.declared.Tally.{Tally}
 use Rattle.floesedge.specs.declared.Answer.{Answer as CAnswer}
 use Rattle.floesedge.specs.declared.Verdict.{Verdict as CVerdict}
-use Rattle.promises.specs.Agreement.{Agree2, Bits, Deck, Tokens, Grammar, Order, Records, Model, Program, Evaluator}
+use Rattle.promises.specs.Agreement.{Agree2, Bits, Deck, Tokens, Drafts, Grammar, Order, Records, Sheet, Model, Program, Evaluator}
 use Rattle.promises.specs.Agreement.{Translator, Listing, Library, Counting}
 
 -- ---- what a contract gives as an equation
@@ -69,6 +69,18 @@ tokens =
           (p .answer ∙ sym (q .answer), p .kinds ∙ sym (q .kinds), p .args ∙ sym (q .args));
     }
 
+-- what the kind of a draft is for, and where a slot is defined
+pub drafts : Drafts
+drafts =
+    record {
+      is-defining = λ k. one _;
+      is-asking = λ k. one _;
+      is-named = λ k. one _;
+      is-closing = λ k. one _;
+      records-of = λ k r s p q. p .0 ∙ sym (q .0);
+      home-of = λ places slot r s p q. p .0 ∙ sym (q .0);
+    }
+
 -- a row of tokens parsed
 pub grammar : Grammar
 grammar = record { parse-row = λ kinds args out-kinds out-args place r s k l a b p q. parts (p ∙ sym q) }
@@ -83,6 +95,10 @@ order = record { sort = λ n starts used out r s a b p q. (p .answer ∙ sym (q 
 -- a record read and decoded
 pub records : Records
 records = record { read = λ program n. one _; decode = λ program n. one _ }
+
+-- a fault listed
+pub sheet : Sheet
+sheet = record { put-fault = λ list count line code. one _ }
 
 -- a sheet planned
 pub model : Model

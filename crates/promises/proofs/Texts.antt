@@ -17,7 +17,7 @@ use Rattle.tokens.proofs.Rows.{Fine, symbols-fine}
 use Rattle.drafts.specs.Tree.{Tree, Constant, Says, constants, assignment, state}
 use Rattle.grammar.specs.Grammar.{Derives}
 use Rattle.grammar.specs.Parser.{Read, read, fault, readRow}
-use Rattle.grammar.proofs.Outcome.{clash}
+use Rattle.grammar.proofs.Endings.{clash}
 use Rattle.grammar.proofs.Accepts.{accepts}
 use Rattle.grammar.proofs.Stack.{peak, peakOf, suffices}
 use Rattle.sheet.specs.Sheet.{Told, says, faulty, Numbered, saidBy, said}

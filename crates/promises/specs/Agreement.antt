@@ -1,6 +1,6 @@
 -- Agreement: any two outcomes that a contract allows are equal. For each open entry its contract, in its own words, over an outcome: the
 -- answer, then each lent buffer afterwards. An entry without an answer has its buffer alone.
-use Prim.Native.Nat.{ℕ, _-_, _<_, _^_, min}
+use Prim.Native.Nat.{ℕ, _-_, _*_, _≤_, _<_, _^_, min}
 use mathlib.Core.Path.{_≡_}
 use mathlib.Core.Bool.{Bool}
 use mathlib.Core.List.{List}
@@ -8,6 +8,8 @@ use lib.Dec.{eqb}
 use lib.ListN.{length, getD, take}
 use lib.Seq.{sets}
 use lib.Ieee.{Float, binary64, toBits, ofBits}
+use Rattle.limits.specs.Limits.{faultBytes}
+use Rattle.laws.specs.Counts.{once}
 use Rattle.bits.specs.Low.{lowBytes, lowWord}
 use Rattle.deck.specs.declared.Cursor.{Cursor}
 use Rattle.deck.specs.declared.Found.{Found}
@@ -21,12 +23,15 @@ use Rattle.tokens.specs.declared.Cut.{Cut}
 use Rattle.tokens.specs.declared.RowEnd.{RowEnd}
 use Rattle.tokens.specs.Token.{cutAt}
 use Rattle.tokens.specs.Written.{Written}
+use Rattle.drafts.specs.Kinds.{defines, asks, isNamed, closes, writes}
+use Rattle.drafts.specs.Places.{homeOf}
 use Rattle.grammar.specs.declared.Parsed.{Parsed}
 use Rattle.grammar.specs.Contract.{ParsesRow}
 use Rattle.order.specs.declared.Sorted.{Sorted}
 use Rattle.order.specs.Answer.{Sorts}
 use Rattle.records.specs.declared.Instr.{Instr}
 use Rattle.records.specs.Decode.{readAt, decodedAt}
+use Rattle.sheet.specs.Sheet.{entryOf}
 use Rattle.model.specs.declared.answer.Plan.{Plan}
 use Rattle.model.specs.Plan.{Lent, Plans}
 use Rattle.program.specs.Written.{recordCount, writtenProgram, fitting}
@@ -87,6 +92,15 @@ pub record Tokens : Type 0 where
   pub take-cut : (body : List ℕ) (from : ℕ) → Agree (λ (r : Cut). r ≡ cutAt body from)
   pub row : (body kinds args : List ℕ) → Agree3 (λ (r : RowEnd) (k a : List ℕ). Written body kinds args r k a)
 
+-- is_defining, is_asking, is_named, is_closing, records_of, home_of
+pub record Drafts : Type 0 where
+  pub is-defining : (kind : ℕ) → Agree (λ (r : Bool). r ≡ defines kind)
+  pub is-asking : (kind : ℕ) → Agree (λ (r : Bool). r ≡ asks kind)
+  pub is-named : (kind : ℕ) → Agree (λ (r : Bool). r ≡ isNamed kind)
+  pub is-closing : (kind : ℕ) → Agree (λ (r : Bool). r ≡ closes kind)
+  pub records-of : (kind : ℕ) → Agree (λ (r : ℕ). (r ≡ once (writes kind)) × (r ≤ 1))
+  pub home-of : (places : List ℕ) (slot : ℕ) → Agree (λ (r : ℕ). (r ≡ homeOf places slot) × (r < 65536))
+
 -- parse_row
 pub record Grammar : Type 0 where
   pub parse-row : (kinds args out-kinds out-args : List ℕ) (place : ℕ)
@@ -100,6 +114,10 @@ pub record Order : Type 0 where
 pub record Records : Type 0 where
   pub read : (program : List ℕ) (n : ℕ) → Agree (λ (r : Instr). r ≡ readAt program n)
   pub decode : (program : List ℕ) (n : ℕ) → Agree (λ (r : Instr). r ≡ decodedAt program n)
+
+-- put_fault
+pub record Sheet : Type 0 where
+  pub put-fault : (list : List ℕ) (count line code : ℕ) → Agree (λ (l : List ℕ). l ≡ sets list (faultBytes * count) (entryOf line code))
 
 -- plan
 pub record Model : Type 0 where

@@ -17,7 +17,7 @@ use Rattle.tokens.proofs.Rows.{row-short}
 use Rattle.drafts.specs.Tree.{Says as Statement}
 use Rattle.drafts.specs.Drafts.{Draft, draftsOf}
 use Rattle.grammar.specs.Parser.{Read, read, fault, readRow, entire, calls}
-use Rattle.grammar.specs.Contract.{Outcome, outcome, wrote, parsedAs, rowWrote, rowOutcome, ParsesRow}
+use Rattle.grammar.specs.Contract.{ParseOutcome, parseOutcome, wrote, parsedAs, rowWrote, rowOutcome, ParsesRow}
 use Rattle.grammar.specs.declared.Parsed.{Parsed}
 use Rattle.grammar.specs.declared.Parsed.the-variants.{Done, Fault, NoRoom}
 use Rattle.grammar.proofs.Accepts.{written}
@@ -46,7 +46,7 @@ outOf ps = entire (calls (symbols ps)) levels (symbols ps) .out
 module _ {ks us : List ℕ} {p : ℕ} {l u : List ℕ} (h : RowRoom ks us p l u) (r : Parsed) (l′ u′ : List ℕ) (w : ParsesRow ks us l u p r l′ u′)
     (ps : List Placed) (held : heldRow ks us ≡ symbols ps) where
   -- there is room
-  same : outcome r l′ u′ ≡ rowWrote (symbols ps) p l u
+  same : parseOutcome r l′ u′ ≡ rowWrote (symbols ps) p l u
   unfolding rowOutcome
   same =
       w
@@ -60,15 +60,15 @@ module _ {ks us : List ℕ} {p : ℕ} {l u : List ℕ} (h : RowRoom ks us p l u)
   -- so the answer and both buffers are those of the reading
   replied : r ≡ parsedAs (p + length (outOf ps)) (readRow (symbols ps))
   unfolding wrote
-  replied = ap (λ (z : Outcome Parsed). z .reply) same
+  replied = ap (λ (z : ParseOutcome Parsed). z .reply) same
 
   kinds-are : l′ ≡ sets l p (kindsOf (outOf ps))
   unfolding wrote
-  kinds-are = ap (λ (z : Outcome Parsed). z .kinds) same
+  kinds-are = ap (λ (z : ParseOutcome Parsed). z .kinds) same
 
   args-are : u′ ≡ sets u p (argsOf (outOf ps))
   unfolding wrote
-  args-are = ap (λ (z : Outcome Parsed). z .args) same
+  args-are = ap (λ (z : ParseOutcome Parsed). z .args) same
 
   -- by what was read
   by-read : (d : Read) → readRow (symbols ps) ≡ d → r ≡ parsedAs (p + length (outOf ps)) d → TellsOf (parsed ps d) p l u (answerOf r) l′ u′
