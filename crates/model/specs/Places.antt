@@ -1,6 +1,6 @@
 -- The model as code works it out: by place, over the arrays of a sheet. kinds and args are its drafts (specs/Drafts of crate grammar),
 -- lines and bounds those of its statements. Every read past an end gives 0, so that each of these says something of every array. What
--- they mean for a sheet that is laid out is said by the laws of proofs/Meant.
+-- they mean for a sheet that is laid out is said by the laws of proofs/ArraysMean.
 use Prim.Native.Nat.{ℕ, zero, suc, _+_, _-_}
 use mathlib.Core.Bool.{Bool, true, false, not, cond, _&&_, _||_}
 use mathlib.Core.List.{List, [], _∷_, _++_, map}

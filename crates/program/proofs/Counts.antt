@@ -21,10 +21,10 @@ use Rattle.order.specs.Order.{Permutation}
 use Rattle.order.proofs.Sorting.{perm-below}
 use Rattle.model.specs.Definitions.{Def, definedBy, definitions, slotIn, Equation, equationOf, equations, noEquation, equationAt, equationCount}
 use Rattle.model.specs.Faults.{usesIn}
-use Rattle.model.proofs.Drafts.{expressionDrafts}
-use Rattle.model.proofs.Walk.{kindsOf, sheetKinds, draftsBy}
-use Rattle.model.proofs.Doubled.{definedIn}
-use Rattle.model.proofs.Rows.{equation}
+use Rattle.model.proofs.StatementDrafts.{expressionDrafts}
+use Rattle.model.proofs.SheetWalk.{kindsOf, sheetKinds, draftsBy}
+use Rattle.model.proofs.SheetKeys.{definedIn}
+use Rattle.model.proofs.SheetEquations.{equation}
 use Rattle.program.specs.Program.{instrItem, constantRecs, initialRecs, lastInstr, code, equationRecs, program}
 use Rattle.drafts.specs.Kinds.{writes}
 use Rattle.program.specs.Written.{recordCount}

@@ -1,6 +1,6 @@
 pub mod Steps
 pub mod Settings
 pub mod Counts
-pub mod Meant
-pub mod Puts
-pub mod Parts
+pub mod WrittenMeans
+pub mod RoomFilled
+pub mod StepCases

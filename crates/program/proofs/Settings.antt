@@ -28,13 +28,13 @@ use Rattle.records.specs.Record.{Rec, recBytes}
 use Rattle.model.specs.Definitions.{What, constant, assigned, integral, Def, definedBy, definitions, keys, placeIn, slotIn}
 use Rattle.model.specs.Faults.{constantKeys, nameFaults}
 use Rattle.drafts.specs.Places.{homeOf}
-use Rattle.model.proofs.Drafts.{noDraft, Plain, expressionDrafts, along-expression, Home, homeOfWhat}
-use Rattle.model.proofs.Walk.{sheetKinds, sheetLines, sheetBounds, sheetKeys, sheetSlots, sheetPlaces, slotOf, kind-at, slot-at, draftsBy, line-at}
-use Rattle.model.proofs.Walk.{begins-at, drafts-split, first-kind, span}
-use Rattle.model.proofs.Slots.{Once, isConstant, definitionOf, definition-first, definition-later, constant-at}
-use Rattle.model.proofs.Doubled.{definedIn, homeAt}
-use Rattle.model.proofs.Asked.{home-of}
-use Rattle.model.proofs.Clean.{initial-known}
+use Rattle.model.proofs.StatementDrafts.{noDraft, Plain, expressionDrafts, along-expression, Home, homeOfWhat}
+use Rattle.model.proofs.SheetWalk.{sheetKinds, sheetLines, sheetBounds, sheetKeys, sheetSlots, sheetPlaces, slotOf, kind-at, slot-at, draftsBy, line-at}
+use Rattle.model.proofs.SheetWalk.{begins-at, drafts-split, first-kind, span}
+use Rattle.model.proofs.KeyPlaces.{Once, isConstant, definitionOf, definition-first, definition-later, constant-at}
+use Rattle.model.proofs.SheetKeys.{definedIn, homeAt}
+use Rattle.model.proofs.SheetNames.{home-of}
+use Rattle.model.proofs.NoModelFault.{initial-known}
 use Rattle.program.specs.Program.{constantValue, valueIn, initialValue, constantRecs, initialRecs}
 use Rattle.program.specs.Written.{fieldBytes, settingAt, reach, settingsOf}
 

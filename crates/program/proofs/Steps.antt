@@ -17,9 +17,9 @@ use Rattle.records.specs.declared.Instr.{Instr}
 use Rattle.records.specs.declared.Instr.the-variants.{Store, Deriv}
 use Rattle.records.specs.Record.{rec, recBytes}
 use Rattle.model.specs.Definitions.{Def, definitions, keys, slotIn, Equation, equations, equationAt}
-use Rattle.model.proofs.Drafts.{expressionDrafts}
-use Rattle.model.proofs.Walk.{sheetKinds, sheetLines, sheetBounds, sheetSlots, sheetRows, slotOf, kind-at, slot-at, line-at, in-statement}
-use Rattle.model.proofs.Rows.{equation, rows-by, row-at}
+use Rattle.model.proofs.StatementDrafts.{expressionDrafts}
+use Rattle.model.proofs.SheetWalk.{sheetKinds, sheetLines, sheetBounds, sheetSlots, sheetRows, slotOf, kind-at, slot-at, line-at, in-statement}
+use Rattle.model.proofs.SheetEquations.{equation, rows-by, row-at}
 use Rattle.program.specs.Program.{instrItem, equationRecs}
 use Rattle.program.specs.Written.{stepBytes, stepAt, stepsOf, orderedSteps}
 

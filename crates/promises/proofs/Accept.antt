@@ -19,7 +19,7 @@ use Rattle.order.specs.Order.{EachAfter}
 use Rattle.order.proofs.Sorting.{after-front, perm-below}
 use Rattle.model.specs.Definitions.{Def, keys, slotIn, Equation, equations, equationAt, equationCount}
 use Rattle.model.specs.Faults.{constantKeys, usesIn, GoodOrder}
-use Rattle.model.proofs.Slots.{Once, equationKeys, count-keys}
+use Rattle.model.proofs.KeyPlaces.{Once, equationKeys, count-keys}
 use Rattle.records.specs.declared.Instr.the-variants.{Store, Deriv}
 use Rattle.records.specs.Record.{instrs}
 use Rattle.program.specs.Program.{lastInstr, program}

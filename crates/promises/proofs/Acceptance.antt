@@ -17,8 +17,8 @@ use Rattle.sheet.specs.Sheet.{Numbered, said}
 use Rattle.sheet.specs.Reader.{sheetOf}
 use Rattle.model.specs.Definitions.{integral, Def, keys, Equation, equations, noEquation, equationAt, equationCount}
 use Rattle.model.specs.Faults.{GoodOrder, orderOf}
-use Rattle.model.proofs.Slots.{Once, keys-once}
-use Rattle.model.proofs.Clean.{no-faults, order-good}
+use Rattle.model.proofs.KeyPlaces.{Once, keys-once}
+use Rattle.model.proofs.NoModelFault.{no-faults, order-good}
 use Rattle.records.specs.Record.{Rec, programBytes, instrs, decoded}
 use Rattle.program.specs.Program.{initialValue}
 use Rattle.translator.specs.Verdict.{translated, verdictOf, translation}

@@ -24,7 +24,7 @@ use Rattle.order.proofs.Chains.{unsortable-iff}
 use Rattle.order.proofs.FirstOrder.{sortable-iff}
 use Rattle.model.specs.Definitions.{Def, equationCount}
 use Rattle.model.specs.Faults.{faultIf, usesIn, fault24, faults24, modelFaults, GoodOrder, orderOf}
-use Rattle.model.proofs.Clean.{order-good}
+use Rattle.model.proofs.NoModelFault.{order-good}
 use Rattle.model.specs.Text.{textDefinitions, lineAt}
 use Rattle.model.proofs.Lines.{equation-lines-rise, text-order-first}
 use Rattle.records.specs.Record.{Rec}

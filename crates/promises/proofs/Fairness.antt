@@ -16,7 +16,7 @@ use Rattle.order.specs.Order.{EachAfter}
 use Rattle.order.proofs.Sorting.{after-front}
 use Rattle.model.specs.Definitions.{What, constant, assigned, integral, Def, keys, slotIn, Equation, equationAt, equationCount}
 use Rattle.model.specs.Faults.{constantKey, constantKeys, usesIn}
-use Rattle.model.proofs.Slots.{Once, equationKeys, count-keys}
+use Rattle.model.proofs.KeyPlaces.{Once, equationKeys, count-keys}
 use Rattle.promises.proofs.Settle.{assignedKeys, heldKeys, assigned-append, held-append, First, Fair}
 use Rattle.promises.proofs.Owned.{from-assigned, from-held, own, eq-in, eq-mine, eq-same}
 use Rattle.promises.proofs.Runs.{asEquation, fixed}

@@ -16,7 +16,7 @@ use Rattle.drafts.specs.Tree.{Tree, Initial, plain, from}
 use Rattle.model.specs.Definitions.{What, constant, assigned, integral, Def, keys}
 use Rattle.model.specs.Faults.{namedBy, initialOf, constantKey, constantKeys, within, nameFault, nameFaults}
 use Rattle.program.specs.Program.{constantValue, valueIn, initialValue}
-use Rattle.model.proofs.Clean.{no-name-fault}
+use Rattle.model.proofs.NoModelFault.{no-name-fault}
 use Rattle.promises.specs.Meaning.{definitionAt, Resolved}
 use Rattle.promises.proofs.Owned.{within-in}
 

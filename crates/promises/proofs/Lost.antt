@@ -18,7 +18,7 @@ use Rattle.sheet.specs.Reader.{sheetOf}
 use Rattle.order.proofs.Sorting.{perm-below}
 use Rattle.model.specs.Definitions.{What, constant, assigned, integral, Def, keys, placeIn, slotIn, Equation, equationAt, equationCount}
 use Rattle.model.specs.Faults.{usesIn, GoodOrder, orderOf}
-use Rattle.model.proofs.Slots.{Once, place-in, place-at, at-same, equationKeys, count-keys}
+use Rattle.model.proofs.KeyPlaces.{Once, place-in, place-at, at-same, equationKeys, count-keys}
 use Rattle.records.specs.declared.Instr.the-variants.{Constant, Initial as Start, Store, Deriv}
 use Rattle.records.specs.Record.{Rec, rec}
 use Rattle.program.specs.Program.{initialValue, constantRecs, initialRecs, equationRecs, program}

@@ -18,8 +18,8 @@ use Rattle.drafts.specs.Tree.{names}
 use Rattle.model.specs.Definitions.{What, constant, assigned, integral, Def, keys, placeIn, slotIn, Equation, equationOf, equations, noEquation}
 use Rattle.model.specs.Definitions.{equationAt, equationCount}
 use Rattle.model.specs.Faults.{initialNames, namedBy, initialOf, constantKey, constantKeys, within, nameFault, nameFaults, GoodOrder}
-use Rattle.model.proofs.Slots.{Once, place-in, place-at, place-same, place-of-at, at-same, equationKeys, count-keys, key-at}
-use Rattle.model.proofs.Clean.{no-name-fault}
+use Rattle.model.proofs.KeyPlaces.{Once, place-in, place-at, place-same, place-of-at, at-same, equationKeys, count-keys, key-at}
+use Rattle.model.proofs.NoModelFault.{no-name-fault}
 use Rattle.promises.specs.Meaning.{noDef, definitionAt}
 use Rattle.promises.proofs.Settle.{ifAssigned, ifHeld, assignedKeys, heldKeys}
 

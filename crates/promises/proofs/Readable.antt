@@ -18,7 +18,7 @@ use Rattle.drafts.specs.Tree.{Initial, plain, from}
 use Rattle.order.proofs.Sorting.{perm-below}
 use Rattle.model.specs.Definitions.{What, constant, assigned, integral, Def, keys, slotIn, equations, noEquation, equationAt, equationCount}
 use Rattle.model.specs.Faults.{usesIn, GoodOrder}
-use Rattle.model.proofs.Slots.{Once}
+use Rattle.model.proofs.KeyPlaces.{Once}
 use Rattle.records.specs.Record.{instrs}
 use Rattle.program.specs.Program.{instrTwo, instrThree, constantValue, valueIn, initialValue, constantRecs, initialRecs, lastInstr, program}
 use Rattle.promises.proofs.Decoding.{Double, Proper}

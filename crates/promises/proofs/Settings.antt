@@ -13,7 +13,7 @@ use Rattle.laws.proofs.Tests.{eq-or-ne}
 use Rattle.laws.proofs.Counts.{once-same, once-other}
 use Rattle.model.specs.Definitions.{What, constant, assigned, integral, Def, keys, slotIn, Equation, equationOf, equations}
 use Rattle.model.specs.Faults.{constantKey, constantKeys}
-use Rattle.model.proofs.Slots.{Once, place-same}
+use Rattle.model.proofs.KeyPlaces.{Once, place-same}
 use Rattle.records.specs.declared.Instr.{Instr}
 use Rattle.records.specs.declared.Instr.the-variants.{Constant, Initial}
 use Rattle.records.specs.Record.{instrs}

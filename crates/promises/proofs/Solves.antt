@@ -18,7 +18,7 @@ use Rattle.drafts.specs.Tree.{value}
 use Rattle.order.proofs.Sorting.{perm-below}
 use Rattle.model.specs.Definitions.{What, constant, assigned, integral, Def, keys, slotIn, Equation, equationAt, equationCount}
 use Rattle.model.specs.Faults.{constantKey, constantKeys, usesIn, GoodOrder}
-use Rattle.model.proofs.Slots.{Once, equationKeys, count-keys}
+use Rattle.model.proofs.KeyPlaces.{Once, equationKeys, count-keys}
 use Rattle.promises.specs.Meaning.{valueOf, definitionAt, Holds, Solution}
 use Rattle.promises.proofs.Settle.{assignedKeys, heldKeys, valuesAfter, derivsAfter, Free, Met, Placed, settled}
 use Rattle.promises.proofs.Settle.{kept-values, kept-derivs, long-values, long-derivs}

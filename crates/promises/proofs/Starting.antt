@@ -13,7 +13,7 @@ use Rattle.drafts.specs.Tree.{Two, plus, minus, times, over, compar, Three, ins
 use Rattle.drafts.specs.Tree.{Initial}
 use Rattle.model.specs.Definitions.{What, constant, assigned, integral, Def, keys, slotIn, equationAt}
 use Rattle.model.specs.Faults.{orderOf}
-use Rattle.model.proofs.Slots.{Once}
+use Rattle.model.proofs.KeyPlaces.{Once}
 use Rattle.records.specs.declared.Instr.{Instr}
 use Rattle.records.specs.Record.{Rec, programBytes, instrs}
 use Rattle.program.specs.Program.{instrTwo, instrThree, initialValue, constantRecs, initialRecs, lastInstr, program}

@@ -19,7 +19,7 @@ use Rattle.order.proofs.Sorting.{after-front, perm-below}
 use Rattle.model.specs.Definitions.{What, constant, assigned, integral, Def, keys, slotIn, Equation, equationOf, equations, noEquation}
 use Rattle.model.specs.Definitions.{equationAt, equationCount}
 use Rattle.model.specs.Faults.{usesIn, GoodOrder, orderOf}
-use Rattle.model.proofs.Slots.{Once}
+use Rattle.model.proofs.KeyPlaces.{Once}
 use Rattle.records.specs.Record.{Rec}
 use Rattle.translator.specs.Verdict.{translated, verdictOf}
 use Rattle.model.specs.Text.{textDefinitions}

@@ -19,14 +19,14 @@ use Rattle.laws.specs.Places.{gather}
 use Rattle.laws.proofs.Counts.{has-false}
 use Rattle.laws.proofs.Gathers.{gather-none}
 use Rattle.laws.proofs.Tests.{bool-cases}
-use Rattle.model.proofs.Clean.{order-good}
+use Rattle.model.proofs.NoModelFault.{order-good}
 use Rattle.model.specs.Definitions.{Def, definitions, equationCount}
 use Rattle.model.specs.Faults.{faults21, nameFaults, faults24, modelFaults, orderOf, usesIn as uses}
 use Rattle.model.specs.Places.{keysIn, placesIn, doubles, resolved, nameless, equationRows, assignedSlots, usedIn, startsFrom, loopAt, loops}
 use Rattle.model.specs.Plan.{Lent, lent, PlanOutcome, planOutcome, refused, faulted, some, fit, orderedPlan, weighed, tested, linkedPlan, distinct}
 use Rattle.model.specs.Plan.{sheeted, planned}
 use Rattle.translator.specs.Working.{blank, held}
-use Rattle.model.proofs.Meant.{keys-meant, doubles-meant, names-meant, rows-meant, order-meant, loops-meant}
+use Rattle.model.proofs.ArraysMean.{keys-meant, doubles-meant, names-meant, rows-meant, order-meant, loops-meant}
 
 -- without a 24 all equations are placed
 pub all-placed : (ds : List Def) → faults24 ds ≡ [] → length (orderOf ds) ≡ equationCount ds

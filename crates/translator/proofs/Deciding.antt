@@ -20,7 +20,7 @@ use Rattle.model.specs.Plan.{PlanOutcome}
 use Rattle.records.specs.Record.{Rec, recBytes, programBytes}
 use Rattle.program.specs.Program.{program}
 use Rattle.program.specs.Written.{recordCount, writtenProgram}
-use Rattle.program.proofs.Meant.{count-meant, program-meant}
+use Rattle.program.proofs.WrittenMeans.{count-meant, program-meant}
 use Rattle.translator.specs.declared.Verdict.{Verdict}
 use Rattle.translator.specs.declared.Verdict.the-variants.{Refused, Faulty, Translated}
 use Rattle.translator.specs.Verdict.{programmed, modelled}

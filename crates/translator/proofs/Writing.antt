@@ -19,9 +19,9 @@ use Rattle.model.specs.Faults.{modelFaults, orderOf}
 use Rattle.model.specs.Places.{placesIn, equationRows}
 use Rattle.model.specs.Plan.{lent, PlanOutcome, planOutcome, Plans, fit}
 use Rattle.model.specs.declared.answer.Plan.{Plan}
-use Rattle.model.proofs.Clean.{no-faults}
-use Rattle.model.proofs.Staging.{rows-few}
-use Rattle.model.proofs.Meant.{places-meant, rows-meant}
+use Rattle.model.proofs.NoModelFault.{no-faults}
+use Rattle.model.proofs.PlanStages.{rows-few}
+use Rattle.model.proofs.ArraysMean.{places-meant, rows-meant}
 use Rattle.program.specs.Written.{recordCount, writtenProgram, fitting}
 use Rattle.translator.specs.declared.Verdict.{Verdict}
 use Rattle.translator.specs.declared.Verdict.the-variants.{Refused, Faulty, Translated}

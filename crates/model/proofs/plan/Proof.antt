@@ -3,7 +3,7 @@ use mathlib.Core.Path.{sym, _∙_}
 use borrow.Author.Needs.{needs}
 use lib.ListN.{length}
 use Rattle.model.specs.Plan.{lent}
-use Rattle.model.proofs.Staging.{fit-sound, planned-fit, planned-unfit}
+use Rattle.model.proofs.PlanStages.{fit-sound, planned-fit, planned-unfit}
 use Rattle.model.proofs.plan.Statement.{statement}
 use Rattle.model.proofs.plan.Tie as tie
 

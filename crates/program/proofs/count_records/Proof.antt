@@ -5,7 +5,7 @@ use native.Mathlib.Omega.{arith}
 use borrow.Author.Needs.{needs}
 use lib.ListN.{length, drop, drop-of-length-le}
 use Rattle.program.specs.Written.{recordCount}
-use Rattle.program.proofs.Parts.{counted}
+use Rattle.program.proofs.StepCases.{counted}
 use Rattle.program.proofs.count_records.Statement.{statement}
 use Rattle.program.proofs.count_records.Tie as tie
 

@@ -3,8 +3,8 @@ use Prim.Native.Nat.{_-_}
 use borrow.Author.Needs.{needs}
 use lib.ListN.{length}
 use Rattle.program.specs.Written.{settingsOf}
-use Rattle.program.proofs.Puts.{Filling, filling-first, filling-next, filling-whole}
-use Rattle.program.proofs.Parts.{whole-settings}
+use Rattle.program.proofs.RoomFilled.{Filling, filling-first, filling-next, filling-whole}
+use Rattle.program.proofs.StepCases.{whole-settings}
 use Rattle.program.proofs.put_all_settings.Statement.{statement}
 use Rattle.program.proofs.put_all_settings.Tie as tie
 

@@ -1,6 +1,6 @@
 -- The first eight bytes, and the value behind them.
 use borrow.Author.Needs.{needs}
-use Rattle.program.proofs.Puts.{fields-put}
+use Rattle.program.proofs.RoomFilled.{fields-put}
 use Rattle.program.proofs.put_fields.Statement.{statement}
 use Rattle.program.proofs.put_fields.Tie as tie
 

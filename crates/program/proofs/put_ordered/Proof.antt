@@ -3,8 +3,8 @@ use Prim.Native.Nat.{_-_}
 use borrow.Author.Needs.{needs}
 use lib.ListN.{length, getD}
 use Rattle.program.specs.Written.{stepsOf}
-use Rattle.program.proofs.Puts.{fill-as, Filling, filling-first, filling-next, filling-whole}
-use Rattle.program.proofs.Parts.{whole-steps, ordered-gather}
+use Rattle.program.proofs.RoomFilled.{fill-as, Filling, filling-first, filling-next, filling-whole}
+use Rattle.program.proofs.StepCases.{whole-steps, ordered-gather}
 use Rattle.program.proofs.put_ordered.Statement.{statement}
 use Rattle.program.proofs.put_ordered.Tie as tie
 

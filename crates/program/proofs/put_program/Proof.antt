@@ -5,8 +5,8 @@ use native.Mathlib.Omega.{arith}
 use borrow.Author.Needs.{needs}
 use lib.ListN.{length}
 use Rattle.program.specs.Written.{writtenProgram}
-use Rattle.program.proofs.Puts.{fill-within, fill-both}
-use Rattle.program.proofs.Parts.{whole-all-settings}
+use Rattle.program.proofs.RoomFilled.{fill-within, fill-both}
+use Rattle.program.proofs.StepCases.{whole-all-settings}
 use Rattle.program.proofs.put_program.Statement.{statement}
 use Rattle.program.proofs.put_program.Tie as tie
 

@@ -3,7 +3,7 @@ use mathlib.Core.Path.{refl}
 use native.Mathlib.Omega.{arith}
 use borrow.Author.Needs.{needs}
 use Rattle.program.specs.Written.{fieldBytes}
-use Rattle.program.proofs.Puts.{length-record, fill-part, fill-no-room}
+use Rattle.program.proofs.RoomFilled.{length-record, fill-part, fill-no-room}
 use Rattle.program.proofs.put_record.Statement.{statement}
 use Rattle.program.proofs.put_record.Tie as tie
 

@@ -3,7 +3,7 @@ use borrow.Author.Tests.{eq-eqb, ne-eqb}
 use borrow.Author.Needs.{needs}
 use lib.ListN.{getD}
 use Rattle.program.specs.Written.{fieldBytes, valueAt, settingAt}
-use Rattle.program.proofs.Puts.{fill-as, fill-none}
+use Rattle.program.proofs.RoomFilled.{fill-as, fill-none}
 use Rattle.program.proofs.put_setting.Statement.{statement}
 use Rattle.program.proofs.put_setting.Tie as tie
 

@@ -5,8 +5,8 @@ use native.Mathlib.Omega.{arith}
 use borrow.Author.Needs.{needs}
 use Rattle.laws.specs.Places.{gather}
 use Rattle.program.specs.Written.{settingAt, settingsOf}
-use Rattle.program.proofs.Puts.{fill-as, fill-none, Filling, filling-first, filling-next, filling-all}
-use Rattle.program.proofs.Parts.{whole-setting, settings-none, settings-some}
+use Rattle.program.proofs.RoomFilled.{fill-as, fill-none, Filling, filling-first, filling-next, filling-all}
+use Rattle.program.proofs.StepCases.{whole-setting, settings-none, settings-some}
 use Rattle.program.proofs.put_settings.Statement.{statement}
 use Rattle.program.proofs.put_settings.Tie as tie
 

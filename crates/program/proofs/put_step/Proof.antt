@@ -1,8 +1,8 @@
 use mathlib.Core.Path.{_≡_}
 use borrow.Author.Needs.{needs}
 use Rattle.program.specs.Written.{fieldBytes, stepBytes}
-use Rattle.program.proofs.Puts.{fill-as, fill-none}
-use Rattle.program.proofs.Parts.{step-value, step-clock, step-below, step-above, step-plain}
+use Rattle.program.proofs.RoomFilled.{fill-as, fill-none}
+use Rattle.program.proofs.StepCases.{step-value, step-clock, step-below, step-above, step-plain}
 use Rattle.program.proofs.put_step.Statement.{statement}
 use Rattle.program.proofs.put_step.Tie as tie
 

@@ -2,8 +2,8 @@
 use Prim.Native.Nat.{_-_}
 use borrow.Author.Needs.{needs}
 use Rattle.program.specs.Written.{stepAt}
-use Rattle.program.proofs.Puts.{Filling, filling-first, filling-next, filling-all}
-use Rattle.program.proofs.Parts.{whole-step-at}
+use Rattle.program.proofs.RoomFilled.{Filling, filling-first, filling-next, filling-all}
+use Rattle.program.proofs.StepCases.{whole-step-at}
 use Rattle.program.proofs.put_steps.Statement.{statement}
 use Rattle.program.proofs.put_steps.Tie as tie
 

@@ -2,7 +2,7 @@
 use Prim.Native.Nat.{_-_}
 use borrow.Author.Needs.{needs}
 use lib.ListN.{length}
-use Rattle.model.proofs.Collecting.{Collecting, collecting-first, collecting-next, collecting-last}
+use Rattle.model.proofs.DefinitionsCollected.{Collecting, collecting-first, collecting-next, collecting-last}
 use Rattle.model.proofs.collect.collect.Statement.{statement}
 use Rattle.model.proofs.collect.collect.Tie as tie
 

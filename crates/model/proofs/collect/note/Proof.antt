@@ -1,7 +1,7 @@
 -- A draft that defines a name is stored, another is not.
 use mathlib.Core.Path.{sym, _∙_}
 use borrow.Author.Needs.{needs}
-use Rattle.model.proofs.Collecting.{noted, not-noted}
+use Rattle.model.proofs.DefinitionsCollected.{noted, not-noted}
 use Rattle.model.proofs.collect.note.Statement.{statement}
 use Rattle.model.proofs.collect.note.Tie as tie
 

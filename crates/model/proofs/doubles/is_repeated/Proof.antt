@@ -4,7 +4,7 @@ use mathlib.Core.Path.{_≡_, refl, sym, _∙_}
 use native.Mathlib.Omega.{arith}
 use borrow.Author.Needs.{needs}
 use Rattle.model.specs.Working.{repeats}
-use Rattle.model.proofs.Doubling.{repeat-stop, repeat-pass, repeat-done}
+use Rattle.model.proofs.RepeatedKeys.{repeat-stop, repeat-pass, repeat-done}
 use Rattle.model.proofs.doubles.is_repeated.Statement.{statement}
 use Rattle.model.proofs.doubles.is_repeated.Tie as tie
 

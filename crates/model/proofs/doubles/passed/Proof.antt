@@ -5,7 +5,7 @@ use native.Mathlib.Omega.{arith}
 use borrow.Author.Needs.{needs}
 use lib.ListN.{length}
 use Rattle.model.specs.Working.{before}
-use Rattle.model.proofs.Doubling.{before-more, before-stop, before-done}
+use Rattle.model.proofs.RepeatedKeys.{before-more, before-stop, before-done}
 use Rattle.model.proofs.doubles.passed.Statement.{statement}
 use Rattle.model.proofs.doubles.passed.Tie as tie
 

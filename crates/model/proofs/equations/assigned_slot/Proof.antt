@@ -2,9 +2,9 @@
 use native.Mathlib.Omega.{arith}
 use borrow.Author.Needs.{needs}
 use Rattle.model.specs.Places.{resolved}
-use Rattle.model.proofs.Finding.{place-le}
-use Rattle.model.proofs.Naming.{slot-stored}
-use Rattle.model.proofs.Rowing.{last-kind, assigned-store, assigned-none}
+use Rattle.model.proofs.KeysFound.{place-le}
+use Rattle.model.proofs.NamesResolved.{slot-stored}
+use Rattle.model.proofs.EquationReads.{last-kind, assigned-store, assigned-none}
 use Rattle.model.proofs.equations.assigned_slot.Statement.{statement}
 use Rattle.model.proofs.equations.assigned_slot.Tie as tie
 

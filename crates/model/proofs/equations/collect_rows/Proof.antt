@@ -3,7 +3,7 @@ use Prim.Native.Nat.{_-_}
 use native.Mathlib.Omega.{arith}
 use borrow.Author.Needs.{needs}
 use Rattle.model.specs.Places.{isEquation, equationRows}
-use Rattle.model.proofs.Rowing.{Listing, listing-first, listing-next, listing-last}
+use Rattle.model.proofs.EquationReads.{Listing, listing-first, listing-next, listing-last}
 use Rattle.model.proofs.equations.collect_rows.Statement.{statement}
 use Rattle.model.proofs.equations.collect_rows.Tie as tie
 

@@ -2,7 +2,7 @@
 use mathlib.Core.Path.{ap, _∙_}
 use borrow.Author.Needs.{needs}
 use Rattle.drafts.specs.Kinds.{closes}
-use Rattle.model.proofs.Rowing.{last-kind, equation-empty, equation-last}
+use Rattle.model.proofs.EquationReads.{last-kind, equation-empty, equation-last}
 use Rattle.model.proofs.equations.is_equation.Statement.{statement}
 use Rattle.model.proofs.equations.is_equation.Tie as tie
 

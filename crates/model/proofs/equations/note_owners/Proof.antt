@@ -4,7 +4,7 @@ use native.Mathlib.Omega.{arith}
 use borrow.Author.Needs.{needs}
 use lib.ListN.{length-map}
 use Rattle.model.specs.Places.{resolved, assignedSlot, assignedSlots}
-use Rattle.model.proofs.Owning.{Owning, owning-start, assigned-at, owning-next, owning-last}
+use Rattle.model.proofs.SlotOwners.{Owning, owning-start, assigned-at, owning-next, owning-last}
 use Rattle.model.proofs.equations.note_owners.Statement.{statement}
 use Rattle.model.proofs.equations.note_owners.Tie as tie
 

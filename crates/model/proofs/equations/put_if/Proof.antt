@@ -1,6 +1,6 @@
 -- A number that is stored, or none.
 use borrow.Author.Needs.{needs}
-use Rattle.model.proofs.Collecting.{put-one, put-none}
+use Rattle.model.proofs.DefinitionsCollected.{put-one, put-none}
 use Rattle.model.proofs.equations.put_if.Statement.{statement}
 use Rattle.model.proofs.equations.put_if.Tie as tie
 

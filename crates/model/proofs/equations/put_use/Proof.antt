@@ -1,6 +1,6 @@
 -- A name in an expression uses the equation that owns its slot.
 use borrow.Author.Needs.{needs}
-use Rattle.model.proofs.Rowing.{use-other, use-none, use-one}
+use Rattle.model.proofs.EquationReads.{use-other, use-none, use-one}
 use Rattle.model.proofs.equations.put_use.Statement.{statement}
 use Rattle.model.proofs.equations.put_use.Tie as tie
 

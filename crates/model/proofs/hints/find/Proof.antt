@@ -2,7 +2,7 @@
 use native.Mathlib.Omega.{arith}
 use borrow.Author.Needs.{needs}
 use lib.ListN.{length}
-use Rattle.model.proofs.Finding.{Sought, ahead, sought-first, sought-there, sought-next, sought-less, sought-none}
+use Rattle.model.proofs.KeysFound.{Sought, ahead, sought-first, sought-there, sought-next, sought-less, sought-none}
 use Rattle.model.proofs.hints.find.Statement.{statement}
 use Rattle.model.proofs.hints.find.Tie as tie
 

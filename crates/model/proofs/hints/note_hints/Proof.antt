@@ -1,6 +1,6 @@
 -- The hints and links of the keys from the last down to the present one are noted.
 use borrow.Author.Needs.{needs}
-use Rattle.model.proofs.Finding.{Hinting, hinting-first, hinting-next, hinting-last}
+use Rattle.model.proofs.KeysFound.{Hinting, hinting-first, hinting-next, hinting-last}
 use Rattle.model.proofs.hints.note_hints.Statement.{statement}
 use Rattle.model.proofs.hints.note_hints.Tie as tie
 

@@ -2,7 +2,7 @@
 use Prim.Native.Nat.{_-_}
 use borrow.Author.Needs.{needs}
 use lib.ListN.{length}
-use Rattle.model.proofs.Looping.{Marking, marking-first, marking-next, marking-last}
+use Rattle.model.proofs.LoopMarks.{Marking, marking-first, marking-next, marking-last}
 use Rattle.model.proofs.loops.mark.Statement.{statement}
 use Rattle.model.proofs.loops.mark.Tie as tie
 

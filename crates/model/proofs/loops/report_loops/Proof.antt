@@ -1,6 +1,6 @@
 -- What is not marked is not placed.
 use borrow.Author.Needs.{needs}
-use Rattle.model.proofs.Looping.{unmarked-loops}
+use Rattle.model.proofs.LoopMarks.{unmarked-loops}
 use Rattle.model.proofs.loops.report_loops.Statement.{statement}
 use Rattle.model.proofs.loops.report_loops.Tie as tie
 

@@ -5,7 +5,7 @@ use mathlib.Core.Logic.{⊎-elim}
 use borrow.Author.Needs.{needs}
 use lib.ListN.{length}
 use Rattle.model.specs.Places.{undefinedAt, unfitAt}
-use Rattle.model.proofs.Naming.{undefined-read, unfit-read, Seeking, seeking-first, seeking-found, seeking-unfit, seeking-pass, seeking-last}
+use Rattle.model.proofs.NamesResolved.{undefined-read, unfit-read, Seeking, seeking-first, seeking-found, seeking-unfit, seeking-pass, seeking-last}
 use Rattle.model.proofs.names.flaw_in.Statement.{statement}
 use Rattle.model.proofs.names.flaw_in.Tie as tie
 

@@ -1,6 +1,6 @@
 -- Where no name is flawed, nothing is looked through.
 use borrow.Author.Needs.{needs}
-use Rattle.model.proofs.Staging.{names-clear}
+use Rattle.model.proofs.PlanStages.{names-clear}
 use Rattle.model.proofs.names.report_names.Statement.{statement}
 use Rattle.model.proofs.names.report_names.Tie as tie
 

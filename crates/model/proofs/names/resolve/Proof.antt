@@ -4,8 +4,8 @@ use mathlib.Core.Path.{refl}
 use native.Mathlib.Omega.{arith}
 use borrow.Author.Needs.{needs}
 use lib.ListN.{length}
-use Rattle.model.proofs.Staging.{prefix-length}
-use Rattle.model.proofs.Linking.{Stating, stating-first, stating-walked, stating-few, stating-next, stating-last}
+use Rattle.model.proofs.PlanStages.{prefix-length}
+use Rattle.model.proofs.NamesLinked.{Stating, stating-first, stating-walked, stating-few, stating-next, stating-last}
 use Rattle.model.proofs.names.resolve.Statement.{statement}
 use Rattle.model.proofs.names.resolve.Tie as tie
 

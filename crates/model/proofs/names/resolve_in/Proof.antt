@@ -5,9 +5,9 @@ use mathlib.Core.Logic.{⊎-elim}
 use native.Mathlib.Omega.{arith}
 use borrow.Author.Needs.{needs}
 use lib.ListN.{getD}
-use Rattle.model.proofs.Finding.{place-le}
-use Rattle.model.proofs.Naming.{slot-named}
-use Rattle.model.proofs.Linking.{walk, Walking, walking-first, walking-flawed, walking-clear, walking-other, walking-last}
+use Rattle.model.proofs.KeysFound.{place-le}
+use Rattle.model.proofs.NamesResolved.{slot-named}
+use Rattle.model.proofs.NamesLinked.{walk, Walking, walking-first, walking-flawed, walking-clear, walking-other, walking-last}
 use Rattle.model.proofs.names.resolve_in.Statement.{statement}
 use Rattle.model.proofs.names.resolve_in.Tie as tie
 

@@ -7,7 +7,7 @@ use borrow.Author.Needs.{needs}
 use lib.ListN.{length}
 use Rattle.model.specs.Places.{equationRows}
 use Rattle.model.specs.Working.{Holds}
-use Rattle.model.proofs.Staging.{rows-few, holds-put, holds-front, linkable}
+use Rattle.model.proofs.PlanStages.{rows-few, holds-put, holds-front, linkable}
 use Rattle.model.proofs.stages.connect.Statement.{statement}
 use Rattle.model.proofs.stages.connect.Tie as tie
 

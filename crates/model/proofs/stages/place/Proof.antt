@@ -1,7 +1,7 @@
 -- A table that fits is sorted; then all are placed, or fewer.
 use native.Mathlib.Omega.{arith}
 use borrow.Author.Needs.{needs}
-use Rattle.model.proofs.Staging.{prefix-length, sorts-fit, sorts-long, sorts-short, sorts-whole}
+use Rattle.model.proofs.PlanStages.{prefix-length, sorts-fit, sorts-long, sorts-short, sorts-whole}
 use Rattle.model.proofs.stages.place.Statement.{statement}
 use Rattle.model.proofs.stages.place.Tie as tie
 

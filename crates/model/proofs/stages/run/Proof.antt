@@ -8,8 +8,8 @@ use lib.ListN.{length-replicate}
 use Rattle.limits.specs.Limits.{mostDefinitions}
 use Rattle.model.specs.Plan.{lent}
 use Rattle.model.specs.Working.{Weighs}
-use Rattle.model.proofs.Staging.{prefix-length, holds-front, keys-front, places-held, places-front, keyed, sheeted-many, sheeted-few}
-use Rattle.model.proofs.Staging.{distinct-fault, distinct-none, placeable, searched, tested-fault, tested-none, weighed-fit, weighed-by}
+use Rattle.model.proofs.PlanStages.{prefix-length, holds-front, keys-front, places-held, places-front, keyed, sheeted-many, sheeted-few}
+use Rattle.model.proofs.PlanStages.{distinct-fault, distinct-none, placeable, searched, tested-fault, tested-none, weighed-fit, weighed-by}
 use Rattle.model.proofs.stages.run.Statement.{statement}
 use Rattle.model.proofs.stages.run.Tie as tie
 

@@ -19,8 +19,8 @@ use Rattle.order.proofs.FirstOrder.{Sortable, order-is-first}
 use Rattle.model.specs.Definitions.{Def, definitions, keys, equationAt, equationCount}
 use Rattle.model.specs.Faults.{faults21, constantKeys, within, nameFault, nameFaultOf, nameFaults, usesIn, fault24, faults24, orElse, modelFaults}
 use Rattle.model.specs.Faults.{GoodOrder, orderOf}
-use Rattle.model.proofs.Slots.{no-fault}
-use Rattle.model.proofs.Doubled.{definedIn}
+use Rattle.model.proofs.KeyPlaces.{no-fault}
+use Rattle.model.proofs.SheetKeys.{definedIn}
 
 -- nothing in either list
 or-else-none : (f g : List Fault) → orElse f g ≡ [] → (f ≡ []) × (g ≡ [])

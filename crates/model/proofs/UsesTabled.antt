@@ -20,7 +20,7 @@ use Rattle.model.specs.Definitions.{placeIn}
 use Rattle.drafts.specs.Places.{begins, ends}
 use Rattle.model.specs.Places.{isEquation, equationRows, assignedSlot, assignedSlots, usedBy, usedAt, usedOfRow, usedIn, startsFrom}
 use Rattle.model.specs.Working.{Rises, Sound}
-use Rattle.model.proofs.Collecting.{only-length}
+use Rattle.model.proofs.DefinitionsCollected.{only-length}
 
 -- one place more
 pub gather-next : {A : Type 0} (f : ℕ → List A) (i : ℕ) → gather f (suc i) 0 ≡ gather f i 0 ++ f i

@@ -24,10 +24,10 @@ use Rattle.order.proofs.Chains.{left-over-unsortable}
 use Rattle.model.specs.Definitions.{Def, definitions, keys, placeIn, Equation, equations, noEquation, equationAt, equationCount}
 use Rattle.model.specs.Faults.{faultIf, usesIn, fault24, faults24, orderOf}
 use Rattle.model.specs.Places.{usedBy, loopAt, loops}
-use Rattle.model.proofs.Walk.{sheetKinds, sheetLines, sheetBounds, sheetSlots, sheetRows}
-use Rattle.model.proofs.Slots.{Once, place-in, place-at, place-same, at-same, equationKeys, count-keys, key-at, equations-once}
-use Rattle.model.proofs.Table.{assignedOf, usesOf, usedOf, table-row}
-use Rattle.model.proofs.Rows.{slotFor, usedByNames, row-lines, rows-length, row-at, row-slots, row-uses}
+use Rattle.model.proofs.SheetWalk.{sheetKinds, sheetLines, sheetBounds, sheetSlots, sheetRows}
+use Rattle.model.proofs.KeyPlaces.{Once, place-in, place-at, place-same, at-same, equationKeys, count-keys, key-at, equations-once}
+use Rattle.model.proofs.UsesFit.{assignedOf, usesOf, usedOf, table-row}
+use Rattle.model.proofs.SheetEquations.{slotFor, usedByNames, row-lines, rows-length, row-at, row-slots, row-uses}
 
 -- a number below m that may be taken is the one taken
 has-only : (j p m : ℕ) → j < m → has j (onlyIf (ltb p m) p) ≡ eqb j p

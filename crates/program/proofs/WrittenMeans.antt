@@ -14,11 +14,11 @@ use Rattle.records.specs.Record.{recBytes, programBytes}
 use Rattle.model.specs.Definitions.{Def, definitions, equationAt, equationCount}
 use Rattle.model.specs.Faults.{usesIn, nameFaults, modelFaults, orderOf}
 use Rattle.model.specs.Places.{keysIn, placesIn, resolved, equationRows}
-use Rattle.model.proofs.Walk.{sheetKinds, sheetLines, sheetBounds, sheetKeys, sheetSlots, sheetPlaces, sheetRows}
-use Rattle.model.proofs.Slots.{Once, keys-once}
-use Rattle.model.proofs.Rows.{rows-length}
-use Rattle.model.proofs.Clean.{no-faults, order-good}
-use Rattle.model.proofs.Meant.{slots-meant}
+use Rattle.model.proofs.SheetWalk.{sheetKinds, sheetLines, sheetBounds, sheetKeys, sheetSlots, sheetPlaces, sheetRows}
+use Rattle.model.proofs.KeyPlaces.{Once, keys-once}
+use Rattle.model.proofs.SheetEquations.{rows-length}
+use Rattle.model.proofs.NoModelFault.{no-faults, order-good}
+use Rattle.model.proofs.ArraysMean.{slots-meant}
 use Rattle.program.specs.Program.{constantRecs, initialRecs, equationRecs, program}
 use Rattle.program.specs.Written.{recordCount, writtenProgram}
 use Rattle.program.proofs.Steps.{steps-of}

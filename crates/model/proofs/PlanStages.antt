@@ -35,11 +35,11 @@ use Rattle.model.specs.declared.names.Walk.{Walk}
 use Rattle.model.specs.declared.stages.Link.{Link}
 use Rattle.model.specs.declared.answer.Plan.{Plan}
 use Rattle.model.specs.Definitions.{placeIn}
-use Rattle.model.proofs.Collecting.{only-length}
-use Rattle.model.proofs.Finding.{place-le}
-use Rattle.model.proofs.Doubling.{as-many, repeated-doubles}
-use Rattle.model.proofs.Naming.{resolved-at}
-use Rattle.model.proofs.Tabling.{used-few, table-fit, starts-length, ends-within}
+use Rattle.model.proofs.DefinitionsCollected.{only-length}
+use Rattle.model.proofs.KeysFound.{place-le}
+use Rattle.model.proofs.RepeatedKeys.{as-many, repeated-doubles}
+use Rattle.model.proofs.NamesResolved.{resolved-at}
+use Rattle.model.proofs.UsesTabled.{used-few, table-fit, starts-length, ends-within}
 
 -- ---- a row at the front of an array
 front-length : (n : ℕ) (l : List ℕ) → length (sets (replicate n 0) 0 l) ≡ n

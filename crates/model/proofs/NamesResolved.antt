@@ -20,7 +20,7 @@ use Rattle.drafts.specs.Kinds.{kindConstant, kindFetch, kindStore, kindRate, ki
 use Rattle.drafts.specs.Places.{homeOf, begins, ends, anyOf}
 use Rattle.model.specs.Places.{resolvedAt, resolved, undefinedAt, unfitAt, namesAt}
 use Rattle.model.specs.Working.{flawedBy, flawedAt, Resolved, Resolving, flawOf}
-use Rattle.model.proofs.Reporting.{if-length}
+use Rattle.model.proofs.FaultsListed.{if-length}
 
 -- ---- tests one after the other
 pub or-skip : {a b : Bool} → a ≡ false → b ≡ (a || b)

@@ -23,11 +23,11 @@ use Rattle.model.specs.Faults.{initialNames, constantKeys, within, nameF
 use Rattle.drafts.specs.Kinds.{kindConstant, kindFetch, kindFrom, asks}
 use Rattle.drafts.specs.Places.{homeOf}
 use Rattle.model.specs.Places.{undefinedAt, unfitAt, namesAt, nameless}
-use Rattle.model.proofs.Drafts.{noDraft, expressionDrafts, expression-names, Home, homeOfDef}
-use Rattle.model.proofs.Walk.{sheetKinds, sheetLines, sheetBounds, sheetKeys, sheetSlots, sheetPlaces, slotOf, kind-at, slot-at, line-at}
-use Rattle.model.proofs.Walk.{any-statement}
-use Rattle.model.proofs.Slots.{Once, place-in, slot-past, noDef, definitionOf, constant-at}
-use Rattle.model.proofs.Doubled.{definedIn, homeAt, homes-of, places-length}
+use Rattle.model.proofs.StatementDrafts.{noDraft, expressionDrafts, expression-names, Home, homeOfDef}
+use Rattle.model.proofs.SheetWalk.{sheetKinds, sheetLines, sheetBounds, sheetKeys, sheetSlots, sheetPlaces, slotOf, kind-at, slot-at, line-at}
+use Rattle.model.proofs.SheetWalk.{any-statement}
+use Rattle.model.proofs.KeyPlaces.{Once, place-in, slot-past, noDef, definitionOf, constant-at}
+use Rattle.model.proofs.SheetKeys.{definedIn, homeAt, homes-of, places-length}
 
 -- the names of a statement's expression
 abbrev spoken : Says → List ℕ

@@ -16,7 +16,7 @@ use Rattle.drafts.specs.Places.{begins, ends, lastKind}
 use Rattle.laws.specs.Put.{Put}
 use Rattle.model.specs.Places.{isEquation, assignedSlot}
 use Rattle.model.specs.Working.{usedHere}
-use Rattle.model.proofs.Collecting.{only-length, put-one, put-none}
+use Rattle.model.proofs.DefinitionsCollected.{only-length, put-one, put-none}
 
 module _ (bounds kinds : List ℕ) (j : ℕ) where
   -- the kind of the last draft, as it was read

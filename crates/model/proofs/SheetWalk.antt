@@ -18,7 +18,7 @@ use Rattle.sheet.specs.Layout.{draftsIn, boundsFrom}
 use Rattle.model.specs.Definitions.{definitions, keys}
 use Rattle.drafts.specs.Places.{begins, ends, inStatement, anyOf}
 use Rattle.model.specs.Places.{placesIn, resolvedAt, resolved, equationRows}
-use Rattle.model.proofs.Drafts.{noDraft}
+use Rattle.model.proofs.StatementDrafts.{noDraft}
 
 -- ---- the arrays of drafts: kinds and arguments
 abbrev pub kindsOf : List Draft → List ℕ

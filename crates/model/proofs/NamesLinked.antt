@@ -20,10 +20,10 @@ use Rattle.model.specs.Places.{usedAt, usedIn, startsFrom}
 use Rattle.model.specs.Plan.{ownSlots}
 use Rattle.model.specs.Working.{flawedBy, usedOwner, usedHere, usedFrom, Resolved, Resolving, Linking, Walked, Linkable, Tabled, Linked}
 use Rattle.model.specs.declared.names.Walk.{Walk}
-use Rattle.model.proofs.Collecting.{only-length}
-use Rattle.model.proofs.Naming.{resolving-first, resolving-flawed, resolving-clear, resolving-other, resolving-last, slot-here}
-use Rattle.model.proofs.Owning.{used-same}
-use Rattle.model.proofs.Tabling.{rises-to, gather-next, ends-within, usesOf, usesTo, beginAt, whole-uses, whole-begin}
+use Rattle.model.proofs.DefinitionsCollected.{only-length}
+use Rattle.model.proofs.NamesResolved.{resolving-first, resolving-flawed, resolving-clear, resolving-other, resolving-last, slot-here}
+use Rattle.model.proofs.SlotOwners.{used-same}
+use Rattle.model.proofs.UsesTabled.{rises-to, gather-next, ends-within, usesOf, usesTo, beginAt, whole-uses, whole-begin}
 
 -- ---- one part more is written behind a row
 put-append : {x y : List ℕ} {w₀ w r : ℕ} {buf₀ buf buf′ : List ℕ} → Put x w₀ w buf₀ buf → Put y w r buf buf′ → Put (x ++ y) w₀ r buf₀ buf′

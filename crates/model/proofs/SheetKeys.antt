@@ -17,9 +17,9 @@ use Rattle.model.specs.Definitions.{Def, definedBy, definitions, keys}
 use Rattle.model.specs.Faults.{faultIf, again, faults21}
 use Rattle.drafts.specs.Kinds.{defines}
 use Rattle.model.specs.Places.{definedAt, keysIn, placesIn, doubleAt, doubles}
-use Rattle.model.proofs.Drafts.{noDraft, keyOf, defined-keys, Home, home, homesAt, homeOfDef, defined-homes}
-use Rattle.model.proofs.Walk.{sheetKinds, sheetArgs, sheetLines, sheetBounds, sheetKeys, sheetPlaces, kind-at, arg-at, draftsBy, line-at, in-statement}
-use Rattle.model.proofs.Walk.{before-statement}
+use Rattle.model.proofs.StatementDrafts.{noDraft, keyOf, defined-keys, Home, home, homesAt, homeOfDef, defined-homes}
+use Rattle.model.proofs.SheetWalk.{sheetKinds, sheetArgs, sheetLines, sheetBounds, sheetKeys, sheetPlaces, kind-at, arg-at, draftsBy, line-at, in-statement}
+use Rattle.model.proofs.SheetWalk.{before-statement}
 
 -- what a statement defines
 abbrev pub definedIn : Numbered → List Def

@@ -21,7 +21,7 @@ use Rattle.sheet.specs.Sheet.{Numbered}
 use Rattle.model.specs.Definitions.{What, constant, assigned, integral, Def, defined, definedBy, definitions, keys, placeIn, Equation, equationOf}
 use Rattle.model.specs.Definitions.{equations, noEquation, equationAt}
 use Rattle.model.specs.Faults.{faultIf, again, faults21, constantKey, constantKeys}
-use Rattle.model.proofs.Drafts.{kindOfWhat}
+use Rattle.model.proofs.StatementDrafts.{kindOfWhat}
 
 -- no number stands twice
 abbrev pub Once : List ℕ → Type 0

@@ -20,10 +20,10 @@ use Rattle.model.specs.Definitions.{Def, definitions, placeIn, Equation,
 use Rattle.drafts.specs.Places.{begins, ends, lastKind}
 use Rattle.model.specs.Places.{isEquation, equationRows, assignedSlot, usedBy, usedAt, usedOfRow}
 use Rattle.model.proofs.Lines.{no-equations}
-use Rattle.model.proofs.Drafts.{expressionDrafts, expression-names}
-use Rattle.model.proofs.Walk.{sheetKinds, sheetLines, sheetBounds, sheetKeys, sheetSlots, sheetRows, slotOf, kind-at, slot-at, draftsBy, begins-at}
-use Rattle.model.proofs.Walk.{ends-at, line-at, in-statement, last-at}
-use Rattle.model.proofs.Doubled.{definedIn}
+use Rattle.model.proofs.StatementDrafts.{expressionDrafts, expression-names}
+use Rattle.model.proofs.SheetWalk.{sheetKinds, sheetLines, sheetBounds, sheetKeys, sheetSlots, sheetRows, slotOf, kind-at, slot-at, draftsBy, begins-at}
+use Rattle.model.proofs.SheetWalk.{ends-at, line-at, in-statement, last-at}
+use Rattle.model.proofs.SheetKeys.{definedIn}
 
 -- the equation of an assignment (held is false) or of a state statement
 abbrev pub equation : ℕ → ℕ → Bool → Tree → Equation

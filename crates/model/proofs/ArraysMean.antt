@@ -13,14 +13,14 @@ use Rattle.order.specs.Greedy.{order}
 use Rattle.model.specs.Definitions.{What, constant, Def, definitions, keys, Equation, equationAt, equationCount}
 use Rattle.model.specs.Faults.{faults21, nameFaults, usesIn, faults24, orElse, modelFaults, orderOf}
 use Rattle.model.specs.Places.{keysIn, placesIn, doubles, resolved, nameless, equationRows, loops}
-use Rattle.model.proofs.Drafts.{Home, kindOfWhat, homeOfWhat, homeOfDef}
-use Rattle.model.proofs.Walk.{sheetLines, sheetSlots, sheetPlaces, kind-at, arg-at}
-use Rattle.model.proofs.Slots.{noDef, keys-once}
-use Rattle.model.proofs.Doubled.{homeAt, homes-of, keys-of, places-length, doubles-of}
-use Rattle.model.proofs.Asked.{names-of}
-use Rattle.model.proofs.Rows.{row-lines, rows-length, row-at}
-use Rattle.model.proofs.Table.{usedOf}
-use Rattle.model.proofs.Uses.{uses-of, order-of, loops-of}
+use Rattle.model.proofs.StatementDrafts.{Home, kindOfWhat, homeOfWhat, homeOfDef}
+use Rattle.model.proofs.SheetWalk.{sheetLines, sheetSlots, sheetPlaces, kind-at, arg-at}
+use Rattle.model.proofs.KeyPlaces.{noDef, keys-once}
+use Rattle.model.proofs.SheetKeys.{homeAt, homes-of, keys-of, places-length, doubles-of}
+use Rattle.model.proofs.SheetNames.{names-of}
+use Rattle.model.proofs.SheetEquations.{row-lines, rows-length, row-at}
+use Rattle.model.proofs.UsesFit.{usedOf}
+use Rattle.model.proofs.SheetUses.{uses-of, order-of, loops-of}
 
 -- what is sought only if f is empty matters only then
 or-else : (f g h : List Fault) → (f ≡ [] → g ≡ h) → orElse f g ≡ orElse f h

@@ -16,7 +16,7 @@ use Rattle.laws.proofs.Gathers.{gather-shift}
 use Rattle.drafts.specs.Places.{begins, ends}
 use Rattle.drafts.specs.Kinds.{kindPush, kindFetch, kindClock, isStep, writes}
 use Rattle.program.specs.Written.{fieldBytes, recordCount, valueAt, settingAt, reach, settingsOf, stepBytes, stepAt, stepsOf, orderedSteps}
-use Rattle.program.proofs.Puts.{Whole, whole-gather, length-record}
+use Rattle.program.proofs.RoomFilled.{Whole, whole-gather, length-record}
 
 -- ---- each part has whole records
 whole-record : (k s l v : ℕ) → Whole (fieldBytes k s l v)

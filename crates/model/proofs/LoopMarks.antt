@@ -18,7 +18,7 @@ use Rattle.laws.proofs.Gathers.{gather-same}
 use Rattle.model.specs.Faults.{faultIf}
 use Rattle.model.specs.Places.{loops}
 use Rattle.model.specs.Working.{Reported, Marked, unmarkedAt, unmarked}
-use Rattle.model.proofs.Reporting.{if-length}
+use Rattle.model.proofs.FaultsListed.{if-length}
 
 -- the first k that are placed are marked
 pub record Marking (placed : List ℕ) (k : ℕ) (marks : List ℕ) : Type 0 where
