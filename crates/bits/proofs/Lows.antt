@@ -8,12 +8,10 @@ use native.Mathlib.Nat.{zero-add, add-zero, sub-zero, suc-add, pow-suc, pow-succ
 use native.Mathlib.Nat.{div-one, div-lt-iff-lt-mul, div-div-eq-div-mul}
 use native.Mathlib.Omega.{arith}
 use borrow.Author.Tests.{leb-true}
-use lib.Dec.{T, lit<, leb}
+use lib.Dec.{lit<, leb}
 use lib.ListN.{length, getD, set, take, drop, length-take, length-set, drop-of-length-le}
 use lib.Seq.{sets, drop-cons, getD-take}
-use lib.Ieee.{Float, binary64, fits, toBits, ofBits}
-use lib.Ieee.Bits.{ofBits-toBits, toBits-lt}
-use Rattle.laws.proofs.Sets.{sets-out, sets-append, sets-back}
+use Rattle.laws.proofs.Sets.{sets-out, sets-append}
 use Rattle.laws.proofs.Tests.{lt-or-ge}
 use Rattle.bits.specs.Low.{lowBytes, lowWord}
 
@@ -28,7 +26,11 @@ pub reading-first : (s : List ℕ) (m i : ℕ) → i ≡ min (length s) m → Re
 unfolding lowWord
 reading-first s m i e =
     let h : length (take m s) ≤ i = omega (arith, length-take m s) in
-    record { within = omega arith; value = rw (drop-of-length-le (take m s) h); small = lt-of-lt-of-le (lit< tt) (pow-le-pow-right (lit< tt) zero-le) }
+    record {
+      within = omega arith;
+      value = rw (drop-of-length-le (take m s) h);
+      small = lt-of-lt-of-le (lit< tt) (pow-le-pow-right (lit< tt) zero-le);
+    }
 
 -- one byte more, below those that are read
 pub reading-next : (s : List ℕ) (m i word b : ℕ) → 0 < i → b ≡ getD s (i - 1) 0 → b < 256 → Reading s m i word
@@ -40,15 +42,22 @@ reading-next s m i word b p e h r =
     let g : m - (i - 1) ≡ suc (m - i) = omega (arith, r .within) in
     let l : i - 1 < length front = omega (arith, length-take m s, r .within) in
     let d : drop (i - 1) front ≡ b ∷ drop i front =
-    drop-cons front (i - 1) 0 l ∙ ap₂ _∷_ (getD-take m s (i - 1) 0 (omega (arith, r .within)) ∙ sym e) (ap (λ (k : ℕ). drop k front) f) in
-    record { within = omega (arith, r .within); value = rw (d, ← r .value); small = rw (g, pow-suc 256 (m - i)) (omega (arith, r .small)) }
+    drop-cons front (i - 1) 0 l
+    ∙ ap₂ _∷_ (getD-take m s (i - 1) 0 (omega (arith, r .within)) ∙ sym e) (ap (λ (k : ℕ). drop k front) f) in
+    record {
+      within = omega (arith, r .within);
+      value = rw (d, ← r .value);
+      small = rw (g, pow-suc 256 (m - i)) (omega (arith, r .small));
+    }
 
 -- at most eight bytes fit
 pub reading-fits : (s : List ℕ) (m i word : ℕ) → m ≤ 8 → 0 < i → Reading s m i word → word < 256 ^ 7
-reading-fits s m i word h p r = let e : m - i ≤ 7 = omega arith in lt-of-lt-of-le (r .small) (pow-le-pow-right (lit< tt) e)
+reading-fits s m i word h p r =
+    let e : m - i ≤ 7 = omega arith in lt-of-lt-of-le (r .small) (pow-le-pow-right (lit< tt) e)
 
 -- at the front all are read
-pub reading-last : (s : List ℕ) (m i word : ℕ) → i ≤ 0 → Reading s m i word → (word ≡ lowWord (take m s)) × (word < 256 ^ m)
+pub reading-last : (s : List ℕ) (m i word : ℕ) → i ≤ 0 → Reading s m i word
+    → (word ≡ lowWord (take m s)) × (word < 256 ^ m)
 reading-last s m i word h r =
     let z : i ≡ 0 = omega arith in
     let y : m - i ≡ m = omega arith in
@@ -79,7 +88,8 @@ writing-next l₀ l at n v rest i h w =
     }
 
 -- all are written, or the others lie behind the end
-pub writing-last : (l₀ l : List ℕ) (at n v rest i : ℕ) → min (length l₀ - at) n ≤ i → Writing l₀ l at n v rest i → l ≡ sets l₀ at (lowBytes n v)
+pub writing-last : (l₀ l : List ℕ) (at n v rest i : ℕ) → min (length l₀ - at) n ≤ i → Writing l₀ l at n v rest i
+    → l ≡ sets l₀ at (lowBytes n v)
 unfolding lowBytes
 writing-last l₀ l at n v rest i h w = ⊎-elim (λ a. behind a ∙ w .left) (λ a. done a ∙ w .left) (lt-or-ge i n)
   where
@@ -103,18 +113,6 @@ word-bytes (suc n) v h =
     let q : v / 256 < 256 ^ n = div-lt-iff-lt-mul (lit< tt) .1 (rw (pow-suc 256 n) at h) in
     rw (word-bytes n (v / 256) q) (omega arith)
 
--- a number of at most n bytes that was written is read again
-pub word-back : (l : List ℕ) (at n v : ℕ) → at + n ≤ length l → v < 256 ^ n → lowWord (take n (drop at (sets l at (lowBytes n v)))) ≡ v
-word-back l at n v h k =
-    let e = length-low n v in
-    let back = sets-back l at (lowBytes n v) (omega arith) in
-    ap (λ (m : ℕ). lowWord (take m (drop at (sets l at (lowBytes n v))))) (sym e) ∙ ap lowWord back ∙ word-bytes n v k
-
--- a float that was written as its eight bytes is read again
-pub float-back : (l : List ℕ) (at : ℕ) (x : Float) → at + 8 ≤ length l → T (fits binary64 x)
-    → ofBits binary64 (lowWord (take 8 (drop at (sets l at (lowBytes 8 (toBits binary64 x)))))) ≡ x
-float-back l at x h f = ap (ofBits binary64) (word-back l at 8 (toBits binary64 x) h (toBits-lt binary64 x f)) ∙ ofBits-toBits binary64 x f
-
 -- ---- fixed widths
 
 -- what a test of room says
@@ -125,9 +123,11 @@ room-is m n e h = leb-true m n (sym e ∙ h)
 pub low-append : (m n v : ℕ) → lowBytes (m + n) v ≡ lowBytes m v ++ lowBytes n (v / 256 ^ m)
 unfolding lowBytes
 low-append zero n v = rw (zero-add, div-one)
-low-append (suc m) n v = rw (suc-add m n, low-append m n (v / 256), div-div-eq-div-mul v 256 (256 ^ m), ← (pow-succ' 256 m))
+low-append (suc m) n v =
+    rw (suc-add m n, low-append m n (v / 256), div-div-eq-div-mul v 256 (256 ^ m), ← (pow-succ' 256 m))
 
 -- one behind the other
-pub low-both : (l half whole : List ℕ) (at m n v : ℕ) → half ≡ sets l at (lowBytes m v) → whole ≡ sets half (at + m) (lowBytes n (v / 256 ^ m))
+pub low-both : (l half whole : List ℕ) (at m n v : ℕ) → half ≡ sets l at (lowBytes m v)
+    → whole ≡ sets half (at + m) (lowBytes n (v / 256 ^ m))
     → whole ≡ sets l at (lowBytes (m + n) v)
 low-both l half whole at m n v p q = q ∙ rw (p, low-append m n v, sets-append l at (lowBytes m v), length-low m v)

@@ -14,4 +14,11 @@ drafted-items (negated a) = rw (map-append draftItem (postfix a), drafted-items 
 drafted-items (two o a b) =
     rw (map-append draftItem (postfix a), map-append draftItem (postfix b), drafted-items a, drafted-items b)
 drafted-items (three o a b c) =
-    rw (map-append draftItem (postfix a), map-append draftItem (postfix b), map-append draftItem (postfix c), drafted-items a, drafted-items b, drafted-items c)
+    rw (
+      map-append draftItem (postfix a),
+      map-append draftItem (postfix b),
+      map-append draftItem (postfix c),
+      drafted-items a,
+      drafted-items b,
+      drafted-items c,
+    )

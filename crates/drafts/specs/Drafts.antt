@@ -1,13 +1,14 @@
--- What a statement writes, as code holds it: a row of drafts, each two numbers. A draft is a record to be, with a name's key in the place
--- of its slot; behind a constant's and an initial's stands another with its value.
+-- What a statement writes, as code holds it: a row of drafts, each two numbers. A draft is a record to be, with a
+-- name's key in the place of its slot; behind a constant's and an initial's stands another with its value.
 use Prim.Native.Nat.{ℕ}
 use mathlib.Core.List.{List, [], _∷_, _++_, map}
-use lib.Ieee.{Float, binary64, toBits}
+use lib.Ieee.{binary64, toBits}
 use Rattle.laws.specs.Lists.{concat-map}
 use Rattle.drafts.specs.Tree.{Tree, value, named, time, negated, two, three}
 use Rattle.drafts.specs.Tree.{Constant, Initial, plain, from, Says, constants, assignment, state}
 use Rattle.drafts.specs.Items.{Item, push, fetch, clock, negate, apply-two, apply-three, postfix}
-use Rattle.drafts.specs.Kinds.{kindConstant, kindInitial, kindNumber, kindFrom, kindPush, kindFetch, kindClock, kindTwo, kindNegate}
+use Rattle.drafts.specs.Kinds.{kindConstant, kindInitial, kindNumber, kindFrom, kindPush, kindFetch, kindClock}
+use Rattle.drafts.specs.Kinds.{kindTwo, kindNegate}
 use Rattle.drafts.specs.Kinds.{kindThree, kindStore, kindRate}
 
 pub record Draft : Type 0 where

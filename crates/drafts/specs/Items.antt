@@ -2,7 +2,7 @@
 use Prim.Native.Nat.{ℕ}
 use mathlib.Core.List.{List, [], _∷_, _++_}
 use lib.Ieee.{Float}
-use Rattle.drafts.specs.Tree.{Two, Three, Tree, value, named, time, negated, two, three, Says, constants, assignment, state}
+use Rattle.drafts.specs.Tree.{Two, Three, Tree, value, named, time, negated, two, three}
 
 -- push a value, push what a name holds, push TIME, negate, an operation on two values or on three
 pub data Item : Type 0 where
@@ -19,9 +19,3 @@ postfix time = clock ∷ []
 postfix (negated a) = postfix a ++ (negate ∷ [])
 postfix (two o a b) = postfix a ++ (postfix b ++ (apply-two o ∷ []))
 postfix (three o a b c) = postfix a ++ (postfix b ++ (postfix c ++ (apply-three o ∷ [])))
-
--- of a statement: the postfix of its expression; constants have none
-abbrev pub itemsOf : Says → List Item
-itemsOf (constants cs) = []
-itemsOf (assignment k e) = postfix e
-itemsOf (state k i e) = postfix e

@@ -1,4 +1,5 @@
--- The kinds of drafts, each named once, and the tests of what a kind is for. Kinds 1 to 14 are those of the records that are written.
+-- The kinds of drafts, each named once, and the tests of what a kind is for. Kinds 1 to 14 are those of the records
+-- that are written.
 use Prim.Native.Nat.{ℕ}
 use mathlib.Core.Bool.{Bool, _&&_, _||_}
 use lib.Dec.{eqb, leb}
@@ -70,7 +71,8 @@ isNamed k = defines k || (eqb k kindFetch || (eqb k kindRate || eqb k kindFrom))
 abbrev pub closes : ℕ → Bool
 closes k = eqb k kindStore || eqb k kindRate
 
--- those of an expression's operations, and of what is done with its value: a record has their kind and their argument as its slot
+-- those of an expression's operations, and of what is done with its value: a record has their kind and their argument
+-- as its slot
 abbrev pub isStep : ℕ → Bool
 isStep k = leb kindFetch k && leb k kindRate
 

@@ -1,5 +1,5 @@
--- Drafts by place: a sheet is two lists, the kinds of its drafts and their arguments, and bounds says where those of each statement
--- begin. Every read past an end gives 0, so that each of these says something of every list.
+-- Drafts by place: a sheet is two lists, the kinds of its drafts and their arguments, and bounds says where those of
+-- each statement begin. Every read past an end gives 0, so that each of these says something of every list.
 use Prim.Native.Nat.{ℕ, _+_, _-_}
 use mathlib.Core.Bool.{Bool}
 use mathlib.Core.List.{List}

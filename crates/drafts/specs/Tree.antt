@@ -10,7 +10,8 @@ pub data Two : Type 0 where
 pub data Three : Type 0 where
   insw limit : Three
 
--- a number's value, a name's key, TIME, a negated tree, an operation on two trees or on three. Parentheses leave nothing
+-- a number's value, a name's key, TIME, a negated tree, an operation on two trees or on three. Parentheses leave
+-- nothing
 pub data Tree : Type 0 where
   value : Float → Tree
   named : ℕ → Tree

@@ -1,5 +1,5 @@
-// The middle language between grammar and program: drafts, each a kind and an argument. A draft is a record to be, with a name's key in the
-// place of its slot.
+// The middle language between grammar and program: drafts, each a kind and an argument. A draft is a record to be, with
+// a name's key in the place of its slot.
 ghost use mathlib.Core.Path.{_≡_};
 ghost use Prim.Native.Nat.{_<_, _≤_};
 ghost use Rattle.laws.specs.Counts.{once};

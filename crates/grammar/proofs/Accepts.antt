@@ -1,4 +1,5 @@
--- The parser accepts a row exactly if the grammar derives it, with the same tree; and what it writes is the drafts of what it says.
+-- The parser accepts a row exactly if the grammar derives it, with the same tree; and what it writes is the drafts of
+-- what it says.
 use Prim.Native.Nat.{ℕ, zero, suc, _+_, _*_, _<_}
 use mathlib.Core.Path.{_≡_, refl, sym, ap, subst, _∙_}
 use mathlib.Core.List.{List, [], _∷_, _++_, append-assoc, append-nil}
@@ -11,10 +12,13 @@ use Rattle.limits.specs.Limits.{levels}
 use Rattle.tokens.specs.Symbol.{Symbol, mark, number}
 use Rattle.drafts.specs.Tree.{Tree, Constant, Initial, Says}
 use Rattle.drafts.specs.Drafts.{Draft, draftsOf}
-use Rattle.grammar.specs.Look.{next, rest, byteOf, shapeOf, Start, Constants, Integral, Named, Valued, Other, startOf}
-use Rattle.grammar.specs.Grammar.{expr, Der, unsigned, sign, Signed, unsigned-number, signed-number, Many, one, more}
+use Rattle.grammar.specs.Look.{next, rest, byteOf, shapeOf, Start, Constants, Integral, Named, Valued, Other}
+use Rattle.grammar.specs.Look.{startOf}
+use Rattle.grammar.specs.Grammar.{expr, Der, unsigned, sign, Signed, unsigned-number, signed-number, Many, one}
+use Rattle.grammar.specs.Grammar.{more}
 use Rattle.grammar.specs.Grammar.{Initially, of-number, of-name, Derives, of-constants, of-assignment, of-state}
-use Rattle.grammar.specs.Parser.{End, got, bad, Res, onward, bind, byIntegral, signedNumber, many, initially, parse, calls}
+use Rattle.grammar.specs.Parser.{End, got, bad, Res, onward, bind, byIntegral, signedNumber, many, initially}
+use Rattle.grammar.specs.Parser.{parse, calls}
 use Rattle.grammar.specs.Parser.{assigned, integrated, statement, ended, entire, read, answer, readRow}
 use Rattle.grammar.proofs.Endings.{clash, OutEnd}
 use Rattle.grammar.proofs.Looks.{add-other, as-known}
@@ -28,23 +32,29 @@ signed-complete unsigned-number r = refl
 signed-complete (signed-number h) r = rw h
 
 -- an initial is read
-initially-complete : {w : List Symbol} {i : Initial} → Initially w i → (r : List Symbol) → initially (w ++ r) .end ≡ got i r
+initially-complete : {w : List Symbol} {i : Initial} → Initially w i → (r : List Symbol)
+    → initially (w ++ r) .end ≡ got i r
 unfolding initially startOf next rest
-initially-complete (of-number (unsigned-number {x})) r = bind-end (signedNumber (number x ∷ r)) _ (signed-complete unsigned-number r)
+initially-complete (of-number (unsigned-number {x})) r =
+    bind-end (signedNumber (number x ∷ r)) _ (signed-complete unsigned-number r)
 initially-complete (of-number (signed-number {o} {t} {x} h)) r =
     rw (add-other t o h) (bind-end (signedNumber (t ∷ number x ∷ r)) _ (signed-complete (signed-number h) r))
 initially-complete of-name r = refl
 
 -- constants are read, up to a token that is no comma
-many-complete : {w : List Symbol} {cs : List Constant} → Many w cs → (r : List Symbol) → (byteOf (next r) ≡ 44 → ⊥) → (f : ℕ) → length w < f
+many-complete : {w : List Symbol} {cs : List Constant} → Many w cs → (r : List Symbol) → (byteOf (next r) ≡ 44 → ⊥)
+    → (f : ℕ) → length w < f
     → many f (w ++ r) .end ≡ got cs r
 unfolding many startOf next rest byteOf
 many-complete m r n zero le = absurd (omega arith)
-many-complete (one {k} {w} {x} a) r n (suc f) le = bind-end (signedNumber (w ++ r)) _ (signed-complete a r) ∙ rw (ne-eqb _ _ n)
+many-complete (one {k} {w} {x} a) r n (suc f) le =
+    bind-end (signedNumber (w ++ r)) _ (signed-complete a r) ∙ rw (ne-eqb _ _ n)
 many-complete (more {k} {w} {s} {x} {cs} a b) r n (suc f) le =
     let q = length-append w (mark 44 ∷ s) in
-    let p : signedNumber ((w ++ mark 44 ∷ s) ++ r) .end ≡ got x (mark 44 ∷ (s ++ r)) = rw append-assoc (signed-complete a (mark 44 ∷ (s ++ r))) in
-    bind-end (signedNumber ((w ++ mark 44 ∷ s) ++ r)) _ p ∙ bind-end (many f (s ++ r)) _ (many-complete b r n f (omega arith))
+    let p : signedNumber ((w ++ mark 44 ∷ s) ++ r) .end ≡ got x (mark 44 ∷ (s ++ r)) =
+    rw append-assoc (signed-complete a (mark 44 ∷ (s ++ r))) in
+    bind-end (signedNumber ((w ++ mark 44 ∷ s) ++ r)) _ p
+    ∙ bind-end (many f (s ++ r)) _ (many-complete b r n f (omega arith))
 
 -- no expression begins with INTGRL
 no-integral : {d : ℕ} {w : List Symbol} {e : Tree} → Der expr d w e → startOf (next w) ≡ Integral → ⊥
@@ -61,14 +71,16 @@ not-integral (Valued k) x y n = refl
 not-integral Other x y n = refl
 
 -- a statement that is derived is read, at every count of calls that suffices
-statement-complete : {d : ℕ} {w : List Symbol} {x : Says} → Derives d w x → (f : ℕ) → 3 + 5 * length w < f → statement f d w .end ≡ got x []
+statement-complete : {d : ℕ} {w : List Symbol} {x : Says} → Derives d w x → (f : ℕ) → 3 + 5 * length w < f
+    → statement f d w .end ≡ got x []
 unfolding statement assigned integrated startOf next rest byteOf
 statement-complete {d} (of-constants {t} {w} {cs} h a) f le =
     let m : many f w .end ≡ got cs [] = rw append-nil at (many-complete a [] (λ z. omega arith) f (omega arith)) in
     rw h (bind-end (many f w) _ m)
 statement-complete {d} (of-assignment {k} {w} {e} a) f le =
     let m : parse f expr d w .end ≡ got e [] = rw append-nil at (complete a [] (refl, refl) f (omega arith)) in
-    ap (λ (z : Res Says). z .end) (not-integral (startOf (next w)) _ _ (no-integral a)) ∙ bind-end (parse f expr d w) _ m
+    ap (λ (z : Res Says). z .end) (not-integral (startOf (next w)) _ _ (no-integral a))
+    ∙ bind-end (parse f expr d w) _ m
 statement-complete {d} (of-state {k} {w} {v} {i} {e} a b) f le =
     let q = length-append w (mark 44 ∷ (v ++ mark 41 ∷ [])) in
     let p = length-append v (mark 41 ∷ []) in
@@ -76,7 +88,8 @@ statement-complete {d} (of-state {k} {w} {v} {i} {e} a b) f le =
     ∙ bind-end (parse f expr d (v ++ mark 41 ∷ [])) _ (complete b (mark 41 ∷ []) (refl, refl) f (omega arith))
 
 -- and nothing is left of it
-pub entire-complete : {d : ℕ} {w : List Symbol} {x : Says} → Derives d w x → (f : ℕ) → 3 + 5 * length w < f → entire f d w .end ≡ got x []
+pub entire-complete : {d : ℕ} {w : List Symbol} {x : Says} → Derives d w x → (f : ℕ) → 3 + 5 * length w < f
+    → entire f d w .end ≡ got x []
 unfolding entire
 entire-complete {d} {w} a f le = bind-end (statement f d w) ended (statement-complete a f le)
 
@@ -91,15 +104,18 @@ entire-end f d s {x} {t} = go (statement f d s .out) (statement f d s .end)
     go o (bad c u) h = clash (cc)
 
 -- a row that is read, taken apart: it is derived, and what is written are its drafts
-taken : (row : List Symbol) (x : Says) → readRow row ≡ read x → Derives levels row x × (entire (calls row) levels row .out ≡ draftsOf x)
+taken : (row : List Symbol) (x : Says) → readRow row ≡ read x
+    → Derives levels row x × (entire (calls row) levels row .out ≡ draftsOf x)
 unfolding readRow
 taken row x = go (entire (calls row) levels row .end) (entire-out (calls row) levels row .ends) refl
   where
-    go : (t : End Says) → OutEnd (Stated levels) (StatedVia levels) row (entire (calls row) levels row .out) t → entire (calls row) levels row .end ≡ t
+    go : (t : End Says) → OutEnd (Stated levels) (StatedVia levels) row (entire (calls row) levels row .out) t
+        → entire (calls row) levels row .end ≡ t
         → answer (length row) t ≡ read x → Derives levels row x × (entire (calls row) levels row .out ≡ draftsOf x)
     go (got y t) r e h =
         let q : y ≡ x = cc in
-        let z : row ≡ r .0 = r .1 ∙ ap (λ (u : List Symbol). r .0 ++ u) (entire-end (calls row) levels row e) ∙ append-nil (r .0) in
+        let z : row ≡ r .0 =
+        r .1 ∙ ap (λ (u : List Symbol). r .0 ++ u) (entire-end (calls row) levels row e) ∙ append-nil (r .0) in
         rw (← q) (subst (λ (w : List Symbol). Derives levels w y) (sym z) (r .2 .0), r .2 .1)
     go (bad c t) r e h = clash (cc)
 

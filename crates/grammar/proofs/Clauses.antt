@@ -13,13 +13,14 @@ use Rattle.drafts.specs.Kinds.{kindTwo}
 use Rattle.drafts.specs.Drafts.{draft, drafted}
 use Rattle.grammar.specs.Look.{next, rest, byteOf, addOp, mulOp, signed, Opening, group, give-to, shapeOf}
 use Rattle.grammar.specs.Grammar.{Mode, expr, term, factor, terms, factors, opened, list}
-use Rattle.grammar.specs.Parser.{give, stop, tell, bind, when, byOp, byShape, byGiven, need, behindSign, signDrafts, openDrafts, step, parse, rank, reads}
-use Rattle.grammar.proofs.Endings.{Out}
-use Rattle.grammar.proofs.Sound.{Done, Via, At, sound}
+use Rattle.grammar.specs.Parser.{give, stop, tell, bind, when, byOp, byShape, byGiven, need, behindSign}
+use Rattle.grammar.specs.Parser.{signDrafts, openDrafts, step, parse, rank, reads}
+use Rattle.grammar.proofs.Sound.{At}
 use Rattle.grammar.proofs.Enough.{step-cong, enough}
 
 -- every count that suffices gives it
-pub to-reads : (f : ℕ) (m : Mode) (d : ℕ) (s : List Symbol) → At m s → rank m + 5 * length s < f → parse f m d s ≡ reads m d s
+pub to-reads : (f : ℕ) (m : Mode) (d : ℕ) (s : List Symbol) → At m s → rank m + 5 * length s < f
+    → parse f m d s ≡ reads m d s
 unfolding reads
 to-reads f m d s p b = enough f (suc (rank m + 5 * length s)) m d s p b (omega arith)
 
@@ -31,12 +32,14 @@ reads-step m d s p = let n = rank m + 5 * length s in step-cong n reads m d s p 
 module _ (d : ℕ) (s : List Symbol) where
   -- an expression: a sign or none, a term, and terms behind it
   pub reads-expr : reads expr d s
-      ≡ (let o = addOp (next s) in bind (reads term d (behindSign o s)) λ e t. tell (signDrafts o) (reads (terms (signed o e)) d t))
+      ≡ (let o = addOp (next s) in bind (reads term d (behindSign o s)) λ e t. tell (signDrafts o)
+      (reads (terms (signed o e)) d t))
   reads-expr = reads-step expr d s tt
 
   -- terms behind the tree l
   pub reads-terms : (l : Tree) → reads (terms l) d s
-      ≡ byOp (addOp (next s)) (λ _. give l s) λ o. bind (reads term d (rest s)) λ e t. tell (draft (kindTwo o) 0 ∷ []) (reads (terms (two o l e)) d t)
+      ≡ byOp (addOp (next s)) (λ _. give l s) λ o. bind (reads term d (rest s)) λ e t. tell (draft (kindTwo o) 0 ∷ [])
+      (reads (terms (two o l e)) d t)
   reads-terms l = reads-step (terms l) d s tt
 
   -- a term: a factor, and factors behind it
@@ -45,13 +48,15 @@ module _ (d : ℕ) (s : List Symbol) where
 
   -- factors behind the tree l
   pub reads-factors : (l : Tree) → reads (factors l) d s
-      ≡ byOp (mulOp (next s)) (λ _. give l s) λ o. bind (reads factor d (rest s)) λ e t. tell (draft (kindTwo o) 0 ∷ []) (reads (factors (two o l e)) d t)
+      ≡ byOp (mulOp (next s)) (λ _. give l s) λ o. bind (reads factor d (rest s)) λ e t. tell (draft (kindTwo o) 0 ∷ [])
+      (reads (factors (two o l e)) d t)
   reads-factors l = reads-step (factors l) d s tt
 
   -- a factor, by what its token begins
   pub reads-factor : reads factor d s
       ≡ byShape (shapeOf (next s)) (λ e. tell (drafted e) (give e (rest s))) (λ _. reads (opened group) d s)
-      (λ p. when (eqb (byteOf (next (rest s))) 40) (λ _. reads (opened p) d (rest s)) (λ _. stop 18 (rest s))) (λ _. stop 18 s)
+      (λ p. when (eqb (byteOf (next (rest s))) 40) (λ _. reads (opened p) d (rest s)) (λ _. stop 18 (rest s)))
+      (λ _. stop 18 s)
   reads-factor = reads-step factor d s tt
 
   -- an opening, with a level left
@@ -68,11 +73,6 @@ module _ (d : ℕ) (s : List Symbol) where
 pub reads-deep : (s : List Symbol) (p : Opening) → reads (opened p) zero s ≡ stop 19 s
 unfolding reads parse
 reads-deep s p = refl
-
--- what it reads is a front of s, and derived; where it faults, a front of s that begins something derived
-pub reads-sound : (m : Mode) (d : ℕ) (s : List Symbol) → At m s → Out (Done m d) (Via m d) s (reads m d s)
-unfolding reads
-reads-sound m d s p = sound (suc (rank m + 5 * length s)) m d s p
 
 -- ---- places: at place i of a row stands `drop i row`
 
@@ -97,10 +97,12 @@ pub rest-at : (row : List Symbol) (i : ℕ) → rest (drop i row) ≡ drop (i + 
 rest-at row i = rw add-one (rest-suc row i)
 
 -- what is left of a part of the row is a part of the row, at the place that its length tells
-pub left-at : (row w t : List Symbol) (i : ℕ) → i ≤ length row → drop i row ≡ w ++ t → t ≡ drop (length row - length t) row
+pub left-at : (row w t : List Symbol) (i : ℕ) → i ≤ length row → drop i row ≡ w ++ t
+    → t ≡ drop (length row - length t) row
 left-at row w t i le h =
     let a = length-append w t in
     let b = ap length h in
     let c = length-drop i row in
     let n : i + length w ≡ length row - length t = omega arith in
-    sym (drop-append-seam w t) ∙ ap (drop (length w)) (sym h) ∙ drop-drop (length w) i row ∙ ap (λ (k : ℕ). drop k row) n
+    sym (drop-append-seam w t) ∙ ap (drop (length w)) (sym h) ∙ drop-drop (length w) i row
+    ∙ ap (λ (k : ℕ). drop k row) n

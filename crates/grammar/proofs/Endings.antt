@@ -1,4 +1,5 @@
--- What a reading of s gives: it is done, and has read a front w of s with `L out w e`; or it faults with the code c behind a front w with `F c w`.
+-- What a reading of s gives: it is done, and has read a front w of s with `L out w e`; or it faults with the code c
+-- behind a front w with `F c w`.
 use Prim.Native.Nat.{ℕ, suc, _≤_}
 use mathlib.Core.Path.{_≡_, refl, sym, ap, subst, _∙_}
 use mathlib.Core.Bool.{Bool, true, false}
@@ -16,7 +17,8 @@ use Rattle.grammar.specs.Meaning.{Calm}
 pub clash : {X : Type 0} → _≡_ {A = ℕ} 0 1 → X
 clash h = absurd (omega arith)
 
--- what is asked of a reading that is done: of what it wrote, of the tokens that it read, of what they are; and of a fault, and the tokens before it
+-- what is asked of a reading that is done: of what it wrote, of the tokens that it read, of what they are; and of a
+-- fault, and the tokens before it
 abbrev pub Asked : Type 0 → Type 1
 Asked A = List Draft → List Symbol → A → Type 0
 
@@ -40,7 +42,8 @@ pub record Out {A : Type 0} (L : Asked A) (F : Before) (s : List Symbol) (x : Re
 module _ {A : Type 0} (L : Asked A) (F : Before) where
   -- what asks less
   pub out-mono : {K : Asked A} {E : Before} (s : List Symbol) (x : Res A) → Out K E s x
-      → ((o : List Draft) (w : List Symbol) (e : A) → K o w e → L o w e) → ((c : ℕ) (w : List Symbol) → E c w → F c w) → Out L F s x
+      → ((o : List Draft) (w : List Symbol) (e : A) → K o w e → L o w e) → ((c : ℕ) (w : List Symbol) → E c w → F c w)
+      → Out L F s x
   out-mono {K} {E} s x h l p = record { ends = go (x .end) (h .ends) }
     where
       go : (t : End A) → OutEnd K E s (x .out) t → OutEnd L F s (x .out) t
@@ -73,16 +76,19 @@ module _ {A : Type 0} (L : Asked A) (F : Before) where
       go (bad c u) r = (t ∷ r .0, q ∙ ap (λ (z : List Symbol). t ∷ z) (r .1), r .2, r .3)
 
 -- one after the other
-pub out-bind : {A B : Type 0} {K : Asked A} {E : Before} (L : Asked B) (F : Before) (s : List Symbol) (x : Res A) (k : A → List Symbol → Res B)
+pub out-bind : {A B : Type 0} {K : Asked A} {E : Before} (L : Asked B) (F : Before) (s : List Symbol) (x : Res A)
+    (k : A → List Symbol → Res B)
     → Out K E s x
-    → ((o : List Draft) (w : List Symbol) (e : A) (t : List Symbol) → K o w e → Out (λ o′ v. L (o ++ o′) (w ++ v)) (λ c v. F c (w ++ v)) t (k e t))
+    → ((o : List Draft) (w : List Symbol) (e : A) (t : List Symbol) → K o w e
+    → Out (λ o′ v. L (o ++ o′) (w ++ v)) (λ c v. F c (w ++ v)) t (k e t))
     → ((c : ℕ) (w : List Symbol) → E c w → F c w)
     → Out L F s (bind x k)
 unfolding bind
 out-bind {A} {B} {K} {E} L F s x k h g p = record { ends = go (x .end) (h .ends) }
   where
     then : (w t : List Symbol) (o : List Draft) (e : A) → s ≡ w ++ t → (y : End B)
-        → OutEnd (λ o′ v. L (o ++ o′) (w ++ v)) (λ c v. F c (w ++ v)) t (k e t .out) y → OutEnd L F s (o ++ k e t .out) y
+        → OutEnd (λ o′ v. L (o ++ o′) (w ++ v)) (λ c v. F c (w ++ v)) t (k e t .out) y
+        → OutEnd L F s (o ++ k e t .out) y
     then w t o e q (got z u) r = (w ++ r .0, q ∙ rw (append-assoc, r .1), r .2)
     then w t o e q (bad c u) r = (w ++ r .0, q ∙ rw (append-assoc, r .1), r .2, r .3)
 
@@ -91,14 +97,16 @@ out-bind {A} {B} {K} {E} L F s x k h g p = record { ends = go (x .end) (h .ends)
     go (bad c t) r = (r .0, r .1, p _ _ (r .2), r .3)
 
 -- and nothing read after it
-pub out-map : {A B : Type 0} {K : Asked A} {E : Before} (L : Asked B) (F : Before) (s : List Symbol) (x : Res A) (g : A → B)
+pub out-map : {A B : Type 0} {K : Asked A} {E : Before} (L : Asked B) (F : Before) (s : List Symbol) (x : Res A)
+    (g : A → B)
     → Out K E s x
     → ((o : List Draft) (w : List Symbol) (e : A) → K o w e → L o w (g e))
     → ((c : ℕ) (w : List Symbol) → E c w → F c w)
     → Out L F s (bind x λ e t. give (g e) t)
 out-map {A} {B} L F s x g h l p =
     out-bind L F s x (λ e t. give (g e) t) h
-    (λ o w e t q. out-give (λ o′ v. L (o ++ o′) (w ++ v)) (λ c v. F c (w ++ v)) t (g e) (rw (append-nil o, append-nil w) (l o w e q))) p
+    (λ o w e t q. out-give (λ o′ v. L (o ++ o′) (w ++ v)) (λ c v. F c (w ++ v)) t (g e)
+    (rw (append-nil o, append-nil w) (l o w e q))) p
 
 -- ---- the token that stands next
 
@@ -126,7 +134,8 @@ here-mark s b h = here s (λ z. let q : 0 ≡ suc b = cc in omega arith) ∙ ap 
 
 module _ {A : Type 0} (L : Asked A) (F : Before) where
   -- at a mark, or else
-  pub out-mark : (b : ℕ) (s : List Symbol) (x y : Unit {0} → Res A) → (next s ≡ mark (suc b) → Out L F s (x tt)) → Out L F s (y tt)
+  pub out-mark : (b : ℕ) (s : List Symbol) (x y : Unit {0} → Res A) → (next s ≡ mark (suc b) → Out L F s (x tt))
+      → Out L F s (y tt)
       → Out L F s (when (eqb (byteOf (next s)) (suc b)) x y)
   out-mark b s x y g h = go (eqb (byteOf (next s)) (suc b)) refl
     where
@@ -136,7 +145,8 @@ module _ {A : Type 0} (L : Asked A) (F : Before) where
 
   -- behind a mark that must stand next
   pub out-need : (b : ℕ) (s : List Symbol) (k : List Symbol → Res A)
-      → (next s ≡ mark (suc b) → Out (λ o w. L o (mark (suc b) ∷ w)) (λ c w. F c (mark (suc b) ∷ w)) (rest s) (k (rest s)))
+      → (next s ≡ mark (suc b) → Out (λ o w. L o (mark (suc b) ∷ w)) (λ c w. F c (mark (suc b) ∷ w)) (rest s)
+      (k (rest s)))
       → F 18 [] → Out L F s (need (suc b) s k)
   out-need b s k h p = out-mark b s _ _ (λ m. out-rest L F s (k (rest s)) (here-mark s b m) (h m)) (out-stop L F s p)
 
@@ -146,8 +156,8 @@ module _ {A : Type 0} (L : Asked A) (F : Before) where
 abbrev pub Begins : {A : Type 0} → (ℕ → List Symbol → A → Type 0) → ℕ → List Symbol → Type 0
 Begins {A} G d w = (v : List Symbol) × (e : A) × G d (w ++ v) e
 
--- it is one with d levels, unless it ends with a function's name, and with one level more in any case: there, at a fault for depth, with an
--- opening next
+-- it is one with d levels, unless it ends with a function's name, and with one level more in any case: there, at a
+-- fault for depth, with an opening next
 pub record Fronts {A : Type 0} (G : ℕ → List Symbol → A → Type 0) (d c : ℕ) (w : List Symbol) : Type 0 where
   pub over : (v : List Symbol) × (e : A) × G (suc d) (w ++ v) e × (c ≡ 19 → next v ≡ mark 40)
   pub calm : Calm w → Begins G d w
@@ -180,7 +190,8 @@ module _ {A B : Type 0} {G : ℕ → List Symbol → A → Type 0} {H : ℕ → 
     where
       again : (a b : List Symbol) {D : ℕ} {x : B} → H D (p ++ ((w ++ a) ++ b)) x → H D ((p ++ w) ++ (a ++ b)) x
       again a b {D} {x} h =
-          subst (λ (z : List Symbol). H D z x) (ap (λ (z : List Symbol). p ++ z) (append-assoc w a b) ∙ sym (append-assoc p w (a ++ b))) h
+          subst (λ (z : List Symbol). H D z x)
+          (ap (λ (z : List Symbol). p ++ z) (append-assoc w a b) ∙ sym (append-assoc p w (a ++ b))) h
 
   -- behind the tokens w, G goes on as H
   pub behind : (w : List Symbol) → ((D : ℕ) (v : List Symbol) (e : A) → d ≤ D → G D v e → (x : B) × H D (w ++ v) x)

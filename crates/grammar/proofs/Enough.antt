@@ -10,10 +10,12 @@ use Rattle.tokens.specs.Symbol.{Symbol, mark}
 use Rattle.drafts.specs.Tree.{Two, Tree, two}
 use Rattle.drafts.specs.Kinds.{kindTwo}
 use Rattle.drafts.specs.Drafts.{Draft, draft}
-use Rattle.grammar.specs.Look.{next, rest, byteOf, Op, none, op, addOp, mulOp, signed, Opening, group, Given, whole, wants, give-to}
+use Rattle.grammar.specs.Look.{next, rest, byteOf, Op, none, op, addOp, mulOp, signed, Opening, group, Given}
+use Rattle.grammar.specs.Look.{whole, wants, give-to}
 use Rattle.grammar.specs.Look.{Shape, Leaf, Paren, Call, NoFactor, shapeOf}
 use Rattle.grammar.specs.Grammar.{Mode, expr, term, factor, terms, factors, opened, list}
-use Rattle.grammar.specs.Grammar.{Der, unsigned, sign, no-terms, add, a-term, no-factors, mul, a-leaf, grouped, called, opening, last, comma}
+use Rattle.grammar.specs.Grammar.{Der, unsigned, sign, no-terms, add, a-term, no-factors, mul, a-leaf, grouped}
+use Rattle.grammar.specs.Grammar.{called, opening, last, comma}
 use Rattle.grammar.specs.Parser.{End, got, bad, Res, tell, onward, bind, when, byOp, byShape, byGiven, need}
 use Rattle.grammar.specs.Parser.{behindSign, signDrafts, step, parse, rank}
 use Rattle.grammar.proofs.Endings.{OutEnd, here-mark, is-mark}
@@ -49,7 +51,8 @@ size (last {w = w} h a) = let x = size a in rw (length-append w (mark 41 ∷ [])
 size (comma {w = w} {v = v} h a b) = let x = size a in rw (length-append w (mark 44 ∷ v)) (omega arith)
 
 -- so what is left is that much shorter
-pub left : (f : ℕ) (m : Mode) (d : ℕ) (s : List Symbol) → At m s → (e : Tree) (t : List Symbol) → parse f m d s .end ≡ got e t
+pub left : (f : ℕ) (m : Mode) (d : ℕ) (s : List Symbol) → At m s → (e : Tree) (t : List Symbol)
+    → parse f m d s .end ≡ got e t
     → least m + length t ≤ length s
 left f m d s p e t h =
     let r : OutEnd (Done m d) (Via m d) s (parse f m d s .out) (got e t) = rw h at (sound f m d s p .ends) in
@@ -95,12 +98,14 @@ module _ {A : Type 0} where
       go false e = refl
 
   -- by an operator
-  pub op-cong : (o : Op) (x : Unit {0} → Res A) (y y′ : Two → Res A) → ((k : Two) → o ≡ op k → y k ≡ y′ k) → byOp o x y ≡ byOp o x y′
+  pub op-cong : (o : Op) (x : Unit {0} → Res A) (y y′ : Two → Res A) → ((k : Two) → o ≡ op k → y k ≡ y′ k)
+      → byOp o x y ≡ byOp o x y′
   op-cong none x y y′ h = refl
   op-cong (op k) x y y′ h = h k refl
 
   -- by what begins a factor
-  pub shape-cong : (q : Shape) (x : Tree → Res A) (y y′ : Unit {0} → Res A) (z z′ : Opening → Res A) (n : Unit {0} → Res A)
+  pub shape-cong : (q : Shape) (x : Tree → Res A) (y y′ : Unit {0} → Res A) (z z′ : Opening → Res A)
+      (n : Unit {0} → Res A)
       → (q ≡ Paren → y tt ≡ y′ tt) → ((p : Opening) → q ≡ Call p → z p ≡ z′ p) → byShape q x y z n ≡ byShape q x y′ z′ n
   shape-cong (Leaf e) x y y′ z z′ n g h = refl
   shape-cong Paren x y y′ z z′ n g h = g refl
@@ -108,12 +113,14 @@ module _ {A : Type 0} where
   shape-cong NoFactor x y y′ z z′ n g h = refl
 
   -- by what an opening makes
-  pub given-cong : (q : Given) (x : Tree → Res A) (y y′ : Opening → Res A) → ((p : Opening) → y p ≡ y′ p) → byGiven q x y ≡ byGiven q x y′
+  pub given-cong : (q : Given) (x : Tree → Res A) (y y′ : Opening → Res A) → ((p : Opening) → y p ≡ y′ p)
+      → byGiven q x y ≡ byGiven q x y′
   given-cong (whole e) x y y′ h = refl
   given-cong (wants p) x y y′ h = h p
 
   -- behind a mark
-  pub need-cong : (b : ℕ) (s : List Symbol) (k k′ : List Symbol → Res A) → (length s ≡ suc (length (rest s)) → k (rest s) ≡ k′ (rest s))
+  pub need-cong : (b : ℕ) (s : List Symbol) (k k′ : List Symbol → Res A)
+      → (length s ≡ suc (length (rest s)) → k (rest s) ≡ k′ (rest s))
       → need (suc b) s k ≡ need (suc b) s k′
   need-cong b s k k′ h = mark-cong b s _ _ _ λ m. h (shorter s (here-mark s b m))
 
@@ -129,21 +136,27 @@ Agree g g′ n = (m : Mode) (d : ℕ) (s : List Symbol) → At m s → rank m + 
 
 module _ (f : ℕ) (g : Reader) {n : ℕ} (same : Agree (parse f) g n) (d : ℕ) where
   -- a part, and what goes on from it
-  linked-cong : (part : Mode) (chain : Tree → Mode) (is : List Draft) (u : List Symbol) → At part u → ((e : Tree) (t : List Symbol) → At (chain e) t)
-      → rank part + 5 * length u < n → ((e : Tree) (t : List Symbol) → least part + length t ≤ length u → rank (chain e) + 5 * length t < n)
-      → bind (parse f part d u) (λ e t. tell is (parse f (chain e) d t)) ≡ bind (g part d u) (λ e t. tell is (g (chain e) d t))
+  linked-cong : (part : Mode) (chain : Tree → Mode) (is : List Draft) (u : List Symbol) → At part u
+      → ((e : Tree) (t : List Symbol) → At (chain e) t)
+      → rank part + 5 * length u < n
+      → ((e : Tree) (t : List Symbol) → least part + length t ≤ length u → rank (chain e) + 5 * length t < n)
+      → bind (parse f part d u) (λ e t. tell is (parse f (chain e) d t))
+      ≡ bind (g part d u) (λ e t. tell is (g (chain e) d t))
   linked-cong part chain is u p q l k =
       bind-cong (parse f part d u) _ _ _ (same part d u p l) λ e t h.
       ap (tell is) (same (chain e) d t (q e t) (k e t (left f part d u p e t h)))
 
 -- where they agree on what is less, one call of them is the same
-pub step-cong : (f : ℕ) (g : Reader) (m : Mode) (d : ℕ) (s : List Symbol) → At m s → Agree (parse f) g (rank m + 5 * length s)
+pub step-cong : (f : ℕ) (g : Reader) (m : Mode) (d : ℕ) (s : List Symbol) → At m s
+    → Agree (parse f) g (rank m + 5 * length s)
     → step (parse f) m d s ≡ step g m d s
 step-cong f g expr d s p same =
     let o = addOp (next s) in
     let l = behind-le o s in
-    linked-cong f g same d term (λ e. terms (signed o e)) (signDrafts o) (behindSign o s) tt (λ _ _. tt) (omega arith) λ e t k. omega arith
-step-cong f g term d s p same = linked-cong f g same d factor factors [] s tt (λ _ _. tt) (omega arith) λ e t k. omega arith
+    linked-cong f g same d term (λ e. terms (signed o e)) (signDrafts o) (behindSign o s) tt (λ _ _. tt)
+    (omega arith) λ e t k. omega arith
+step-cong f g term d s p same =
+    linked-cong f g same d factor factors [] s tt (λ _ _. tt) (omega arith) λ e t k. omega arith
 step-cong f g factor d s p same =
     shape-cong (shapeOf (next s)) _ _ _ _ _ _ (λ q. same (opened group) d s (as-shaped (next s) q) (omega arith)) λ p q.
     let l = shorter s (call-here s p q) in
@@ -151,11 +164,13 @@ step-cong f g factor d s p same =
 step-cong f g (terms l) d s p same =
     op-cong (addOp (next s)) _ _ _ λ o h.
     let n = shorter s (add-here s o h) in
-    linked-cong f g same d term (λ e. terms (two o l e)) (draft (kindTwo o) 0 ∷ []) (rest s) tt (λ _ _. tt) (omega arith) λ e t k. omega arith
+    linked-cong f g same d term (λ e. terms (two o l e)) (draft (kindTwo o) 0 ∷ []) (rest s) tt (λ _ _. tt)
+    (omega arith) λ e t k. omega arith
 step-cong f g (factors l) d s p same =
     op-cong (mulOp (next s)) _ _ _ λ o h.
     let n = shorter s (mul-here s o h) in
-    linked-cong f g same d factor (λ e. factors (two o l e)) (draft (kindTwo o) 0 ∷ []) (rest s) tt (λ _ _. tt) (omega arith) λ e t k. omega arith
+    linked-cong f g same d factor (λ e. factors (two o l e)) (draft (kindTwo o) 0 ∷ []) (rest s) tt (λ _ _. tt)
+    (omega arith) λ e t k. omega arith
 step-cong f g (opened p) zero s q same = refl
 step-cong f g (opened p) (suc d) s q same =
     let l = shorter s (here-mark s 39 q) in
@@ -163,12 +178,15 @@ step-cong f g (opened p) (suc d) s q same =
 step-cong f g (list p) d s q same =
     bind-cong (parse f expr d s) _ _ _ (same expr d s tt (omega arith)) λ e t h.
     let l = left f expr d s tt e t h in
-    given-cong (give-to p e) _ _ _ λ q. need-cong 43 t (parse f (list q) d) (g (list q) d) λ k. same (list q) d (rest t) tt (omega arith)
+    given-cong (give-to p e) _ _ _ λ q. need-cong 43 t (parse f (list q) d) (g (list q) d) λ k. same (list q) d
+    (rest t) tt (omega arith)
 
 -- any two counts of calls that suffice give the same reading
-pub enough : (f f′ : ℕ) (m : Mode) (d : ℕ) (s : List Symbol) → At m s → rank m + 5 * length s < f → rank m + 5 * length s < f′
+pub enough : (f f′ : ℕ) (m : Mode) (d : ℕ) (s : List Symbol) → At m s → rank m + 5 * length s < f
+    → rank m + 5 * length s < f′
     → parse f m d s ≡ parse f′ m d s
 unfolding parse
 enough zero f′ m d s p b b′ = absurd (omega arith)
 enough (suc f) zero m d s p b b′ = absurd (omega arith)
-enough (suc f) (suc f′) m d s p b b′ = step-cong f (parse f′) m d s p λ k D u q l. enough f f′ k D u q (omega arith) (omega arith)
+enough (suc f) (suc f′) m d s p b b′ =
+    step-cong f (parse f′) m d s p λ k D u q l. enough f f′ k D u q (omega arith) (omega arith)

@@ -1,5 +1,5 @@
--- A reading looks at no token past the place where it ends: on every row with the same front and the same token there, and with as many levels
--- or more, it does the same. A fault 19 is the one answer that hangs on the levels.
+-- A reading looks at no token past the place where it ends: on every row with the same front and the same token there,
+-- and with as many levels or more, it does the same. A fault 19 is the one answer that hangs on the levels.
 use Prim.Native.Nat.{ℕ, zero, suc, _≤_}
 use mathlib.Core.Path.{_≡_, refl, sym, ap, _∙_}
 use mathlib.Core.Bool.{Bool, true, false}
@@ -10,10 +10,12 @@ use Rattle.tokens.specs.Symbol.{Symbol, mark}
 use Rattle.drafts.specs.Tree.{Two, Tree, two}
 use Rattle.drafts.specs.Kinds.{kindTwo}
 use Rattle.drafts.specs.Drafts.{Draft, draft, drafted}
-use Rattle.grammar.specs.Look.{next, rest, byteOf, Op, none, op, addOp, mulOp, signed, Opening, group, Given, whole, wants, give-to}
+use Rattle.grammar.specs.Look.{next, rest, byteOf, Op, none, op, addOp, mulOp, signed, Opening, group, Given}
+use Rattle.grammar.specs.Look.{whole, wants, give-to}
 use Rattle.grammar.specs.Look.{Shape, Leaf, Paren, Call, NoFactor, shapeOf}
 use Rattle.grammar.specs.Grammar.{Mode, expr, term, factor, terms, factors, opened, list}
-use Rattle.grammar.specs.Parser.{End, got, bad, Res, give, stop, tell, onward, bind, when, byOp, byShape, byGiven, need}
+use Rattle.grammar.specs.Parser.{End, got, bad, Res, give, stop, tell, onward, bind, when, byOp, byShape, byGiven}
+use Rattle.grammar.specs.Parser.{need}
 use Rattle.grammar.specs.Parser.{behindSign, signDrafts, openDrafts, parse}
 use Rattle.grammar.proofs.Endings.{here-mark, is-mark}
 use Rattle.grammar.proofs.Looks.{add-here, mul-here, leaf-here, call-here, as-shaped}
@@ -46,16 +48,19 @@ Reading A = ℕ → List Symbol → Res A
 
 -- reading ends so on every row that is like s up to there
 abbrev pub LocEnd : {A : Type 0} → ℕ → List Symbol → Reading A → End A → Type 0
-LocEnd d s g (got e t) = (w : List Symbol) × (s ≡ w ++ t) × ((d′ : ℕ) (u : List Symbol) → d ≤ d′ → Like u t → g d′ (w ++ u) .end ≡ got e u)
+LocEnd d s g (got e t) =
+    (w : List Symbol) × (s ≡ w ++ t) × ((d′ : ℕ) (u : List Symbol) → d ≤ d′ → Like u t → g d′ (w ++ u) .end ≡ got e u)
 LocEnd d s g (bad c t) =
-    (w : List Symbol) × (s ≡ w ++ t) × ((d′ : ℕ) (u : List Symbol) → d ≤ d′ → (c ≡ 19 → d′ ≡ d) → Like u t → g d′ (w ++ u) .end ≡ bad c u)
+    (w : List Symbol) × (s ≡ w ++ t)
+    × ((d′ : ℕ) (u : List Symbol) → d ≤ d′ → (c ≡ 19 → d′ ≡ d) → Like u t → g d′ (w ++ u) .end ≡ bad c u)
 
 -- the reading g of s with d levels hangs on no more
 pub record Loc {A : Type 0} (d : ℕ) (s : List Symbol) (g : Reading A) : Type 0 where
   pub ends : LocEnd d s g (g d s .end)
 
 -- where the first faults, so do both
-pub bind-bad : {A B : Type 0} (x : Res A) (k : A → List Symbol → Res B) {c : ℕ} {t : List Symbol} → x .end ≡ bad c t → bind x k .end ≡ bad c t
+pub bind-bad : {A B : Type 0} (x : Res A) (k : A → List Symbol → Res B) {c : ℕ} {t : List Symbol} → x .end ≡ bad c t
+    → bind x k .end ≡ bad c t
 unfolding bind
 bind-bad {A} x k h = ap (λ (u : End A). onward (x .out) u k .end) h
 
@@ -65,7 +70,8 @@ pub loc-bind : {A B : Type 0} (d : ℕ) (s : List Symbol) (g : Reading A) (k : �
 unfolding bind
 loc-bind {A} {B} d s g k h l = record { ends = go (g d s .out) (g d s .end) (h .ends) }
   where
-    then : (w t : List Symbol) (e : A) → s ≡ w ++ t → ((d′ : ℕ) (u : List Symbol) → d ≤ d′ → Like u t → g d′ (w ++ u) .end ≡ got e u)
+    then : (w t : List Symbol) (e : A) → s ≡ w ++ t
+        → ((d′ : ℕ) (u : List Symbol) → d ≤ d′ → Like u t → g d′ (w ++ u) .end ≡ got e u)
         → (y : End B) → LocEnd d t (λ d′. k d′ e) y → LocEnd d s (λ d′ u. bind (g d′ u) (k d′)) y
     then w t e q h (got z r) a = (
       w ++ a .0,
@@ -82,13 +88,15 @@ loc-bind {A} {B} d s g k h l = record { ends = go (g d s .out) (g d s .end) (h .
           rw append-assoc (bind-end (g d′ (w ++ (a .0 ++ u))) (k d′) first ∙ a .2 d′ u le n like),
     )
 
-    go : (o : List Draft) (t : End A) → LocEnd d s g t → LocEnd d s (λ d′ u. bind (g d′ u) (k d′)) (onward o t (k d) .end)
+    go : (o : List Draft) (t : End A) → LocEnd d s g t
+        → LocEnd d s (λ d′ u. bind (g d′ u) (k d′)) (onward o t (k d) .end)
     go o (got e t) a = then (a .0) t e (a .1) (a .2) (k d e t .end) (l e t .ends)
     go o (bad c t) a = (a .0, a .1, λ d′ u le n like. bind-bad (g d′ (a .0 ++ u)) (k d′) (a .2 d′ u le n like))
 
 module _ {A : Type 0} (d : ℕ) (s : List Symbol) where
   -- what hangs on a look at the next token
-  pub loc-seen : {X : Type 0} (look : Symbol → X) (G : X → Reading A) → Loc d s (G (look (next s))) → Loc d s (λ d′ u. G (look (next u)) d′ u)
+  pub loc-seen : {X : Type 0} (look : Symbol → X) (G : X → Reading A) → Loc d s (G (look (next s)))
+      → Loc d s (λ d′ u. G (look (next u)) d′ u)
   loc-seen look G h = record { ends = go (G (look (next s)) d s .end) (h .ends) }
     where
       same : (w t u : List Symbol) → s ≡ w ++ t → Like u t → next (w ++ u) ≡ next s
@@ -124,7 +132,8 @@ module _ {A : Type 0} (d : ℕ) (s : List Symbol) where
   loc-stop c = record { ends = ([], refl, λ d′ u le n like. refl) }
 
   -- by a test
-  pub loc-when : (b : Bool) (g h : Reading A) → (b ≡ true → Loc d s g) → (b ≡ false → Loc d s h) → Loc d s (λ d′ u. when b (λ _. g d′ u) (λ _. h d′ u))
+  pub loc-when : (b : Bool) (g h : Reading A) → (b ≡ true → Loc d s g) → (b ≡ false → Loc d s h)
+      → Loc d s (λ d′ u. when b (λ _. g d′ u) (λ _. h d′ u))
   loc-when true g h p q = p refl
   loc-when false g h p q = q refl
 
@@ -136,25 +145,31 @@ module _ {A : Type 0} (d : ℕ) (s : List Symbol) where
       (loc-when (eqb (byteOf (next s)) (suc b)) g h (λ t. p (is-mark (next s) b t)) λ t. q)
 
   -- behind a mark
-  pub loc-need : (b : ℕ) (k : Reading A) → (next s ≡ mark (suc b) → Loc d (rest s) k) → Loc d s (λ d′ u. need (suc b) u (k d′))
-  loc-need b k h = loc-mark b (λ d′ u. k d′ (rest u)) (λ _. stop 18) (λ m. loc-rest k (here-mark s b m) (h m)) (loc-stop 18)
+  pub loc-need : (b : ℕ) (k : Reading A) → (next s ≡ mark (suc b) → Loc d (rest s) k)
+      → Loc d s (λ d′ u. need (suc b) u (k d′))
+  loc-need b k h =
+      loc-mark b (λ d′ u. k d′ (rest u)) (λ _. stop 18) (λ m. loc-rest k (here-mark s b m) (h m)) (loc-stop 18)
 
   -- behind a sign, or not
-  pub loc-behind : (g : Reading A) (o : Op) → ((n : Two) → o ≡ op n → s ≡ next s ∷ rest s) → ((s : List Symbol) → Loc d s g)
+  pub loc-behind : (g : Reading A) (o : Op) → ((n : Two) → o ≡ op n → s ≡ next s ∷ rest s)
+      → ((s : List Symbol) → Loc d s g)
       → Loc d s (λ d′ u. g d′ (behindSign o u))
   loc-behind g none q h = h s
   loc-behind g (op n) q h = loc-rest g (q n refl) (h (rest s))
 
 -- an operator and what follows it, or nothing
-chain-loc : (d : ℕ) (s : List Symbol) (l : Tree) (g : Reading Tree) (k : Two → ℕ → Tree → List Symbol → Res Tree) (o : Op)
+chain-loc : (d : ℕ) (s : List Symbol) (l : Tree) (g : Reading Tree) (k : Two → ℕ → Tree → List Symbol → Res Tree)
+    (o : Op)
     → ((n : Two) → o ≡ op n → s ≡ next s ∷ rest s) → ((s : List Symbol) → Loc d s g)
     → ((n : Two) (e : Tree) (t : List Symbol) → Loc d t (λ d′. k n d′ e))
     → Loc d s (λ d′ u. byOp o (λ _. give l u) (λ n. bind (g d′ (rest u)) (k n d′)))
 chain-loc d s l g k none q h j = loc-give d s l
-chain-loc d s l g k (op n) q h j = loc-rest d s (λ d′ u. bind (g d′ u) (k n d′)) (q n refl) (loc-bind d (rest s) g (k n) (h (rest s)) (j n))
+chain-loc d s l g k (op n) q h j =
+    loc-rest d s (λ d′ u. bind (g d′ u) (k n d′)) (q n refl) (loc-bind d (rest s) g (k n) (h (rest s)) (j n))
 
 -- a level less
-loc-suc : {A : Type 0} (d : ℕ) (s : List Symbol) (g h : Reading A) → ((d′ : ℕ) (u : List Symbol) → h (suc d′) u ≡ g d′ u) → Loc d s g → Loc (suc d) s h
+loc-suc : {A : Type 0} (d : ℕ) (s : List Symbol) (g h : Reading A)
+    → ((d′ : ℕ) (u : List Symbol) → h (suc d′) u ≡ g d′ u) → Loc d s g → Loc (suc d) s h
 loc-suc {A} d s g h q l = record { ends = rw (q d s) (go (g d s .end) (l .ends)) }
   where
     go : (t : End A) → LocEnd d s g t → LocEnd (suc d) s h t
@@ -179,20 +194,26 @@ module _ (f d : ℕ) (ih : (m : Mode) (s : List Symbol) → At m s → Loc d s (
   -- a factor, by what its token begins
   factor-loc : (s : List Symbol) (h : Shape) → shapeOf (next s) ≡ h
       → Loc d s (λ d′ u. byShape h (λ e. tell (drafted e) (give e (rest u))) (λ _. parse f (opened group) d′ u)
-      (λ p. when (eqb (byteOf (next (rest u))) 40) (λ _. parse f (opened p) d′ (rest u)) (λ _. stop 18 (rest u))) (λ _. stop 18 u))
+      (λ p. when (eqb (byteOf (next (rest u))) 40) (λ _. parse f (opened p) d′ (rest u)) (λ _. stop 18 (rest u)))
+      (λ _. stop 18 u))
   factor-loc s (Leaf e) q =
-      loc-rest d s (λ _ u. tell (drafted e) (give e u)) (leaf-here s e q) (loc-tell d (rest s) (drafted e) (λ _. give e) (loc-give d (rest s) e))
+      loc-rest d s (λ _ u. tell (drafted e) (give e u)) (leaf-here s e q)
+      (loc-tell d (rest s) (drafted e) (λ _. give e) (loc-give d (rest s) e))
   factor-loc s Paren q = ih (opened group) s (as-shaped (next s) q)
   factor-loc s (Call p) q =
-      loc-rest d s (λ d′ u. when (eqb (byteOf (next u)) 40) (λ _. parse f (opened p) d′ u) (λ _. stop 18 u)) (call-here s p q)
-      (loc-mark d (rest s) 39 (parse f (opened p)) (λ _. stop 18) (λ m. ih (opened p) (rest s) m) (loc-stop d (rest s) 18))
+      loc-rest d s (λ d′ u. when (eqb (byteOf (next u)) 40) (λ _. parse f (opened p) d′ u) (λ _. stop 18 u))
+      (call-here s p q)
+      (loc-mark d (rest s) 39 (parse f (opened p)) (λ _. stop 18) (λ m. ih (opened p) (rest s) m)
+      (loc-stop d (rest s) 18))
   factor-loc s NoFactor q = loc-stop d s 18
 
   -- behind an expression of an opening
   given-loc : (p : Opening) (g : Given) (t : List Symbol)
-      → Loc d t (λ d′ u. byGiven g (λ x. need 41 u λ v. tell (openDrafts p) (give x v)) (λ q. need 44 u (parse f (list q) d′)))
+      → Loc d t
+      (λ d′ u. byGiven g (λ x. need 41 u λ v. tell (openDrafts p) (give x v)) (λ q. need 44 u (parse f (list q) d′)))
   given-loc p (whole x) t =
-      loc-need d t 40 (λ _ v. tell (openDrafts p) (give x v)) λ m. loc-tell d (rest t) (openDrafts p) (λ _. give x) (loc-give d (rest t) x)
+      loc-need d t 40 (λ _ v. tell (openDrafts p) (give x v)) λ m. loc-tell d (rest t) (openDrafts p) (λ _. give x)
+      (loc-give d (rest t) x)
   given-loc p (wants q) t = loc-need d t 43 (parse f (list q)) λ m. ih (list q) (rest t) tt
 
 -- in each mode, whatever the count of calls
@@ -201,29 +222,37 @@ unfolding parse
 local zero m d s p = loc-stop d s 18
 local (suc f) expr d s p =
     let o = addOp (next s) in
-    loc-seen d s addOp (λ o d′ u. bind (parse f term d′ (behindSign o u)) λ e t. tell (signDrafts o) (parse f (terms (signed o e)) d′ t))
-    (loc-bind d s (λ d′ u. parse f term d′ (behindSign o u)) _ (loc-behind d s (parse f term) o (add-here s) (λ s. local f term d s tt))
+    loc-seen d s addOp
+    (λ o d′ u. bind (parse f term d′ (behindSign o u)) λ e t. tell (signDrafts o) (parse f (terms (signed o e)) d′ t))
+    (loc-bind d s (λ d′ u. parse f term d′ (behindSign o u)) _
+    (loc-behind d s (parse f term) o (add-here s) (λ s. local f term d s tt))
     λ e t. loc-tell d t (signDrafts o) (parse f (terms (signed o e))) (local f (terms (signed o e)) d t tt))
 local (suc f) term d s p = loc-bind d s (parse f factor) _ (local f factor d s tt) λ e t. local f (factors e) d t tt
 local (suc f) factor d s p =
     loc-seen d s shapeOf
     (λ h d′ u. byShape h (λ e. tell (drafted e) (give e (rest u))) (λ _. parse f (opened group) d′ u)
-    (λ p. when (eqb (byteOf (next (rest u))) 40) (λ _. parse f (opened p) d′ (rest u)) (λ _. stop 18 (rest u))) (λ _. stop 18 u))
+    (λ p. when (eqb (byteOf (next (rest u))) 40) (λ _. parse f (opened p) d′ (rest u)) (λ _. stop 18 (rest u)))
+    (λ _. stop 18 u))
     (factor-loc f d (λ m s p. local f m d s p) s (shapeOf (next s)) refl)
 local (suc f) (terms l) d s p =
     loc-seen d s addOp
-    (λ o d′ u. byOp o (λ _. give l u) λ n. bind (parse f term d′ (rest u)) λ e t. tell (draft (kindTwo n) 0 ∷ []) (parse f (terms (two n l e)) d′ t))
+    (λ o d′ u. byOp o (λ _. give l u) λ n. bind (parse f term d′ (rest u)) λ e t. tell (draft (kindTwo n) 0 ∷ [])
+    (parse f (terms (two n l e)) d′ t))
     (chain-loc d s l (parse f term) _ (addOp (next s)) (add-here s) (λ s. local f term d s tt)
     λ n e t. loc-tell d t (draft (kindTwo n) 0 ∷ []) (parse f (terms (two n l e))) (local f (terms (two n l e)) d t tt))
 local (suc f) (factors l) d s p =
     loc-seen d s mulOp
-    (λ o d′ u. byOp o (λ _. give l u) λ n. bind (parse f factor d′ (rest u)) λ e t. tell (draft (kindTwo n) 0 ∷ []) (parse f (factors (two n l e)) d′ t))
+    (λ o d′ u. byOp o (λ _. give l u) λ n. bind (parse f factor d′ (rest u)) λ e t. tell (draft (kindTwo n) 0 ∷ [])
+    (parse f (factors (two n l e)) d′ t))
     (chain-loc d s l (parse f factor) _ (mulOp (next s)) (mul-here s) (λ s. local f factor d s tt)
-    λ n e t. loc-tell d t (draft (kindTwo n) 0 ∷ []) (parse f (factors (two n l e))) (local f (factors (two n l e)) d t tt))
+    λ n e t. loc-tell d t (draft (kindTwo n) 0 ∷ []) (parse f (factors (two n l e)))
+    (local f (factors (two n l e)) d t tt))
 local (suc f) (opened p) zero s q = record { ends = ([], refl, λ d′ u le c like. rw (c refl)) }
 local (suc f) (opened p) (suc d) s q =
-    loc-suc d s (λ d′ u. parse f (list p) d′ (rest u)) _ (λ d′ u. refl) (loc-rest d s (parse f (list p)) (here-mark s 39 q) (local f (list p) d (rest s) tt))
+    loc-suc d s (λ d′ u. parse f (list p) d′ (rest u)) _ (λ d′ u. refl)
+    (loc-rest d s (parse f (list p)) (here-mark s 39 q) (local f (list p) d (rest s) tt))
 local (suc f) (list p) d s q =
     loc-bind d s (parse f expr)
-    (λ d′ e t. byGiven (give-to p e) (λ x. need 41 t λ u. tell (openDrafts p) (give x u)) (λ q. need 44 t (parse f (list q) d′)))
+    (λ d′ e t. byGiven (give-to p e) (λ x. need 41 t λ u. tell (openDrafts p) (give x u))
+    (λ q. need 44 t (parse f (list q) d′)))
     (local f expr d s tt) λ e t. given-loc f d (λ m s p. local f m d s p) p (give-to p e) t

@@ -1,4 +1,5 @@
--- What a look at a token tells: that it stands there, and which token it is; and what an opening has, and makes, of the expressions given to it.
+-- What a look at a token tells: that it stands there, and which token it is; and what an opening has, and makes, of the
+-- expressions given to it.
 use Prim.Native.Nat.{ℕ}
 use mathlib.Core.Path.{_≡_, refl, ap, subst, _∙_}
 use mathlib.Core.List.{List, [], _∷_, _++_, append-assoc, append-nil}
@@ -7,12 +8,15 @@ use borrow.Author.Tests.{eqb-true}
 use lib.Dec.{eqb}
 use lib.Ieee.{Float}
 use Rattle.laws.proofs.Tests.{cond-ind}
-use Rattle.tokens.specs.Symbol.{CONST, PARAM, INCON, INTGRL, TIME, INSW, LIMIT, COMPAR, Symbol, mark, number, name, word}
+use Rattle.tokens.specs.Symbol.{CONST, PARAM, INCON, INTGRL, TIME, INSW, LIMIT, COMPAR, Symbol, mark, number, name}
+use Rattle.tokens.specs.Symbol.{word}
 use Rattle.drafts.specs.Tree.{Two, plus, minus, times, over, compar, Three, Tree, value, named, time}
 use Rattle.drafts.specs.Drafts.{Draft, drafted}
 use Rattle.grammar.specs.Look.{next, rest, byteOf, Op, none, op, addOp, mulOp, signed}
-use Rattle.grammar.specs.Look.{Opening, group, pair, pair-of, triple, triple-of, triple-of-two, Given, whole, wants, give-to}
-use Rattle.grammar.specs.Look.{Shape, Leaf, Paren, Call, NoFactor, shapeOf, Start, Constants, Integral, Named, Valued, Other, startOf}
+use Rattle.grammar.specs.Look.{Opening, group, pair, pair-of, triple, triple-of, triple-of-two, Given, whole}
+use Rattle.grammar.specs.Look.{wants, give-to}
+use Rattle.grammar.specs.Look.{Shape, Leaf, Paren, Call, NoFactor, shapeOf, Start, Constants, Integral, Named}
+use Rattle.grammar.specs.Look.{Valued, Other, startOf}
 use Rattle.grammar.specs.Parser.{signDrafts, openDrafts}
 use Rattle.grammar.proofs.Endings.{clash, here, is-mark}
 
@@ -45,7 +49,8 @@ call-here s p h = here-by shapeOf s λ z. clash (cc)
 -- what adds is + or -
 add-mark : (t : Symbol) (o : Two) → addOp t ≡ op o → (t ≡ mark 43) ⊎ (t ≡ mark 45)
 add-mark t o =
-    cond-ind (λ z. z ≡ op o → (t ≡ mark 43) ⊎ (t ≡ mark 45)) (eqb (byteOf t) 43) (op plus) _ (λ e _. inl (is-mark t 42 e))
+    cond-ind (λ z. z ≡ op o → (t ≡ mark 43) ⊎ (t ≡ mark 45)) (eqb (byteOf t) 43) (op plus) _
+    (λ e _. inl (is-mark t 42 e))
     λ _. cond-ind (λ z. z ≡ op o → (t ≡ mark 43) ⊎ (t ≡ mark 45)) (eqb (byteOf t) 45) (op minus) none
     (λ e _. inr (is-mark t 44 e)) λ _ h. clash (cc)
 
@@ -66,7 +71,8 @@ factor-no-add t n = go (addOp t) refl
   where
     go : (o : Op) → addOp t ≡ o → o ≡ none
     go none h = refl
-    go (op o) h = absurd (n (⊎-elim (λ (e : t ≡ mark 43). ap shapeOf e) (λ (e : t ≡ mark 45). ap shapeOf e) (add-mark t o h)))
+    go (op o) h =
+        absurd (n (⊎-elim (λ (e : t ≡ mark 43). ap shapeOf e) (λ (e : t ≡ mark 45). ap shapeOf e) (add-mark t o h)))
 
 -- ---- factors
 
@@ -182,7 +188,8 @@ pub new-drafts : {p : Opening} → New p → so-far p ≡ []
 new-drafts new-pair = refl
 new-drafts new-triple = refl
 
--- given one more: the whole has these, those of the expression, and the opening's own; what wants another has these and those of the expression
+-- given one more: the whole has these, those of the expression, and the opening's own; what wants another has these and
+-- those of the expression
 abbrev pub Gave : Opening → Tree → Given → Type 0
 Gave p e (whole x) = so-far p ++ (drafted e ++ openDrafts p) ≡ drafted x
 Gave p e (wants q) = so-far q ≡ so-far p ++ drafted e

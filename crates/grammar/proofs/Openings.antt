@@ -14,7 +14,8 @@ use Rattle.grammar.specs.declared.faces.Face.{Face}
 use Rattle.grammar.specs.declared.faces.Face.the-variants.{One, Group, Function, Nothing}
 use Rattle.drafts.specs.Tree.{insw, limit, Tree}
 use Rattle.drafts.specs.Drafts.{draft, drafted}
-use Rattle.grammar.specs.Look.{next, rest, byteOf, Opening, group, pair, pair-of, triple, triple-of, triple-of-two, Given, whole, wants, give-to}
+use Rattle.grammar.specs.Look.{next, rest, byteOf, Opening, group, pair, pair-of, triple, triple-of}
+use Rattle.grammar.specs.Look.{triple-of-two, Given, whole, wants, give-to}
 use Rattle.grammar.specs.Look.{Shape, Leaf, Paren, Call, NoFactor, shapeOf}
 use Rattle.grammar.specs.Grammar.{expr, factor, opened, list}
 use Rattle.grammar.specs.Parser.{Res, give, stop, tell, when, byShape, byGiven, need, openDrafts, reads}
@@ -22,7 +23,8 @@ use Rattle.grammar.specs.Codes.{wantOf, kindOpening, closerOf, leafKind,
 use Rattle.grammar.specs.Contract.{Ready, passed, stopped, Meets, Parses}
 use Rattle.grammar.proofs.Clauses.{reads-factor, reads-opened, reads-deep, reads-list}
 use Rattle.grammar.proofs.Seen.{token-at, stands, leaf-told, face-told}
-use Rattle.grammar.proofs.Meets.{meets-by, meets-rest, meets-give, meets-stop, meets-tell, meets-mark, meets-else, meets-need, meets-shut}
+use Rattle.grammar.proofs.Meets.{meets-by, meets-rest, meets-give, meets-stop, meets-tell, meets-mark}
+use Rattle.grammar.proofs.Meets.{meets-else, meets-need, meets-shut}
 use Rattle.grammar.proofs.Ways.{after, stops, goes-on}
 
 -- ---- a factor, by the face f of its token's kind k
@@ -52,8 +54,10 @@ module _ {ks us : List ℕ} {i p k : ℕ} {l u : List ℕ} {f : Face} (w : Ready
 
   -- the reading by a shape
   by-shape : (d : ℕ) {h : Shape} → shapeOf (symbolOf k (getD us i 0)) ≡ h → reads factor d (drop i (heldRow ks us))
-      ≡ (let s = drop i (heldRow ks us) in byShape h (λ e. tell (drafted e) (give e (rest s))) (λ _. reads (opened group) d s)
-      (λ p. when (eqb (byteOf (next (rest s))) 40) (λ _. reads (opened p) d (rest s)) (λ _. stop 18 (rest s))) (λ _. stop 18 s))
+      ≡ (let s = drop i (heldRow ks us) in byShape h (λ e. tell (drafted e) (give e (rest s)))
+      (λ _. reads (opened group) d s)
+      (λ p. when (eqb (byteOf (next (rest s))) 40) (λ _. reads (opened p) d (rest s)) (λ _. stop 18 (rest s)))
+      (λ _. stop 18 s))
   by-shape d h = reads-factor d (drop i (heldRow ks us)) ∙ rw (shape-at ∙ h)
 
   -- it stands before the end
@@ -67,7 +71,8 @@ module _ {ks us : List ℕ} {i p k : ℕ} {l u : List ℕ} {f : Face} (w : Ready
   pub one-room : {n : ℕ} → f ≡ One n → (p < length l) × (p < length u)
   one-room e = let a = one-inside e in (omega (arith, w .room-kinds), omega (arith, w .room-args))
 
-  pub factor-one : {d n a : ℕ} {l₁ u₁ : List ℕ} → f ≡ One n → a ≡ leafArg n (getD us i 0) → l₁ ≡ set l p n → u₁ ≡ set u p a
+  pub factor-one : {d n a : ℕ} {l₁ u₁ : List ℕ} → f ≡ One n → a ≡ leafArg n (getD us i 0) → l₁ ≡ set l p n
+      → u₁ ≡ set u p a
       → Parses ks us factor d i p l u (passed (i + 1) (p + 1)) l₁ u₁
   factor-one {d} {n} {a} e g x y =
       let row = heldRow ks us in
@@ -80,13 +85,18 @@ module _ {ks us : List ℕ} {i p k : ℕ} {l u : List ℕ} {f : Face} (w : Ready
       }
 
   -- parentheses
-  pub group-enter : {t : ℕ} → f ≡ Group → 1 + 5 * (length ks - i) ≡ t → (5 * (length ks - i) < t) × ((getD ks i 0 ≡ 40) × Ready ks us i p l u)
+  pub group-enter : {t : ℕ} → f ≡ Group → 1 + 5 * (length ks - i) ≡ t
+      → (5 * (length ks - i) < t) × ((getD ks i 0 ≡ 40) × Ready ks us i p l u)
   group-enter e m = (omega arith, (sym ek ∙ face-told k 0 (sym e ∙ ef 0), w))
 
   pub factor-group : {d : ℕ} {r : Part} {l₁ u₁ : List ℕ} → f ≡ Group
-      → ((o : Opening) → wantOf o ≡ 1 → kindOpening o ≡ 0 → Parses ks us (opened o) d i p l u r l₁ u₁) → Parses ks us factor d i p l u r l₁ u₁
+      → ((o : Opening) → wantOf o ≡ 1 → kindOpening o ≡ 0 → Parses ks us (opened o) d i p l u r l₁ u₁)
+      → Parses ks us factor d i p l u r l₁ u₁
   factor-group {d} e g =
-      record { meets = meets-by (reads factor d) (by-shape d (as-shown k (getD us i 0) (sym e ∙ ef (getD us i 0)))) (g group refl refl .meets) }
+      record {
+        meets = meets-by (reads factor d) (by-shape d (as-shown k (getD us i 0) (sym e ∙ ef (getD us i 0))))
+            (g group refl refl .meets);
+      }
 
   -- a function
   pub function-enter : {t n c : ℕ} → f ≡ Function n c → getD ks (i + 1) 0 ≡ 40 → 1 + 5 * (length ks - i) ≡ t
@@ -94,11 +104,14 @@ module _ {ks us : List ℕ} {i p k : ℕ} {l u : List ℕ} {f : Face} (w : Ready
   function-enter e z m =
       let a = function-inside e in
       let x = w .room-kinds in
-      let y = w .room-args in
-      (omega arith, (z, record { even = w .even; within = omega arith; room-kinds = omega arith; room-args = omega arith }))
+      let y = w .room-args in (
+        omega arith,
+        (z, record { even = w .even; within = omega arith; room-kinds = omega arith; room-args = omega arith }),
+      )
 
   pub factor-function : {d n c : ℕ} {r : Part} {l₁ u₁ : List ℕ} → f ≡ Function n c → getD ks (i + 1) 0 ≡ 40
-      → ((o : Opening) → wantOf o ≡ n → kindOpening o ≡ c → Parses ks us (opened o) d (i + 1) p l u r l₁ u₁) → Parses ks us factor d i p l u r l₁ u₁
+      → ((o : Opening) → wantOf o ≡ n → kindOpening o ≡ c → Parses ks us (opened o) d (i + 1) p l u r l₁ u₁)
+      → Parses ks us factor d i p l u r l₁ u₁
   factor-function {d} e z g =
       let h = as-shown k (getD us i 0) (sym e ∙ ef (getD us i 0)) in
       record {
@@ -106,19 +119,23 @@ module _ {ks us : List ℕ} {i p k : ℕ} {l u : List ℕ} {f : Face} (w : Ready
             (meets-rest (meets-mark (stop 18) 40 (w .even) (omega arith) z (g (h .0) (h .2) (h .3) .meets)));
       }
 
-  pub factor-shut : {d n c : ℕ} → f ≡ Function n c → (getD ks (i + 1) 0 ≡ 40 → ⊥) → Parses ks us factor d i p l u (stopped 18 (i + 1)) l u
+  pub factor-shut : {d n c : ℕ} → f ≡ Function n c → (getD ks (i + 1) 0 ≡ 40 → ⊥)
+      → Parses ks us factor d i p l u (stopped 18 (i + 1)) l u
   factor-shut {d} e z =
       let a = function-inside e in
       let h = as-shown k (getD us i 0) (sym e ∙ ef (getD us i 0)) in
       record {
         meets = meets-by (reads factor d) (by-shape d (h .1))
-            (meets-rest (meets-else (reads (opened (h .0)) d) 40 (w .even) (omega arith) z (meets-stop (w .even) (omega arith) 18)));
+            (meets-rest
+            (meets-else (reads (opened (h .0)) d) 40 (w .even) (omega arith) z
+            (meets-stop (w .even) (omega arith) 18)));
       }
 
   pub factor-none : {d : ℕ} → f ≡ Nothing → Parses ks us factor d i p l u (stopped 18 i) l u
   factor-none {d} e =
       record {
-        meets = meets-by (reads factor d) (by-shape d (as-shown k (getD us i 0) (sym e ∙ ef (getD us i 0)))) (meets-stop (w .even) (w .within) 18);
+        meets = meets-by (reads factor d) (by-shape d (as-shown k (getD us i 0) (sym e ∙ ef (getD us i 0))))
+            (meets-stop (w .even) (w .within) 18);
       }
 
 -- ---- an opening
@@ -128,7 +145,11 @@ module _ {ks us : List ℕ} {i p : ℕ} {l u : List ℕ} (w : (getD ks i 0 ≡ 4
   pub opened-deep : {d : ℕ} → d ≡ 0 → (o : Opening) → Parses ks us (opened o) d i p l u (stopped 19 i) l u
   opened-deep z o =
       let row = heldRow ks us in
-      rw z (record { meets = meets-by (reads (opened o) 0) (reads-deep (drop i row) o) (meets-stop (w .1 .even) (w .1 .within) 19) })
+      rw z
+      (record {
+        meets = meets-by (reads (opened o) 0) (reads-deep (drop i row) o)
+            (meets-stop (w .1 .even) (w .1 .within) 19);
+      })
 
   -- the mark is there
   pub opened-inside : i < length ks
@@ -138,14 +159,18 @@ module _ {ks us : List ℕ} {i p : ℕ} {l u : List ℕ} (w : (getD ks i 0 ≡ 4
   opened-enter m =
       let a = opened-inside in
       let x = w .1 .room-kinds in
-      let y = w .1 .room-args in
-      (omega arith, record { even = w .1 .even; within = omega arith; room-kinds = omega arith; room-args = omega arith })
+      let y = w .1 .room-args in (
+        omega arith,
+        record { even = w .1 .even; within = omega arith; room-kinds = omega arith; room-args = omega arith },
+      )
 
-  pub opened-on : {d : ℕ} {r : Part} {l₁ u₁ : List ℕ} → (d ≡ 0 → ⊥) → (o : Opening) → Parses ks us (list o) (d - 1) (i + 1) p l u r l₁ u₁
+  pub opened-on : {d : ℕ} {r : Part} {l₁ u₁ : List ℕ} → (d ≡ 0 → ⊥) → (o : Opening)
+      → Parses ks us (list o) (d - 1) (i + 1) p l u r l₁ u₁
       → Parses ks us (opened o) d i p l u r l₁ u₁
   opened-on {d} z o h =
       let row = heldRow ks us in
-      let there : next (drop i row) ≡ mark 40 = token-at ks us i (w .1 .even) ∙ ap (λ (k : ℕ). symbolOf k (getD us i 0)) (w .0) in
+      let there : next (drop i row) ≡ mark 40 =
+      token-at ks us i (w .1 .even) ∙ ap (λ (k : ℕ). symbolOf k (getD us i 0)) (w .0) in
       let n : d ≡ suc (d - 1) = omega arith in
       let same = ap (λ (k : ℕ). reads (opened o) k (drop i row)) n ∙ reads-opened (d - 1) (drop i row) o there in
       record { meets = meets-by (reads (opened o) d) same (meets-rest (h .meets)) }
@@ -188,28 +213,42 @@ one-draft (triple-of-two n a b) h = refl
 
 -- what follows an expression
 abbrev list-then : ℕ → Opening → Tree → List Symbol → Res Tree
-list-then d o e t = byGiven (give-to o e) (λ x. need 41 t λ u. tell (openDrafts o) (give x u)) (λ q. need 44 t (reads (list q) d))
+list-then d o e t =
+    byGiven (give-to o e) (λ x. need 41 t λ u. tell (openDrafts o) (give x u)) (λ q. need 44 t (reads (list q) d))
 
 module _ {ks us : List ℕ} {d i p : ℕ} {l u : List ℕ} where
   list-stopped : {r : Part} {l₁ u₁ : List ℕ} → (r .code ≡ 0 → ⊥) → Parses ks us expr d i p l u r l₁ u₁
       → (o : Opening) → Parses ks us (list o) d i p l u r l₁ u₁
-  list-stopped e h o = record { meets = meets-by (reads (list o) d) (reads-list d (drop i (heldRow ks us)) o) (stops (list-then d o) e h) }
+  list-stopped e h o =
+      record {
+        meets = meets-by (reads (list o) d) (reads-list d (drop i (heldRow ks us)) o)
+            (stops (list-then d o) e h);
+      }
 
-  module _ {j q : ℕ} {r : Part} {l₁ u₁ : List ℕ} (w : Ready ks us i p l u) (e : r ≡ passed j q) (h : Parses ks us expr d i p l u r l₁ u₁) where
-    list-passed : {r : Part} {l₂ u₂ : List ℕ} (o : Opening) → ((x : Tree) → Meets ks us (list-then d o x) j q l₁ u₁ r l₂ u₂)
+  module _ {j q : ℕ} {r : Part} {l₁ u₁ : List ℕ} (w : Ready ks us i p l u) (e : r ≡ passed j q)
+      (h : Parses ks us expr d i p l u r l₁ u₁) where
+    list-passed : {r : Part} {l₂ u₂ : List ℕ} (o : Opening)
+        → ((x : Tree) → Meets ks us (list-then d o x) j q l₁ u₁ r l₂ u₂)
         → Parses ks us (list o) d i p l u r l₂ u₂
-    list-passed o g = record { meets = meets-by (reads (list o) d) (reads-list d (drop i (heldRow ks us)) o) (goes-on (list-then d o) w e h g) }
+    list-passed o g =
+        record {
+          meets = meets-by (reads (list o) d) (reads-list d (drop i (heldRow ks us)) o)
+              (goes-on (list-then d o) w e h g);
+        }
 
     -- by what the opening makes of the expression
     by-given : {r : Part} {l₂ u₂ : List ℕ} (o : Opening)
-        → ((x : Tree) → wantOf o ≡ 1 → Meets ks us (λ t. need 41 t λ u. tell (openDrafts o) (give x u)) j q l₁ u₁ r l₂ u₂)
+        → ((x : Tree) → wantOf o ≡ 1 → Meets ks us
+        (λ t. need 41 t λ u. tell (openDrafts o) (give x u)) j q l₁ u₁ r l₂ u₂)
         → ((b : Opening) → wantOf o ≡ suc (wantOf b) → 0 < wantOf b → kindOpening b ≡ kindOpening o
         → Meets ks us (λ t. need 44 t (reads (list b) d)) j q l₁ u₁ r l₂ u₂)
         → Parses ks us (list o) d i p l u r l₂ u₂
     by-given {r} {l₂} {u₂} o f g = list-passed o λ x. go (give-to o x) (taken o x)
       where
         go : (v : Given) → Taken o v
-            → Meets ks us (λ t. byGiven v (λ x. need 41 t λ u. tell (openDrafts o) (give x u)) (λ q. need 44 t (reads (list q) d))) j q l₁ u₁ r l₂ u₂
+            → Meets ks us
+            (λ t. byGiven v (λ x. need 41 t λ u. tell (openDrafts o) (give x u)) (λ q. need 44 t (reads (list q) d))) j
+            q l₁ u₁ r l₂ u₂
         go (whole x) z = f x z
         go (wants b) z = g b (z .0) (z .1) (z .2)
 
@@ -221,7 +260,8 @@ module _ {ks us : List ℕ} {d i p : ℕ} {l u : List ℕ} where
           let a = after w e h in
           by-given o
           (λ x v. let m = em ∙ rw (le-leb n 1 (omega arith)) in
-          meets-shut (λ u. tell (openDrafts o) (give x u)) 41 (w .even) (a .inside) (omega arith) λ y. z (ek ∙ y ∙ sym m))
+          meets-shut (λ u. tell (openDrafts o) (give x u)) 41 (w .even) (a .inside) (omega arith) λ y. z
+          (ek ∙ y ∙ sym m))
           λ b v g f. let m = em ∙ rw (lt-leb n 1 (omega arith)) in
           meets-shut (reads (list b) d) 44 (w .even) (a .inside) (omega arith) λ y. z (ek ∙ y ∙ sym m)
 
@@ -235,12 +275,18 @@ module _ {ks us : List ℕ} {d i p : ℕ} {l u : List ℕ} where
             go false v = omega arith
 
         -- a comma: the next one
-        list-enter : {t : ℕ} → 4 + 5 * (length ks - i) ≡ t → (4 + 5 * (length ks - (j + 1)) < t) × Ready ks us (j + 1) q l₁ u₁
+        list-enter : {t : ℕ} → 4 + 5 * (length ks - i) ≡ t
+            → (4 + 5 * (length ks - (j + 1)) < t) × Ready ks us (j + 1) q l₁ u₁
         list-enter v =
             let a = after w e h in
             let b = closer-inside in (
               omega arith,
-              record { even = w .even; within = omega arith; room-kinds = omega (arith, w .room-kinds); room-args = omega (arith, w .room-args) },
+              record {
+                even = w .even;
+                within = omega arith;
+                room-kinds = omega (arith, w .room-kinds);
+                room-args = omega (arith, w .room-args);
+              },
             )
 
         list-more : {c : ℕ} {r : Part} {l₂ u₂ : List ℕ} → 1 < n
@@ -248,52 +294,62 @@ module _ {ks us : List ℕ} {d i p : ℕ} {l u : List ℕ} where
             → (o : Opening) → wantOf o ≡ n → kindOpening o ≡ c → Parses ks us (list o) d i p l u r l₂ u₂
         list-more lt g o ew ec =
             by-given o (λ x v. absurd (omega arith))
-            λ b v s f. meets-need 44 (w .even) (omega arith) (sym ek ∙ z ∙ em ∙ rw (lt-leb n 1 lt)) (g b (omega arith) (f ∙ ec) .meets)
+            λ b v s f. meets-need 44 (w .even) (omega arith) (sym ek ∙ z ∙ em ∙ rw (lt-leb n 1 lt))
+            (g b (omega arith) (f ∙ ec) .meets)
 
         -- the closing parenthesis, and the opening's draft
         list-room : (q < length l₁) × (q < length u₁)
-        list-room = let a = after w e h in let b = closer-inside in (omega (arith, w .room-kinds), omega (arith, w .room-args))
+        list-room =
+            let a = after w e h in let b = closer-inside in (omega (arith, w .room-kinds), omega (arith, w .room-args))
 
         list-under : q < length l
         list-under = let a = list-room in let b = after w e h in omega arith
 
         closed : {r : Part} {l₂ u₂ : List ℕ} → n ≤ 1 → (o : Opening) → wantOf o ≡ n
-            → ((x : Tree) → Meets ks us (λ u. tell (openDrafts o) (give x u)) (j + 1) q l₁ u₁ r l₂ u₂) → Parses ks us (list o) d i p l u r l₂ u₂
+            → ((x : Tree) → Meets ks us (λ u. tell (openDrafts o) (give x u)) (j + 1) q l₁ u₁ r l₂ u₂)
+            → Parses ks us (list o) d i p l u r l₂ u₂
         closed le o ew g =
-            by-given o (λ x v. meets-need 41 (w .even) (omega arith) (sym ek ∙ z ∙ em ∙ rw (le-leb n 1 le)) (g x)) λ b v s f. absurd (omega arith)
+            by-given o (λ x v. meets-need 41 (w .even) (omega arith) (sym ek ∙ z ∙ em ∙ rw (le-leb n 1 le)) (g x)) λ b v
+            s f. absurd (omega arith)
 
         list-bare : {c : ℕ} → n ≤ 1 → c ≡ 0 → (o : Opening) → wantOf o ≡ n → kindOpening o ≡ c
             → Parses ks us (list o) d i p l u (passed (j + 1) q) l₁ u₁
         list-bare le v o ew ec =
             let b = closer-inside in
             closed le o ew λ x. meets-by (λ u. tell (openDrafts o) (give x u))
-            (ap (λ is. tell is (give x (drop (j + 1) (heldRow ks us)))) (no-draft o (ec ∙ v))) (meets-give (w .even) (omega arith) x)
+            (ap (λ is. tell is (give x (drop (j + 1) (heldRow ks us)))) (no-draft o (ec ∙ v)))
+            (meets-give (w .even) (omega arith) x)
 
         list-last : {c : ℕ} {l₂ u₂ : List ℕ} → n ≤ 1 → (c ≡ 0 → ⊥) → l₂ ≡ set l₁ q c → u₂ ≡ set u₁ q 0
-            → (o : Opening) → wantOf o ≡ n → kindOpening o ≡ c → Parses ks us (list o) d i p l u (passed (j + 1) (q + 1)) l₂ u₂
+            → (o : Opening) → wantOf o ≡ n → kindOpening o ≡ c
+            → Parses ks us (list o) d i p l u (passed (j + 1) (q + 1)) l₂ u₂
         list-last {c} le v f g o ew ec =
             let b = closer-inside in
             let s : openDrafts o ≡ draft c 0 ∷ [] = one-draft o (λ y. v (sym ec ∙ y)) ∙ rw ec in
             closed le o ew λ x. meets-by (λ u. tell (openDrafts o) (give x u))
-            (ap (λ is. tell is (give x (drop (j + 1) (heldRow ks us)))) s) (meets-tell c 0 f g (meets-give (w .even) (omega arith) x))
+            (ap (λ is. tell is (give x (drop (j + 1) (heldRow ks us)))) s)
+            (meets-tell c 0 f g (meets-give (w .even) (omega arith) x))
 
 -- ---- a list on its way
 
--- Of n expressions, wanted from token i and draft p on with the draft c behind them, m are still to be read, from token j on. What these give,
--- all give.
+-- Of n expressions, wanted from token i and draft p on with the draft c behind them, m are still to be read, from token
+-- j on. What these give, all give.
 pub record GoingList (ks us : List ℕ) (d i p : ℕ) (l u : List ℕ) (n c j m q : ℕ) (l₁ u₁ : List ℕ) : Type 0 where
   pub on : i ≤ j
   pub long-kinds : length l₁ ≡ length l
   pub long-args : length u₁ ≡ length u
   pub ready : Ready ks us j q l₁ u₁
-  pub all : {r : Part} {l₂ u₂ : List ℕ} → ((b : Opening) → wantOf b ≡ m → kindOpening b ≡ c → Parses ks us (list b) d j q l₁ u₁ r l₂ u₂)
+  pub all : {r : Part} {l₂ u₂ : List ℕ}
+      → ((b : Opening) → wantOf b ≡ m → kindOpening b ≡ c → Parses ks us (list b) d j q l₁ u₁ r l₂ u₂)
       → (o : Opening) → wantOf o ≡ n → kindOpening o ≡ c → Parses ks us (list o) d i p l u r l₂ u₂
 
 -- at first all are
-pub list-first : {ks us : List ℕ} {d i p : ℕ} {l u : List ℕ} (n c : ℕ) → Ready ks us i p l u → GoingList ks us d i p l u n c i n p l u
+pub list-first : {ks us : List ℕ} {d i p : ℕ} {l u : List ℕ} (n c : ℕ) → Ready ks us i p l u
+    → GoingList ks us d i p l u n c i n p l u
 list-first n c w = record { on = omega arith; long-kinds = refl; long-args = refl; ready = w; all = λ g. g }
 
-module _ {ks us : List ℕ} {d i p : ℕ} {l u : List ℕ} {n c j m q : ℕ} {l₁ u₁ : List ℕ} (z : GoingList ks us d i p l u n c j m q l₁ u₁) where
+module _ {ks us : List ℕ} {d i p : ℕ} {l u : List ℕ} {n c j m q : ℕ} {l₁ u₁ : List ℕ}
+    (z : GoingList ks us d i p l u n c j m q l₁ u₁) where
   -- the next expression can be called; t is the measure of the list
   pub item-enter : {t : ℕ} → 4 + 5 * (length ks - i) ≡ t → (3 + 5 * (length ks - j) < t) × Ready ks us j q l₁ u₁
   item-enter h = let a = z .on in (omega arith, z .ready)
@@ -304,9 +360,11 @@ module _ {ks us : List ℕ} {d i p : ℕ} {l u : List ℕ} {n c j m q : ℕ} {l�
   item-stopped e h = z .all λ b _ _. list-stopped e h b
 
   -- the kind k stands behind it, and s should
-  module _ {j₁ q₁ : ℕ} {r : Part} {l₂ u₂ : List ℕ} (e : r ≡ passed j₁ q₁) (h : Parses ks us expr d j q l₁ u₁ r l₂ u₂) {k s : ℕ}
+  module _ {j₁ q₁ : ℕ} {r : Part} {l₂ u₂ : List ℕ} (e : r ≡ passed j₁ q₁)
+      (h : Parses ks us expr d j q l₁ u₁ r l₂ u₂) {k s : ℕ}
       (ek : k ≡ getD ks j₁ 0) (es : s ≡ closerOf m) where
-    pub item-shut : (k ≡ s → ⊥) → (o : Opening) → wantOf o ≡ n → kindOpening o ≡ c → Parses ks us (list o) d i p l u (stopped 18 j₁) l₂ u₂
+    pub item-shut : (k ≡ s → ⊥) → (o : Opening) → wantOf o ≡ n → kindOpening o ≡ c
+        → Parses ks us (list o) d i p l u (stopped 18 j₁) l₂ u₂
     item-shut y = z .all λ b v _. list-shut (z .ready) e h m ek es y b v
 
     module _ (y : k ≡ s) where
@@ -336,9 +394,11 @@ module _ {ks us : List ℕ} {d i p : ℕ} {l u : List ℕ} {n c j m q : ℕ} {l�
           }
 
       -- the closing parenthesis
-      pub item-bare : m ≤ 1 → c ≡ 0 → (o : Opening) → wantOf o ≡ n → kindOpening o ≡ c → Parses ks us (list o) d i p l u (passed (j₁ + 1) q₁) l₂ u₂
+      pub item-bare : m ≤ 1 → c ≡ 0 → (o : Opening) → wantOf o ≡ n → kindOpening o ≡ c
+          → Parses ks us (list o) d i p l u (passed (j₁ + 1) q₁) l₂ u₂
       item-bare le v = z .all (list-bare (z .ready) e h m ek es y le v)
 
       pub item-last : {l₃ u₃ : List ℕ} → m ≤ 1 → (c ≡ 0 → ⊥) → l₃ ≡ set l₂ q₁ c → u₃ ≡ set u₂ q₁ 0
-          → (o : Opening) → wantOf o ≡ n → kindOpening o ≡ c → Parses ks us (list o) d i p l u (passed (j₁ + 1) (q₁ + 1)) l₃ u₃
+          → (o : Opening) → wantOf o ≡ n → kindOpening o ≡ c
+          → Parses ks us (list o) d i p l u (passed (j₁ + 1) (q₁ + 1)) l₃ u₃
       item-last le v f g = z .all (list-last (z .ready) e h m ek es y le v f g)

@@ -10,19 +10,22 @@ use Rattle.drafts.specs.Tree.{Constant, constantOf, plain, from, Says, constant
 use Rattle.drafts.specs.Drafts.{draft, constantDrafts, initialDraft}
 use Rattle.grammar.specs.Look.{next, rest, Op, addOp, Start, Constants, Integral, Named, Valued, Other, startOf}
 use Rattle.grammar.specs.Grammar.{expr}
-use Rattle.grammar.specs.Parser.{got, Res, give, stop, tell, bind, byStart, byName, byNumber, byIntegral, need, behindSign, parse}
+use Rattle.grammar.specs.Parser.{got, Res, give, stop, tell, bind, byStart, byName, byNumber, byIntegral, need}
+use Rattle.grammar.specs.Parser.{behindSign, parse}
 use Rattle.grammar.specs.Parser.{signedValue, aNumber, signedNumber, onMore, valued, many, initially}
 use Rattle.grammar.specs.Parser.{assigned, rated, started, integrated, equated, statement, ended, entire}
 use Rattle.grammar.proofs.Endings.{Asked, Before, Out, OutEnd, here-mark}
 use Rattle.grammar.proofs.Looks.{add-here, start-cases}
 use Rattle.grammar.proofs.Whole.{signed-out, initially-out}
 use Rattle.grammar.proofs.Enough.{bind-cong, mark-cong, need-cong, shorter, rest-le, enough}
-use Rattle.grammar.proofs.Local.{Reading, Loc, loc-bind, loc-seen, loc-rest, loc-tell, loc-give, loc-stop, loc-mark, loc-need, loc-behind, local}
+use Rattle.grammar.proofs.Local.{Reading, Loc, loc-bind, loc-seen, loc-rest, loc-tell, loc-give, loc-stop}
+use Rattle.grammar.proofs.Local.{loc-mark, loc-need, loc-behind, local}
 
 -- ---- calls
 
 -- what is left is no longer
-out-left : {A : Type 0} {L : Asked A} {F : Before} (s : List Symbol) (x : Res A) → Out L F s x → (e : A) (t : List Symbol) → x .end ≡ got e t
+out-left : {A : Type 0} {L : Asked A} {F : Before} (s : List Symbol) (x : Res A) → Out L F s x
+    → (e : A) (t : List Symbol) → x .end ≡ got e t
     → length t ≤ length s
 out-left {A} {L} {F} s x o e t h =
     let r : OutEnd L F s (x .out) (got e t) = rw h at (o .ends) in
@@ -32,7 +35,8 @@ out-left {A} {L} {F} s x o e t h =
 -- readings that differ in what they call are the same where their calls are
 module _ {A : Type 0} where
   -- by what stands next
-  start-cong : (p : Start) (c c′ i i′ : Unit {0} → Res A) (k k′ : ℕ → Res A) (v v′ : Float → Res A) (z z′ : Unit {0} → Res A)
+  start-cong : (p : Start) (c c′ i i′ : Unit {0} → Res A) (k k′ : ℕ → Res A) (v v′ : Float → Res A)
+      (z z′ : Unit {0} → Res A)
       → c tt ≡ c′ tt → i tt ≡ i′ tt → ((n : ℕ) → k n ≡ k′ n) → ((x : Float) → v x ≡ v′ x) → z tt ≡ z′ tt
       → byStart p c i k v z ≡ byStart p c′ i′ k′ v′ z′
   start-cong Constants c c′ i i′ k k′ v v′ z z′ p q r s t = p
@@ -59,19 +63,22 @@ many-enough (suc f) (suc f′) s b b′ =
 
 module _ (f f′ d k : ℕ) where
   -- an expression behind name =
-  assigned-enough : (s : List Symbol) → 3 + 5 * length s < f → 3 + 5 * length s < f′ → assigned f d k s ≡ assigned f′ d k s
+  assigned-enough : (s : List Symbol) → 3 + 5 * length s < f → 3 + 5 * length s < f′
+      → assigned f d k s ≡ assigned f′ d k s
   unfolding assigned
   assigned-enough s b b′ = bind-cong (parse f expr d s) _ _ _ (enough f f′ expr d s tt b b′) λ e t h. refl
 
   -- behind name = INTGRL
-  integrated-enough : (s : List Symbol) → 3 + 5 * length s < f → 3 + 5 * length s < f′ → integrated f d k s ≡ integrated f′ d k s
+  integrated-enough : (s : List Symbol) → 3 + 5 * length s < f → 3 + 5 * length s < f′
+      → integrated f d k s ≡ integrated f′ d k s
   unfolding integrated
   integrated-enough s b b′ =
       need-cong 39 s (started f d k) (started f′ d k) λ l.
       bind-cong (initially (rest s)) _ _ _ refl λ i t h.
       let n = out-left (rest s) _ (initially-out 0 (rest s)) i t h in
       ap (tell (draft 2 k ∷ initialDraft i ∷ [])) (need-cong 43 t (rated f d k i) (rated f′ d k i) λ m.
-      bind-cong (parse f expr d (rest t)) _ _ _ (enough f f′ expr d (rest t) tt (omega arith) (omega arith)) λ e u h. refl)
+      bind-cong (parse f expr d (rest t)) _ _ _ (enough f f′ expr d (rest t) tt (omega arith) (omega arith)) λ e u h.
+      refl)
 
   -- behind name =
   equated-enough : (s : List Symbol) → 3 + 5 * length s < f → 3 + 5 * length s < f′ → equated f d k s ≡ equated f′ d k s
@@ -82,18 +89,21 @@ module _ (f f′ d k : ℕ) where
       plainly (integrated-enough (rest s) (omega arith) (omega arith)) (λ _. plainly) (λ _. plainly) plainly
 
 -- a statement at the front
-statement-enough : (f f′ d : ℕ) (s : List Symbol) → 3 + 5 * length s < f → 3 + 5 * length s < f′ → statement f d s ≡ statement f′ d s
+statement-enough : (f f′ d : ℕ) (s : List Symbol) → 3 + 5 * length s < f → 3 + 5 * length s < f′
+    → statement f d s ≡ statement f′ d s
 unfolding statement
 statement-enough f f′ d s b b′ =
     let r = rest-le s in
     start-cong (startOf (next s)) _ _ _ _ _ _ _ _ _ _
     (bind-cong (many f (rest s)) _ _ _ (many-enough f f′ (rest s) (omega arith) (omega arith)) λ e t h. refl)
     refl
-    (λ k. need-cong 60 (rest s) (equated f d k) (equated f′ d k) λ l. equated-enough f f′ d k (rest (rest s)) (omega arith) (omega arith))
+    (λ k. need-cong 60 (rest s) (equated f d k) (equated f′ d k) λ l. equated-enough f f′ d k (rest (rest s))
+    (omega arith) (omega arith))
     (λ x. refl) refl
 
 -- any two counts of calls that suffice read a row alike
-pub entire-enough : (f f′ d : ℕ) (s : List Symbol) → 3 + 5 * length s < f → 3 + 5 * length s < f′ → entire f d s ≡ entire f′ d s
+pub entire-enough : (f f′ d : ℕ) (s : List Symbol) → 3 + 5 * length s < f → 3 + 5 * length s < f′
+    → entire f d s ≡ entire f′ d s
 unfolding entire
 entire-enough f f′ d s b b′ = bind-cong (statement f d s) _ ended ended (statement-enough f f′ d s b b′) λ e t h. refl
 
@@ -112,7 +122,8 @@ loc-start d s G c i k v z = loc-seen d s startOf G (start-cases s (λ p. Loc d s
 number-loc : (d : ℕ) (o : Op) (s : List Symbol) → Loc d s (λ _. aNumber o)
 number-loc d o s =
     let no = loc-stop d s 18 in
-    loc-start d s (λ p _ u. byNumber p (λ x. give (signedValue o x) (rest u)) (λ _. stop 18 u)) (λ _. no) (λ _. no) (λ _ _. no)
+    loc-start d s (λ p _ u. byNumber p (λ x. give (signedValue o x) (rest u)) (λ _. stop 18 u)) (λ _. no) (λ _. no)
+    (λ _ _. no)
     (λ x q. loc-rest d s (λ _. give (signedValue o x)) q (loc-give d (rest s) _)) no
 
 -- with a sign or without
@@ -140,17 +151,21 @@ many-loc (suc f) d s =
     loc-start d s (λ p _ u. byName p (λ k. need 61 (rest u) (valued (many f) k)) (λ _. stop 18 u)) (λ _. no) (λ _. no)
     (λ k q. loc-rest d s (λ _ u. need 61 u (valued (many f) k)) q
     (loc-need d (rest s) 60 (λ _. valued (many f) k) λ m.
-    loc-bind d (rest (rest s)) (λ _. signedNumber) (λ _ x t. tell (constantDrafts (constantOf k x)) (onMore (many f) (constantOf k x) t))
+    loc-bind d (rest (rest s)) (λ _. signedNumber)
+    (λ _ x t. tell (constantDrafts (constantOf k x)) (onMore (many f) (constantOf k x) t))
     (signed-loc d (rest (rest s)))
-    λ x t. loc-tell d t (constantDrafts (constantOf k x)) (λ _. onMore (many f) (constantOf k x)) (more-loc d (many f) (constantOf k x) (many-loc f d) t)))
+    λ x t. loc-tell d t (constantDrafts (constantOf k x)) (λ _. onMore (many f) (constantOf k x))
+    (more-loc d (many f) (constantOf k x) (many-loc f d) t)))
     (λ _ _. no) no
 
 -- an initial
 initially-loc : (d : ℕ) (s : List Symbol) → Loc d s (λ _. initially)
 unfolding initially
 initially-loc d s =
-    let given = loc-bind d s (λ _. signedNumber) (λ _ x t. give (plain x) t) (signed-loc d s) λ x t. loc-give d t (plain x) in
-    loc-start d s (λ p _ u. byName p (λ k. give (from k) (rest u)) (λ _. bind (signedNumber u) λ x t. give (plain x) t)) (λ _. given) (λ _. given)
+    let given =
+    loc-bind d s (λ _. signedNumber) (λ _ x t. give (plain x) t) (signed-loc d s) λ x t. loc-give d t (plain x) in
+    loc-start d s (λ p _ u. byName p (λ k. give (from k) (rest u)) (λ _. bind (signedNumber u) λ x t. give (plain x) t))
+    (λ _. given) (λ _. given)
     (λ k q. loc-rest d s (λ _. give (from k)) q (loc-give d (rest s) (from k))) (λ _ _. given) given
 
 module _ (f d k : ℕ) where
@@ -166,11 +181,13 @@ module _ (f d k : ℕ) where
   unfolding integrated
   integrated-loc s =
       loc-need d s 39 (λ d′. started f d′ k) λ m.
-      loc-bind d (rest s) (λ _. initially) (λ d′ i t. tell (draft 2 k ∷ initialDraft i ∷ []) (need 44 t (rated f d′ k i)))
+      loc-bind d (rest s) (λ _. initially)
+      (λ d′ i t. tell (draft 2 k ∷ initialDraft i ∷ []) (need 44 t (rated f d′ k i)))
       (initially-loc d (rest s)) λ i t.
       loc-tell d t (draft 2 k ∷ initialDraft i ∷ []) (λ d′ u. need 44 u (rated f d′ k i))
       (loc-need d t 43 (λ d′. rated f d′ k i) λ m.
-      loc-bind d (rest t) (parse f expr) (λ _ e u. need 41 u λ v. tell (draft 14 k ∷ []) (give (state k i e) v)) (local f expr d (rest t) tt) λ e u.
+      loc-bind d (rest t) (parse f expr) (λ _ e u. need 41 u λ v. tell (draft 14 k ∷ []) (give (state k i e) v))
+      (local f expr d (rest t) tt) λ e u.
       loc-need d u 40 (λ _ v. tell (draft 14 k ∷ []) (give (state k i e) v)) λ m.
       loc-tell d (rest u) (draft 14 k ∷ []) (λ _. give (state k i e)) (loc-give d (rest u) (state k i e)))
 
@@ -179,7 +196,8 @@ module _ (f d k : ℕ) where
   equated-loc s =
       let plainly = assigned-loc s in
       loc-start d s (λ p d′ u. byIntegral p (λ _. integrated f d′ k (rest u)) (λ _. assigned f d′ k u)) (λ _. plainly)
-      (λ q. loc-rest d s (λ d′. integrated f d′ k) q (integrated-loc (rest s))) (λ _ _. plainly) (λ _ _. plainly) plainly
+      (λ q. loc-rest d s (λ d′. integrated f d′ k) q (integrated-loc (rest s))) (λ _ _. plainly)
+      (λ _ _. plainly) plainly
 
 -- a statement at the front
 statement-loc : (f d : ℕ) (s : List Symbol) → Loc d s (statement f)
@@ -187,10 +205,12 @@ unfolding statement
 statement-loc f d s =
     let no = loc-stop d s 18 in
     loc-start d s
-    (λ p d′ u. byStart p (λ _. bind (many f (rest u)) λ cs t. give (constants cs) t) (λ _. stop 18 u) (λ k. need 61 (rest u) (equated f d′ k))
+    (λ p d′ u. byStart p (λ _. bind (many f (rest u)) λ cs t. give (constants cs) t) (λ _. stop 18 u)
+    (λ k. need 61 (rest u) (equated f d′ k))
     (λ _. stop 18 u) (λ _. stop 18 u))
     (λ q. loc-rest d s (λ _ u. bind (many f u) λ cs t. give (constants cs) t) q
-    (loc-bind d (rest s) (λ _. many f) (λ _ cs t. give (constants cs) t) (many-loc f d (rest s)) λ cs t. loc-give d t (constants cs)))
+    (loc-bind d (rest s) (λ _. many f) (λ _ cs t. give (constants cs) t) (many-loc f d (rest s)) λ cs t. loc-give d t
+    (constants cs)))
     (λ _. no)
     (λ k q. loc-rest d s (λ d′ u. need 61 u (equated f d′ k)) q
     (loc-need d (rest s) 60 (λ d′. equated f d′ k) λ m. equated-loc f d k (rest (rest s))))
@@ -198,8 +218,10 @@ statement-loc f d s =
 
 -- the end, or one token too many
 ended-loc : (d : ℕ) (x : Says) (t : List Symbol) → Loc d t (λ _. ended x)
-ended-loc d x [] = record { ends = ([], refl, λ d′ u. elim u [ [] ↦ λ le like. refl | a ∷ v ↦ λ le like. absurd like ]) }
-ended-loc d x (a ∷ t) = record { ends = ([], refl, λ d′ u. elim u [ [] ↦ λ le n like. absurd like | b ∷ v ↦ λ le n like. refl ]) }
+ended-loc d x [] =
+    record { ends = ([], refl, λ d′ u. elim u [ [] ↦ λ le like. refl | a ∷ v ↦ λ le like. absurd like ]) }
+ended-loc d x (a ∷ t) =
+    record { ends = ([], refl, λ d′ u. elim u [ [] ↦ λ le n like. absurd like | b ∷ v ↦ λ le n like. refl ]) }
 
 -- a row, read as a statement with nothing behind it
 pub entire-loc : (f d : ℕ) (s : List Symbol) → Loc d s (entire f)

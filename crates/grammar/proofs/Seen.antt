@@ -24,7 +24,8 @@ use Rattle.grammar.specs.Codes.{leafKind, leafArg, faceOf}
 use Rattle.grammar.proofs.Clauses.{next-at}
 
 -- the token at place i
-pub token-at : (ks us : List ℕ) (i : ℕ) → length us ≡ length ks → next (drop i (heldRow ks us)) ≡ symbolOf (getD ks i 0) (getD us i 0)
+pub token-at : (ks us : List ℕ) (i : ℕ) → length us ≡ length ks
+    → next (drop i (heldRow ks us)) ≡ symbolOf (getD ks i 0) (getD us i 0)
 token-at ks us i h = next-at (heldRow ks us) i ∙ held-at ks us i h
 
 -- a kind that is not 0 stands before the end
@@ -32,7 +33,8 @@ pub stands : (ks : List ℕ) (i : ℕ) → (getD ks i 0 ≡ 0 → ⊥) → i < l
 stands ks i h = ⊎-elim (λ l. l) (λ g. absurd (h (List·getD-eq-default ks 0 g))) (lt-or-ge i (length ks))
 
 -- what holds of the eleven low kinds, and of those above, holds of each
-pub by-kind : (P : ℕ → Type 0) → P 0 → P 1 → P 2 → P 3 → P 4 → P 5 → P 6 → P 7 → P 8 → P 9 → P 10 → ((k : ℕ) → 10 < k → P k) → (k : ℕ) → P k
+pub by-kind : (P : ℕ → Type 0) → P 0 → P 1 → P 2 → P 3 → P 4 → P 5 → P 6 → P 7 → P 8 → P 9 → P 10
+    → ((k : ℕ) → 10 < k → P k) → (k : ℕ) → P k
 by-kind P a b c d e f g h i j l m zero = a
 by-kind P a b c d e f g h i j l m (suc zero) = b
 by-kind P a b c d e f g h i j l m (suc (suc zero)) = c
@@ -44,7 +46,8 @@ by-kind P a b c d e f g h i j l m (suc (suc (suc (suc (suc (suc (suc zero)))))))
 by-kind P a b c d e f g h i j l m (suc (suc (suc (suc (suc (suc (suc (suc zero)))))))) = i
 by-kind P a b c d e f g h i j l m (suc (suc (suc (suc (suc (suc (suc (suc (suc zero))))))))) = j
 by-kind P a b c d e f g h i j l m (suc (suc (suc (suc (suc (suc (suc (suc (suc (suc zero)))))))))) = l
-by-kind P a b c d e f g h i j l m (suc (suc (suc (suc (suc (suc (suc (suc (suc (suc (suc k))))))))))) = m _ (omega arith)
+by-kind P a b c d e f g h i j l m (suc (suc (suc (suc (suc (suc (suc (suc (suc (suc (suc k))))))))))) =
+    m _ (omega arith)
 
 -- above them stands the mark
 high : (k a : ℕ) → 10 < k → symbolOf k a ≡ mark k
@@ -54,8 +57,10 @@ high k a h = rw (lt-ltb 10 k h)
 pub mark-test : (k a b : ℕ) → 10 < b → eqb (byteOf (symbolOf k a)) b ≡ eqb k b
 unfolding byteOf
 mark-test k a b lt =
-    by-kind (λ k. eqb (byteOf (symbolOf k a)) b ≡ eqb k b) refl (low 1 (omega arith)) (low 2 (omega arith)) (low 3 (omega arith))
-    (low 4 (omega arith)) (low 5 (omega arith)) (low 6 (omega arith)) (low 7 (omega arith)) (low 8 (omega arith)) (low 9 (omega arith))
+    by-kind (λ k. eqb (byteOf (symbolOf k a)) b ≡ eqb k b) refl (low 1 (omega arith)) (low 2 (omega arith))
+    (low 3 (omega arith))
+    (low 4 (omega arith)) (low 5 (omega arith)) (low 6 (omega arith)) (low 7 (omega arith)) (low 8 (omega arith))
+    (low 9 (omega arith))
     (low 10 (omega arith)) (λ k h. rw (high k a h)) k
   where
     low : (n : ℕ) → n ≤ 10 → eqb 0 b ≡ eqb n b
@@ -79,14 +84,16 @@ Told a NoFactor = Unit {0}
 
 told : (k a : ℕ) → Told a (shapeOf (symbolOf k a))
 unfolding shapeOf drafted
-told k a = by-kind (λ k. Told a (shapeOf (symbolOf k a))) tt refl refl tt tt tt tt refl tt tt tt (λ k h. rw (high k a h) (go (eqb k 40))) k
+told k a = by-kind (λ k. Told a (shapeOf (symbolOf k a))) tt refl refl tt tt tt tt refl tt tt tt
+    (λ k h. rw (high k a h) (go (eqb k 40))) k
   where
     go : (t : Bool) → Told a (cond t Paren NoFactor)
     go true = tt
     go false = tt
 
 -- so it does where the shape is known
-pub leaf-told : (k a : ℕ) {e : Tree} → shapeOf (symbolOf k a) ≡ Leaf e → drafted e ≡ draft (leafKind e) (leafArg (leafKind e) a) ∷ []
+pub leaf-told : (k a : ℕ) {e : Tree} → shapeOf (symbolOf k a) ≡ Leaf e
+    → drafted e ≡ draft (leafKind e) (leafArg (leafKind e) a) ∷ []
 leaf-told k a q = subst (λ (h : Shape). Told a h) q (told k a)
 
 -- and of one that opens parentheses its kind
@@ -99,7 +106,8 @@ Faced k Nothing = Unit {0}
 faced : (k a : ℕ) → Faced k (faceOf (shapeOf (symbolOf k a)))
 unfolding shapeOf
 faced k a =
-    by-kind (λ k. Faced k (faceOf (shapeOf (symbolOf k a)))) tt (some 0) (some 1) tt tt tt tt (some 6) (some 7) (some 8) (some 9)
+    by-kind (λ k. Faced k (faceOf (shapeOf (symbolOf k a)))) tt (some 0) (some 1) tt tt tt tt (some 6) (some 7) (some 8)
+    (some 9)
     (λ k h. rw (high k a h) (go k (eqb k 40) refl)) k
   where
     some : (n : ℕ) → suc n ≡ 0 → ⊥
@@ -139,7 +147,8 @@ Started k a Other = Unit {0}
 started : (k a : ℕ) → Started k a (startOf (symbolOf k a))
 unfolding startOf
 started k a =
-    by-kind (λ k. Started k a (startOf (symbolOf k a))) tt (refl, refl) (refl, refl) (omega arith, omega arith) (omega arith, omega arith)
+    by-kind (λ k. Started k a (startOf (symbolOf k a))) tt (refl, refl) (refl, refl) (omega arith, omega arith)
+    (omega arith, omega arith)
     (omega arith, omega arith) refl tt tt tt tt (λ k h. rw (high k a h) tt) k
 
 -- a name, a number and INTGRL are known by their kinds
@@ -158,11 +167,13 @@ module _ {A : Type 0} (k a : ℕ) where
       go (Valued v) h = refl
       go Other h = refl
 
-  pub is-number : (x : Float → Res A) (y : Unit {0} → Res A) → k ≡ 1 → byNumber (startOf (symbolOf k a)) x y ≡ x (ofBits binary64 a)
+  pub is-number : (x : Float → Res A) (y : Unit {0} → Res A) → k ≡ 1
+      → byNumber (startOf (symbolOf k a)) x y ≡ x (ofBits binary64 a)
   unfolding startOf
   is-number x y e = rw e
 
-  pub no-number : (x : Float → Res A) (y : Unit {0} → Res A) → (k ≡ 1 → ⊥) → byNumber (startOf (symbolOf k a)) x y ≡ y tt
+  pub no-number : (x : Float → Res A) (y : Unit {0} → Res A) → (k ≡ 1 → ⊥)
+      → byNumber (startOf (symbolOf k a)) x y ≡ y tt
   no-number x y n = go (startOf (symbolOf k a)) (started k a)
     where
       go : (p : Start) → Started k a p → byNumber p x y ≡ y tt
@@ -194,11 +205,15 @@ start-name k a e = rw e
 pub start-words : (k a : ℕ) → 3 ≤ k → k ≤ 5 → startOf (symbolOf k a) ≡ Constants
 unfolding startOf
 start-words k a =
-    by-kind (λ k. 3 ≤ k → k ≤ 5 → startOf (symbolOf k a) ≡ Constants) (λ p q. absurd (omega arith)) (λ p q. absurd (omega arith))
-    (λ p q. absurd (omega arith)) (λ p q. refl) (λ p q. refl) (λ p q. refl) (λ p q. absurd (omega arith)) (λ p q. absurd (omega arith))
-    (λ p q. absurd (omega arith)) (λ p q. absurd (omega arith)) (λ p q. absurd (omega arith)) (λ k h p q. absurd (omega arith)) k
+    by-kind (λ k. 3 ≤ k → k ≤ 5 → startOf (symbolOf k a) ≡ Constants) (λ p q. absurd (omega arith))
+    (λ p q. absurd (omega arith))
+    (λ p q. absurd (omega arith)) (λ p q. refl) (λ p q. refl) (λ p q. refl) (λ p q. absurd (omega arith))
+    (λ p q. absurd (omega arith))
+    (λ p q. absurd (omega arith)) (λ p q. absurd (omega arith)) (λ p q. absurd (omega arith))
+    (λ k h p q. absurd (omega arith)) k
 
-pub start-none : {A : Type 0} (k a : ℕ) (c : Unit {0} → Res A) (n : ℕ → Res A) (z : Res A) → (k ≡ 2 → ⊥) → (3 ≤ k → k ≤ 5 → ⊥)
+pub start-none : {A : Type 0} (k a : ℕ) (c : Unit {0} → Res A) (n : ℕ → Res A) (z : Res A) → (k ≡ 2 → ⊥)
+    → (3 ≤ k → k ≤ 5 → ⊥)
     → byStart (startOf (symbolOf k a)) c (λ _. z) n (λ _. z) (λ _. z) ≡ z
 start-none k a c n z p q = go (startOf (symbolOf k a)) (started k a)
   where

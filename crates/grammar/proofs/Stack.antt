@@ -1,4 +1,5 @@
--- How many values stand at once while a tree's postfix runs: with d levels at most 3 + 4 · d, so the stack's places suffice; and one row fills them.
+-- How many values stand at once while a tree's postfix runs: with d levels at most 3 + 4 · d, so the stack's places
+-- suffice; and one row fills them.
 use Prim.Native.Nat.{ℕ, zero, suc, _+_, _*_, _≤_, max}
 use mathlib.Core.Path.{_≡_, refl, subst}
 use mathlib.Core.List.{List, [], _∷_, _++_}
@@ -8,9 +9,11 @@ use Rattle.tokens.specs.Symbol.{INSW, Symbol, mark, number, name, word}
 use Rattle.drafts.specs.Tree.{Two, plus, minus, times, over, compar, Tree, value, named, time, negated, two, three}
 use Rattle.drafts.specs.Tree.{Says, constants, assignment, state}
 use Rattle.grammar.specs.Look.{next, rest, byteOf, op, signed, shapeOf, startOf}
-use Rattle.grammar.specs.Look.{Opening, group, pair, pair-of, triple, triple-of, triple-of-two, Given, whole, wants, give-to}
+use Rattle.grammar.specs.Look.{Opening, group, pair, pair-of, triple, triple-of, triple-of-two, Given, whole}
+use Rattle.grammar.specs.Look.{wants, give-to}
 use Rattle.grammar.specs.Grammar.{Mode, expr, term, factor, terms, factors, opened, list}
-use Rattle.grammar.specs.Grammar.{Der, unsigned, sign, no-terms, add, a-term, no-factors, mul, a-leaf, grouped, called, opening, last, comma}
+use Rattle.grammar.specs.Grammar.{Der, unsigned, sign, no-terms, add, a-term, no-factors, mul, a-leaf, grouped}
+use Rattle.grammar.specs.Grammar.{called, opening, last, comma}
 use Rattle.grammar.specs.Grammar.{Derives, of-constants, of-assignment, of-state}
 use Rattle.grammar.specs.Parser.{Read, read, fault, bind, parse, assigned, statement, entire, readRow}
 use Rattle.grammar.proofs.Looks.{Bare, bare-value, bare-name, bare-time, New, new-pair, new-triple, as-shaped}
@@ -137,7 +140,8 @@ suffices a = let h = stack-of a in omega arith
 unfoldable pub nested : ℕ → List Symbol
 nested zero = number nought ∷ mark 43 ∷ number nought ∷ mark 42 ∷ number nought ∷ []
 nested (suc n) =
-    number nought ∷ mark 43 ∷ number nought ∷ mark 42 ∷ word INSW ∷ mark 40 ∷ number nought ∷ mark 44 ∷ number nought ∷ mark 44
+    number nought ∷ mark 43 ∷ number nought ∷ mark 42 ∷ word INSW ∷ mark 40 ∷ number nought ∷ mark 44 ∷ number
+    nought ∷ mark 44
     ∷ (nested n ++ mark 41 ∷ [])
 
 -- of what is read, 0 of a fault

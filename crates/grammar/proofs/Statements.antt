@@ -1,4 +1,5 @@
--- A rule for each way through the functions of statements: constants, an assignment, a state, and the three by their first tokens.
+-- A rule for each way through the functions of statements: constants, an assignment, a state, and the three by their
+-- first tokens.
 use Prim.Native.Nat.{ℕ, suc, _+_, _-_, _≤_, _<_}
 use mathlib.Core.Path.{_≡_, sym, ap, _∙_}
 use mathlib.Core.List.{List, [], _∷_}
@@ -17,17 +18,23 @@ use Rattle.drafts.specs.Drafts.{draft, constantDrafts, initialDraft}
 use Rattle.grammar.specs.Look.{rest}
 use Rattle.grammar.specs.Grammar.{expr}
 use Rattle.grammar.specs.Parser.{Res, give, tell, bind, need, parse, reads}
-use Rattle.grammar.specs.Parser.{signedNumber, onMore, valued, many, initially, assigned, rated, started, integrated, equated, statement, calls}
+use Rattle.grammar.specs.Parser.{signedNumber, onMore, valued, many, initially, assigned, rated, started}
+use Rattle.grammar.specs.Parser.{integrated, equated, statement, calls}
 use Rattle.grammar.specs.Contract.{Ready, Within, passed, stopped, Meets, Parses, Lists, numberAt, initialAt}
 use Rattle.grammar.proofs.Clauses.{to-reads}
-use Rattle.grammar.proofs.Seen.{token-at, stands, is-name, no-name, is-integral, no-integral, start-name, start-words, start-none}
-use Rattle.grammar.proofs.Meets.{meets-by, meets-rest, meets-give, meets-stop, meets-tell, meets-map, meets-mark, meets-else, meets-need, meets-shut}
+use Rattle.grammar.proofs.Seen.{token-at, stands, is-name, no-name, is-integral, no-integral, start-name}
+use Rattle.grammar.proofs.Seen.{start-words, start-none}
+use Rattle.grammar.proofs.Meets.{meets-by, meets-rest, meets-give, meets-stop, meets-tell, meets-map, meets-mark}
+use Rattle.grammar.proofs.Meets.{meets-else, meets-need, meets-shut}
 use Rattle.grammar.proofs.Ways.{after, stops, goes-on}
-use Rattle.grammar.proofs.Values.{Valued-at, number-found, initial-found, number-stops, initial-stops, value-then}
+use Rattle.grammar.proofs.Values.{Valued-at, number-found, initial-found, number-stops, initial-stops}
+use Rattle.grammar.proofs.Values.{value-then}
 
 -- two drafts
-two-drafts : {A : Type 0} {ks us : List ℕ} {i p : ℕ} {l u : List ℕ} {r : Part} {l₁ u₁ l₂ u₂ l₃ u₃ : List ℕ} {x : List Symbol → Res A} (k a k′ a′ : ℕ)
-    → l₁ ≡ set l p k → u₁ ≡ set u p a → l₂ ≡ set l₁ (p + 1) k′ → u₂ ≡ set u₁ (p + 1) a′ → Meets ks us x i (p + 2) l₂ u₂ r l₃ u₃
+two-drafts : {A : Type 0} {ks us : List ℕ} {i p : ℕ} {l u : List ℕ} {r : Part} {l₁ u₁ l₂ u₂ l₃ u₃ : List ℕ}
+    {x : List Symbol → Res A} (k a k′ a′ : ℕ)
+    → l₁ ≡ set l p k → u₁ ≡ set u p a → l₂ ≡ set l₁ (p + 1) k′ → u₂ ≡ set u₁ (p + 1) a′
+    → Meets ks us x i (p + 2) l₂ u₂ r l₃ u₃
     → Meets ks us (λ s. tell (draft k a ∷ draft k′ a′ ∷ []) (x s)) i p l u r l₃ u₃
 two-drafts {p = p} k a k′ a′ e f g h m =
     let n : p + 2 ≡ p + 1 + 1 = omega arith in
@@ -44,7 +51,8 @@ pub record Two-on (ks us : List ℕ) (p j : ℕ) (l u : List ℕ) : Type 0 where
 set-length : {l₁ : List ℕ} (l : List ℕ) (p k : ℕ) → l₁ ≡ set l p k → length l₁ ≡ length l
 set-length l p k e = ap length e ∙ simp length-set
 
-two-on : {ks us : List ℕ} {i p : ℕ} {l u : List ℕ} → Ready ks us i p l u → (j : ℕ) → i + 2 ≤ j → j ≤ length ks → Two-on ks us p j l u
+two-on : {ks us : List ℕ} {i p : ℕ} {l u : List ℕ} → Ready ks us i p l u → (j : ℕ) → i + 2 ≤ j → j ≤ length ks
+    → Two-on ks us p j l u
 two-on {l = l} {u = u} w j on inside =
     let a = w .room-kinds in
     let b = w .room-args in
@@ -74,7 +82,8 @@ module _ {ks us : List ℕ} {i p m : ℕ} {l u : List ℕ} (w : Ready ks us i p 
       record {
         meets = for-suc (λ f. Meets ks us (many f) i p l u (stopped 18 i) l u) (length ks - i) λ f le.
             meets-by (many (suc f))
-            (rw (token-at ks us i (w .even)) (no-name (getD ks i 0) (getD us i 0) _ _ λ z. n (em ∙ z))) (meets-stop (w .even) (w .within) 18);
+            (rw (token-at ks us i (w .even)) (no-name (getD ks i 0) (getD us i 0) _ _ λ z. n (em ∙ z)))
+            (meets-stop (w .even) (w .within) 18);
       }
 
   module _ (named : m ≡ 2) where
@@ -83,14 +92,16 @@ module _ {ks us : List ℕ} {i p m : ℕ} {l u : List ℕ} (w : Ready ks us i p 
 
     -- behind a name
     const-named : {r : Part} {l₁ u₁ : List ℕ}
-        → ((f : ℕ) → length ks - i ≤ f → Meets ks us (λ s. need 61 s (valued (many f) (getD us i 0))) (i + 1) p l u r l₁ u₁)
+        → ((f : ℕ) → length ks - i ≤ f → Meets ks us (λ s. need 61 s (valued (many f) (getD us i 0)))
+        (i + 1) p l u r l₁ u₁)
         → Lists ks us i p l u r l₁ u₁
     unfolding many
     const-named {r} {l₁} {u₁} g =
         record {
           meets = for-suc (λ f. Meets ks us (many f) i p l u r l₁ u₁) (length ks - i) λ f le.
               meets-by (many (suc f))
-              (rw (token-at ks us i (w .even)) (is-name (getD ks i 0) (getD us i 0) _ _ (sym em ∙ named))) (meets-rest (g f le));
+              (rw (token-at ks us i (w .even)) (is-name (getD ks i 0) (getD us i 0) _ _ (sym em ∙ named)))
+              (meets-rest (g f le));
         }
 
     module _ {e : ℕ} (ee : e ≡ getD ks (i + 1) 0) where
@@ -98,7 +109,8 @@ module _ {ks us : List ℕ} {i p m : ℕ} {l u : List ℕ} (w : Ready ks us i p 
       pub const-shut : (e ≡ 61 → ⊥) → Lists ks us i p l u (stopped 18 (i + 1)) l u
       const-shut n =
           let a = name-inside in
-          const-named λ f le. meets-shut (valued (many f) (getD us i 0)) 61 (w .even) (omega arith) (omega arith) λ z. n (ee ∙ z)
+          const-named λ f le. meets-shut (valued (many f) (getD us i 0)) 61 (w .even) (omega arith) (omega arith) λ z. n
+          (ee ∙ z)
 
       module _ (equals : e ≡ 61) where
         pub equals-inside : i + 1 < length ks
@@ -109,7 +121,8 @@ module _ {ks us : List ℕ} {i p m : ℕ} {l u : List ℕ} (w : Ready ks us i p 
 
         -- behind =
         const-equals : {r : Part} {l₁ u₁ : List ℕ}
-            → ((f : ℕ) → length ks - i ≤ f → Meets ks us (valued (many f) (getD us i 0)) (i + 2) p l u r l₁ u₁) → Lists ks us i p l u r l₁ u₁
+            → ((f : ℕ) → length ks - i ≤ f → Meets ks us (valued (many f) (getD us i 0)) (i + 2) p l u r l₁ u₁)
+            → Lists ks us i p l u r l₁ u₁
         const-equals g =
             let n : i + 2 ≡ i + 1 + 1 = omega arith in
             const-named λ f le. meets-need 61 (w .even) (omega arith) (sym ee ∙ equals) (rw n at (g f le))
@@ -125,34 +138,42 @@ module _ {ks us : List ℕ} {i p m : ℕ} {l u : List ℕ} (w : Ready ks us i p 
           pub const-on : Two-on ks us p j l u
           const-on = let v = value in two-on w j (let y = v .on in omega arith) (v .inside)
 
-          pub const-second : {l₁ u₁ : List ℕ} → l₁ ≡ set l p 1 → u₁ ≡ set u p (getD us i 0) → (p + 1 < length l₁) × (p + 1 < length u₁)
+          pub const-second : {l₁ u₁ : List ℕ} → l₁ ≡ set l p 1 → u₁ ≡ set u p (getD us i 0)
+              → (p + 1 < length l₁) × (p + 1 < length u₁)
           const-second x y = const-on .second 1 (getD us i 0) x y
 
-          module _ {c : ℕ} (ec : c ≡ getD ks j 0) {l₁ u₁ l₂ u₂ : List ℕ} (x : l₁ ≡ set l p 1) (y : u₁ ≡ set u p (getD us i 0))
+          module _ {c : ℕ} (ec : c ≡ getD ks j 0) {l₁ u₁ l₂ u₂ : List ℕ} (x : l₁ ≡ set l p 1)
+              (y : u₁ ≡ set u p (getD us i 0))
               (x′ : l₂ ≡ set l₁ (p + 1) k) (y′ : u₂ ≡ set u₁ (p + 1) a) where
             -- its two drafts
             const-valued : {r : Part} {l₃ u₃ : List ℕ}
-                → ((f : ℕ) (z : Constant) → length ks - i ≤ f → Meets ks us (onMore (many f) z) j (p + 2) l₂ u₂ r l₃ u₃) → Lists ks us i p l u r l₃ u₃
+                → ((f : ℕ) (z : Constant) → length ks - i ≤ f → Meets ks us (onMore (many f) z) j (p + 2) l₂ u₂ r l₃ u₃)
+                → Lists ks us i p l u r l₃ u₃
             const-valued g =
                 let v = value in
                 let n = getD us i 0 in
-                const-equals λ f le. value-then (λ z t. tell (constantDrafts (constantOf n z)) (onMore (many f) (constantOf n z) t)) v
-                (two-drafts 1 n 0 (toBits binary64 (v .what)) x y (rw (← (v .kind)) x′) (rw (← (v .arg)) y′) (g f (constantOf n (v .what)) le))
+                const-equals λ f le. value-then
+                (λ z t. tell (constantDrafts (constantOf n z)) (onMore (many f) (constantOf n z) t)) v
+                (two-drafts 1 n 0 (toBits binary64 (v .what)) x y (rw (← (v .kind)) x′) (rw (← (v .arg)) y′)
+                (g f (constantOf n (v .what)) le))
 
             -- the last
             pub const-last : (c ≡ 44 → ⊥) → Lists ks us i p l u (passed j (p + 2)) l₂ u₂
             const-last n =
-                const-valued λ f z le. meets-else (λ s. bind (many f (rest s)) λ cs t. give (z ∷ cs) t) 44 (w .even) (omega arith) (λ q. n (ec ∙ q))
+                const-valued λ f z le. meets-else (λ s. bind (many f (rest s)) λ cs t. give (z ∷ cs) t) 44 (w .even)
+                (omega arith) (λ q. n (ec ∙ q))
                 (meets-give (w .even) (value .inside) (z ∷ []))
 
             -- or more behind a comma
-            pub const-next : {t : ℕ} → length ks - i ≡ t → c ≡ 44 → (length ks - (j + 1) < t) × Ready ks us (j + 1) (p + 2) l₂ u₂
+            pub const-next : {t : ℕ} → length ks - i ≡ t → c ≡ 44
+                → (length ks - (j + 1) < t) × Ready ks us (j + 1) (p + 2) l₂ u₂
             const-next m q =
                 let d = comma-inside ks j ec q in
                 let b = value .on in
                 (omega arith, const-on .ready 1 (getD us i 0) k a x y x′ y′ d)
 
-            pub const-more : {r : Part} {l₃ u₃ : List ℕ} → c ≡ 44 → Lists ks us (j + 1) (p + 2) l₂ u₂ r l₃ u₃ → Lists ks us i p l u r l₃ u₃
+            pub const-more : {r : Part} {l₃ u₃ : List ℕ} → c ≡ 44 → Lists ks us (j + 1) (p + 2) l₂ u₂ r l₃ u₃
+                → Lists ks us i p l u r l₃ u₃
             const-more q g =
                 let v = value in
                 const-valued λ f z le. meets-mark (give (z ∷ [])) 44 (w .even) (omega arith) (sym ec ∙ q)
@@ -169,7 +190,13 @@ expr-at ks us i d even =
 
 -- a place with room for one draft more
 pub ready-less : {ks us : List ℕ} {i : ℕ} {l u : List ℕ} (p : ℕ) → Ready ks us i (p + 1) l u → Ready ks us i p l u
-ready-less p w = record { even = w .even; within = w .within; room-kinds = omega (arith, w .room-kinds); room-args = omega (arith, w .room-args) }
+ready-less p w =
+    record {
+      even = w .even;
+      within = w .within;
+      room-kinds = omega (arith, w .room-kinds);
+      room-args = omega (arith, w .room-args);
+    }
 
 -- what follows the expression
 abbrev store-then : ℕ → Tree → List Symbol → Res Says
@@ -180,7 +207,8 @@ module _ {ks us : List ℕ} {i p : ℕ} {l u : List ℕ} {r : Part} {l₁ u₁ :
   assign-ready : Ready ks us i p l u
   assign-ready = ready-less p w
 
-  assign-by : {r : Part} {l₂ u₂ : List ℕ} → Meets ks us (λ s. bind (reads expr levels s) (store-then key)) i p l u r l₂ u₂
+  assign-by : {r : Part} {l₂ u₂ : List ℕ}
+      → Meets ks us (λ s. bind (reads expr levels s) (store-then key)) i p l u r l₂ u₂
       → Meets ks us (assigned (calls (heldRow ks us)) levels key) i p l u r l₂ u₂
   unfolding assigned
   assign-by g = meets-by (assigned (calls (heldRow ks us)) levels key) (rw (expr-at ks us i levels (w .even))) g
@@ -202,7 +230,9 @@ module _ {ks us : List ℕ} {i p : ℕ} {l u : List ℕ} {r : Part} {l₁ u₁ :
         → Meets ks us (assigned (calls (heldRow ks us)) levels key) i p l u (passed j (q + 1)) l₂ u₂
     assign-passed x y =
         let a = after assign-ready e h in
-        assign-by (goes-on (store-then key) assign-ready e h λ z. meets-tell 13 key x y (meets-give (w .even) (a .inside) (assignment key z)))
+        assign-by
+        (goes-on (store-then key) assign-ready e h λ z. meets-tell 13 key x y
+        (meets-give (w .even) (a .inside) (assignment key z)))
 
 -- ---- a state
 
@@ -212,42 +242,50 @@ rate-then key n e t = need 41 t λ u. tell (draft 14 key ∷ []) (give (state ke
 
 module _ {ks us : List ℕ} {i p : ℕ} {l u : List ℕ} {r : Part} {l₁ u₁ : List ℕ} (key : ℕ) (w : Ready ks us i p l u)
     (h : Parses ks us expr levels i p l u r l₁ u₁) where
-  rate-by : {r : Part} {l₂ u₂ : List ℕ} (n : Initial) → Meets ks us (λ s. bind (reads expr levels s) (rate-then key n)) i p l u r l₂ u₂
+  rate-by : {r : Part} {l₂ u₂ : List ℕ} (n : Initial)
+      → Meets ks us (λ s. bind (reads expr levels s) (rate-then key n)) i p l u r l₂ u₂
       → Meets ks us (rated (calls (heldRow ks us)) levels key n) i p l u r l₂ u₂
   rate-by n g = meets-by (rated (calls (heldRow ks us)) levels key n) (rw (expr-at ks us i levels (w .even))) g
 
-  pub rate-stopped : (r .code ≡ 0 → ⊥) → (n : Initial) → Meets ks us (rated (calls (heldRow ks us)) levels key n) i p l u r l₁ u₁
+  pub rate-stopped : (r .code ≡ 0 → ⊥) → (n : Initial)
+      → Meets ks us (rated (calls (heldRow ks us)) levels key n) i p l u r l₁ u₁
   rate-stopped e n = rate-by n (stops (rate-then key n) e h)
 
   module _ {j q k : ℕ} (e : r ≡ passed j q) (ek : k ≡ getD ks j 0) where
-    pub rate-shut : (k ≡ 41 → ⊥) → (n : Initial) → Meets ks us (rated (calls (heldRow ks us)) levels key n) i p l u (stopped 18 j) l₁ u₁
+    pub rate-shut : (k ≡ 41 → ⊥) → (n : Initial)
+        → Meets ks us (rated (calls (heldRow ks us)) levels key n) i p l u (stopped 18 j) l₁ u₁
     rate-shut z n =
         let a = after w e h in
         rate-by n (goes-on (rate-then key n) w e h λ x.
-        meets-shut (λ u. tell (draft 14 key ∷ []) (give (state key n x) u)) 41 (w .even) (a .inside) (omega arith) λ y. z (ek ∙ y))
+        meets-shut (λ u. tell (draft 14 key ∷ []) (give (state key n x) u)) 41 (w .even) (a .inside) (omega arith) λ y.
+        z (ek ∙ y))
 
     module _ (z : k ≡ 41) where
       pub rate-inside : j < length ks
       rate-inside = stands ks j λ y. let v : k ≡ 0 = ek ∙ y in omega arith
 
       pub rate-room : (q < length l₁) × (q < length u₁)
-      rate-room = let a = after w e h in let b = rate-inside in (omega (arith, w .room-kinds), omega (arith, w .room-args))
+      rate-room =
+          let a = after w e h in let b = rate-inside in (omega (arith, w .room-kinds), omega (arith, w .room-args))
 
       pub rate-under : q < length l
       rate-under = let a = after w e h in let b = rate-room in omega arith
 
       pub rate-passed : {l₂ u₂ : List ℕ} → l₂ ≡ set l₁ q 14 → u₂ ≡ set u₁ q key
-          → (n : Initial) → Meets ks us (rated (calls (heldRow ks us)) levels key n) i p l u (passed (j + 1) (q + 1)) l₂ u₂
+          → (n : Initial) → Meets ks us (rated (calls (heldRow ks us)) levels key n) i p l u
+          (passed (j + 1) (q + 1)) l₂ u₂
       rate-passed x y n =
           let b = rate-inside in
           rate-by n (goes-on (rate-then key n) w e h λ v.
-          meets-need 41 (w .even) (omega arith) (sym ek ∙ z) (meets-tell 14 key x y (meets-give (w .even) (omega arith) (state key n v))))
+          meets-need 41 (w .even) (omega arith) (sym ek ∙ z)
+          (meets-tell 14 key x y (meets-give (w .even) (omega arith) (state key n v))))
 
 module _ {ks us : List ℕ} {i p m : ℕ} {l u : List ℕ} (key : ℕ) (w : Ready ks us i p l u) (em : m ≡ getD ks i 0) where
   -- no opening parenthesis
   pub state-shut : (m ≡ 40 → ⊥) → Meets ks us (integrated (calls (heldRow ks us)) levels key) i p l u (stopped 18 i) l u
   unfolding integrated
-  state-shut n = meets-shut (started (calls (heldRow ks us)) levels key) 40 (w .even) (w .within) (omega arith) λ z. n (em ∙ z)
+  state-shut n =
+      meets-shut (started (calls (heldRow ks us)) levels key) 40 (w .even) (w .within) (omega arith) λ z. n (em ∙ z)
 
   module _ (there : m ≡ 40) where
     pub open-inside : i < length ks
@@ -256,13 +294,15 @@ module _ {ks us : List ℕ} {i p m : ℕ} {l u : List ℕ} (key : ℕ) (w : Read
     pub state-within : Within ks us (i + 1)
     state-within = let a = open-inside in record { even = w .even; within = omega arith }
 
-    state-open : {r : Part} {l₁ u₁ : List ℕ} → Meets ks us (started (calls (heldRow ks us)) levels key) (i + 1) p l u r l₁ u₁
+    state-open : {r : Part} {l₁ u₁ : List ℕ}
+        → Meets ks us (started (calls (heldRow ks us)) levels key) (i + 1) p l u r l₁ u₁
         → Meets ks us (integrated (calls (heldRow ks us)) levels key) i p l u r l₁ u₁
     unfolding integrated
     state-open g = meets-need 40 (w .even) (omega arith) (sym em ∙ there) g
 
     -- no initial
-    pub state-missing : {j : ℕ} → Missing j ≡ initialAt ks us (i + 1) → Meets ks us (integrated (calls (heldRow ks us)) levels key) i p l u (stopped 18 j) l u
+    pub state-missing : {j : ℕ} → Missing j ≡ initialAt ks us (i + 1)
+        → Meets ks us (integrated (calls (heldRow ks us)) levels key) i p l u (stopped 18 j) l u
     state-missing h = state-open (initial-stops state-within _ h)
 
     module _ {k a j : ℕ} (h : Found k a j ≡ initialAt ks us (i + 1)) where
@@ -272,26 +312,32 @@ module _ {ks us : List ℕ} {i p m : ℕ} {l u : List ℕ} (key : ℕ) (w : Read
       pub state-on : Two-on ks us p j l u
       state-on = let v = start in two-on w j (let y = v .on in omega arith) (v .inside)
 
-      pub state-second : {l₁ u₁ : List ℕ} → l₁ ≡ set l p 2 → u₁ ≡ set u p key → (p + 1 < length l₁) × (p + 1 < length u₁)
+      pub state-second : {l₁ u₁ : List ℕ} → l₁ ≡ set l p 2 → u₁ ≡ set u p key
+          → (p + 1 < length l₁) × (p + 1 < length u₁)
       state-second x y = state-on .second 2 key x y
 
-      module _ {c : ℕ} (ec : c ≡ getD ks j 0) {l₁ u₁ l₂ u₂ : List ℕ} (x : l₁ ≡ set l p 2) (y : u₁ ≡ set u p key) (x′ : l₂ ≡ set l₁ (p + 1) k)
+      module _ {c : ℕ} (ec : c ≡ getD ks j 0) {l₁ u₁ l₂ u₂ : List ℕ} (x : l₁ ≡ set l p 2) (y : u₁ ≡ set u p key)
+          (x′ : l₂ ≡ set l₁ (p + 1) k)
           (y′ : u₂ ≡ set u₁ (p + 1) a) where
         -- the two drafts of the initial
         state-started : {r : Part} {l₃ u₃ : List ℕ}
-            → ((n : Initial) → Meets ks us (λ t. need 44 t (rated (calls (heldRow ks us)) levels key n)) j (p + 2) l₂ u₂ r l₃ u₃)
+            → ((n : Initial) → Meets ks us (λ t. need 44 t (rated (calls (heldRow ks us)) levels key n)) j
+            (p + 2) l₂ u₂ r l₃ u₃)
             → Meets ks us (integrated (calls (heldRow ks us)) levels key) i p l u r l₃ u₃
         state-started g =
             let v = start in
             let f = calls (heldRow ks us) in
             let d = initialDraft (v .what) in
-            state-open (value-then (λ n t. tell (draft 2 key ∷ initialDraft n ∷ []) (need 44 t (rated f levels key n))) v
+            state-open
+            (value-then (λ n t. tell (draft 2 key ∷ initialDraft n ∷ []) (need 44 t (rated f levels key n))) v
             (two-drafts 2 key (d .kind) (d .arg) x y (rw (← (v .kind)) x′) (rw (← (v .arg)) y′) (g (v .what))))
 
         -- no comma
-        pub state-alone : (c ≡ 44 → ⊥) → Meets ks us (integrated (calls (heldRow ks us)) levels key) i p l u (stopped 18 j) l₂ u₂
+        pub state-alone : (c ≡ 44 → ⊥) → Meets ks us (integrated (calls (heldRow ks us)) levels key) i p l u
+            (stopped 18 j) l₂ u₂
         state-alone n =
-            state-started λ v. meets-shut (rated (calls (heldRow ks us)) levels key v) 44 (w .even) (start .inside) (omega arith) λ z. n (ec ∙ z)
+            state-started λ v. meets-shut (rated (calls (heldRow ks us)) levels key v) 44 (w .even) (start .inside)
+            (omega arith) λ z. n (ec ∙ z)
 
         -- and the rate
         pub state-next : c ≡ 44 → Ready ks us (j + 1) (p + 2) l₂ u₂
@@ -306,18 +352,25 @@ module _ {ks us : List ℕ} {i p m : ℕ} {l u : List ℕ} (key : ℕ) (w : Read
 
 module _ {ks us : List ℕ} {p k : ℕ} {l u : List ℕ} (w : Ready ks us 0 p l u) (ek : k ≡ getD ks 0 0) where
   -- neither a name nor a word before constants
-  pub begins-none : (k ≡ 2 → ⊥) → (3 ≤ k → k ≤ 5 → ⊥) → Meets ks us (statement (calls (heldRow ks us)) levels) 0 p l u (stopped 18 0) l u
+  pub begins-none : (k ≡ 2 → ⊥) → (3 ≤ k → k ≤ 5 → ⊥)
+      → Meets ks us (statement (calls (heldRow ks us)) levels) 0 p l u (stopped 18 0) l u
   unfolding statement
   begins-none n m =
       meets-by (statement (calls (heldRow ks us)) levels)
-      (rw (token-at ks us 0 (w .even)) (start-none (getD ks 0 0) (getD us 0 0) _ _ _ (λ z. n (ek ∙ z)) λ x y. m (rw ek x) (rw ek y)))
+      (rw (token-at ks us 0 (w .even))
+      (start-none (getD ks 0 0) (getD us 0 0) _ _ _ (λ z. n (ek ∙ z)) λ x y. m (rw ek x) (rw ek y)))
       (meets-stop (w .even) (w .within) 18)
 
   -- constants
   pub words-enter : 3 ≤ k → Ready ks us 1 p l u
   words-enter h =
       let a = stands ks 0 (λ z. let y : k ≡ 0 = ek ∙ z in omega arith) in
-      record { even = w .even; within = omega arith; room-kinds = omega (arith, w .room-kinds); room-args = omega (arith, w .room-args) }
+      record {
+        even = w .even;
+        within = omega arith;
+        room-kinds = omega (arith, w .room-kinds);
+        room-args = omega (arith, w .room-args);
+      }
 
   pub begins-words : {r : Part} {l₁ u₁ : List ℕ} → 3 ≤ k → k ≤ 5 → Lists ks us 1 p l u r l₁ u₁
       → Meets ks us (statement (calls (heldRow ks us)) levels) 0 p l u r l₁ u₁
@@ -333,7 +386,8 @@ module _ {ks us : List ℕ} {p k : ℕ} {l u : List ℕ} (w : Ready ks us 0 p l 
     pub first-inside : 0 < length ks
     first-inside = stands ks 0 λ z. let y : k ≡ 0 = ek ∙ z in omega arith
 
-    begins-name : {r : Part} {l₁ u₁ : List ℕ} → Meets ks us (λ s. need 61 s (equated (calls (heldRow ks us)) levels (getD us 0 0))) 1 p l u r l₁ u₁
+    begins-name : {r : Part} {l₁ u₁ : List ℕ}
+        → Meets ks us (λ s. need 61 s (equated (calls (heldRow ks us)) levels (getD us 0 0))) 1 p l u r l₁ u₁
         → Meets ks us (statement (calls (heldRow ks us)) levels) 0 p l u r l₁ u₁
     unfolding statement
     begins-name g =
@@ -345,13 +399,16 @@ module _ {ks us : List ℕ} {p k : ℕ} {l u : List ℕ} (w : Ready ks us 0 p l 
       pub begins-shut : (e ≡ 61 → ⊥) → Meets ks us (statement (calls (heldRow ks us)) levels) 0 p l u (stopped 18 1) l u
       begins-shut n =
           let a = first-inside in
-          begins-name (meets-shut (equated (calls (heldRow ks us)) levels (getD us 0 0)) 61 (w .even) (omega arith) (omega arith) λ z. n (ee ∙ z))
+          begins-name
+          (meets-shut (equated (calls (heldRow ks us)) levels (getD us 0 0)) 61 (w .even) (omega arith)
+          (omega arith) λ z. n (ee ∙ z))
 
       module _ (equals : e ≡ 61) where
         second-inside : 1 < length ks
         second-inside = stands ks 1 λ z. let y : e ≡ 0 = ee ∙ z in omega arith
 
-        begins-equals : {r : Part} {l₁ u₁ : List ℕ} → Meets ks us (equated (calls (heldRow ks us)) levels (getD us 0 0)) 2 p l u r l₁ u₁
+        begins-equals : {r : Part} {l₁ u₁ : List ℕ}
+            → Meets ks us (equated (calls (heldRow ks us)) levels (getD us 0 0)) 2 p l u r l₁ u₁
             → Meets ks us (statement (calls (heldRow ks us)) levels) 0 p l u r l₁ u₁
         begins-equals g = begins-name (meets-need 61 (w .even) (omega arith) (sym ee ∙ equals) g)
 
@@ -363,20 +420,31 @@ module _ {ks us : List ℕ} {p k : ℕ} {l u : List ℕ} (w : Ready ks us 0 p l 
           pub state-enter : c ≡ 6 → Ready ks us 3 p l u
           state-enter z =
               let a = third-inside z in
-              record { even = w .even; within = omega arith; room-kinds = omega (arith, w .room-kinds); room-args = omega (arith, w .room-args) }
+              record {
+                even = w .even;
+                within = omega arith;
+                room-kinds = omega (arith, w .room-kinds);
+                room-args = omega (arith, w .room-args);
+              }
 
           pub begins-state : {r : Part} {l₁ u₁ : List ℕ} → c ≡ 6
               → Meets ks us (integrated (calls (heldRow ks us)) levels (getD us 0 0)) 3 p l u r l₁ u₁
               → Meets ks us (statement (calls (heldRow ks us)) levels) 0 p l u r l₁ u₁
           begins-state z g =
               begins-equals (meets-by {i = 2} (equated (calls (heldRow ks us)) levels (getD us 0 0))
-              (rw (token-at ks us 2 (w .even)) (is-integral (getD ks 2 0) (getD us 2 0) _ _ (sym ec ∙ z))) (meets-rest g))
+              (rw (token-at ks us 2 (w .even)) (is-integral (getD ks 2 0) (getD us 2 0) _ _ (sym ec ∙ z)))
+              (meets-rest g))
 
           -- an assignment
           pub assign-enter : Ready ks us 2 (p + 1) l u
           assign-enter =
               let a = second-inside in
-              record { even = w .even; within = omega arith; room-kinds = omega (arith, w .room-kinds); room-args = omega (arith, w .room-args) }
+              record {
+                even = w .even;
+                within = omega arith;
+                room-kinds = omega (arith, w .room-kinds);
+                room-args = omega (arith, w .room-args);
+              }
 
           pub begins-assignment : {r : Part} {l₁ u₁ : List ℕ} → (c ≡ 6 → ⊥)
               → Meets ks us (assigned (calls (heldRow ks us)) levels (getD us 0 0)) 2 p l u r l₁ u₁

@@ -1,4 +1,5 @@
--- A front that ends with a function's name can want one level more than there are: (((..(INSW behind name =, with as many openings as levels.
+-- A front that ends with a function's name can want one level more than there are: (((..(INSW behind name =, with as
+-- many openings as levels.
 use Prim.Native.Nat.{ℕ, zero, suc, _+_, _*_, _<_}
 use mathlib.Core.Path.{_≡_, refl, ap, subst, _∙_}
 use mathlib.Core.Bool.{Bool, true, false}
@@ -9,7 +10,8 @@ use lib.ListN.{length, replicate}
 use Rattle.tokens.specs.Symbol.{INTGRL, INSW, Symbol, mark, name, word}
 use Rattle.drafts.specs.Tree.{Tree, insw, Says, assignment}
 use Rattle.grammar.specs.Look.{next, rest, byteOf, group, triple, give-to, shapeOf, Integral, startOf}
-use Rattle.grammar.specs.Grammar.{expr, term, factor, Der, unsigned, no-terms, a-term, no-factors, grouped, called, opening, last}
+use Rattle.grammar.specs.Grammar.{expr, term, factor, Der, unsigned, no-terms, a-term, no-factors, grouped}
+use Rattle.grammar.specs.Grammar.{called, opening, last}
 use Rattle.grammar.specs.Grammar.{Derives, of-constants, of-assignment, of-state}
 use Rattle.grammar.specs.Parser.{bad, bind, parse}
 use Rattle.grammar.specs.Meaning.{Front}
@@ -30,20 +32,26 @@ deepest n = name 1 ∷ mark 61 ∷ inside n []
 
 -- a factor alone is an expression
 single : {d : ℕ} {w : List Symbol} {e : Tree} → Der factor d w e → Der expr d w e
-single {d} {w} {e} a = subst (λ (z : List Symbol). Der expr d z e) (append-nil (w ++ []) ∙ append-nil w) (unsigned (a-term a no-factors) no-terms)
+single {d} {w} {e} a = subst (λ (z : List Symbol). Der expr d z e) (append-nil (w ++ []) ∙ append-nil w)
+    (unsigned (a-term a no-factors) no-terms)
 
 -- each opening takes one level, INSW one more
 inside-begins : (n : ℕ) → Begins (Der expr) (suc n) (inside n [])
 unfolding shapeOf give-to
 inside-begins zero = let z = zero-list (triple insw) in (mark 40 ∷ z .0, z .1, single (called refl (opening (z .2))))
 inside-begins (suc n) =
-    let z = inside-begins n in
-    (z .0 ++ mark 41 ∷ [], z .1, rw (← append-assoc (inside n [])) (single (grouped (opening (last {p = group} refl (z .2))))))
+    let z = inside-begins n in (
+      z .0 ++ mark 41 ∷ [],
+      z .1,
+      rw (← append-assoc (inside n []))
+          (single (grouped (opening (last {p = group} refl (z .2))))),
+    )
 
 -- so with n + 1 levels it begins a statement
 pub loose : (n : ℕ) → Front (suc n) (deepest n)
 unfolding deepest
-loose n = let z = inside-begins n in record { behind = z .0; says = assignment 1 (z .1); derived = of-assignment (z .2) }
+loose n =
+    let z = inside-begins n in record { behind = z .0; says = assignment 1 (z .1); derived = of-assignment (z .2) }
 
 -- ---- with as many levels as openings it is none
 
@@ -60,7 +68,8 @@ stuck : (n k : ℕ) (r : List Symbol) → (f : ℕ) × (c : ℕ) × (k < f) × (
 unfolding parse next rest byteOf shapeOf bind
 stuck zero k r = go (eqb (byteOf (next r)) 40) refl
   where
-    go : (b : Bool) → eqb (byteOf (next r)) 40 ≡ b → (f : ℕ) × (c : ℕ) × (k < f) × (parse f expr 0 (word INSW ∷ r) .end ≡ bad c r)
+    go : (b : Bool) → eqb (byteOf (next r)) 40 ≡ b
+        → (f : ℕ) × (c : ℕ) × (k < f) × (parse f expr 0 (word INSW ∷ r) .end ≡ bad c r)
     go true e = (suc (suc (suc (suc k))), 19, omega arith, rw e)
     go false e = (suc (suc (suc (suc k))), 18, omega arith, rw e)
 stuck (suc n) k r =

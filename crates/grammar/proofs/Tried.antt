@@ -8,7 +8,8 @@ use lib.IntN.{pos}
 use lib.ListN.{replicate}
 use Rattle.limits.specs.Limits.{levels}
 use Rattle.tokens.specs.Symbol.{CONST, INTGRL, TIME, INSW, COMPAR, Symbol, mark, number, name, word}
-use Rattle.drafts.specs.Tree.{times, insw, value, named, time, negated, two, three, constantOf, from, constants, assignment, state}
+use Rattle.drafts.specs.Tree.{times, insw, value, named, time, negated, two, three, constantOf, from, constants}
+use Rattle.drafts.specs.Tree.{assignment, state}
 use Rattle.grammar.specs.Look.{next, rest, byteOf, give-to, shapeOf, startOf}
 use Rattle.grammar.specs.Parser.{Read, read, fault, bind, parse, many, initially, signedNumber}
 use Rattle.grammar.specs.Parser.{assigned, integrated, statement, entire, readRow}
@@ -27,7 +28,9 @@ rows =
     -- A=INTGRL(B,-A)
     ∷ (name 1 ∷ mark 61 ∷ word INTGRL ∷ mark 40 ∷ name 2 ∷ mark 44 ∷ mark 45 ∷ name 1 ∷ mark 41 ∷ [])
     -- A=INSW(B,7,(TIME))
-    ∷ (name 1 ∷ mark 61 ∷ word INSW ∷ mark 40 ∷ name 2 ∷ mark 44 ∷ number seven ∷ mark 44 ∷ mark 40 ∷ word TIME ∷ mark 41 ∷ mark 41 ∷ [])
+    ∷
+    (name 1 ∷ mark 61 ∷ word INSW ∷ mark 40 ∷ name 2 ∷ mark 44 ∷ number seven ∷ mark 44 ∷ mark 40 ∷ word TIME ∷ mark
+    41 ∷ mark 41 ∷ [])
     -- A=TIME*-7
     ∷ (name 1 ∷ mark 61 ∷ word TIME ∷ mark 42 ∷ mark 45 ∷ number seven ∷ [])
     -- TIME=7
@@ -70,5 +73,6 @@ wanted =
 
 -- each row is answered as wanted
 tried : map readRow rows ≡ wanted
-unfolding readRow entire statement integrated assigned many initially signedNumber parse bind byteOf shapeOf startOf give-to next rest rows wanted neg
+unfolding readRow entire statement integrated assigned many initially signedNumber parse bind byteOf shapeOf startOf
+    give-to next rest rows wanted neg
 tried = refl

@@ -17,12 +17,14 @@ use Rattle.grammar.specs.declared.forms.Value.{Value}
 use Rattle.grammar.specs.declared.forms.Value.the-variants.{Found, Missing}
 use Rattle.drafts.specs.Tree.{plus, Initial, plain, from}
 use Rattle.drafts.specs.Drafts.{Draft, draft, initialDraft}
-use Rattle.grammar.specs.Look.{next, rest, byteOf, Op, none, op, addOp, startOf, Start, Constants, Integral, Named, Valued, Other}
+use Rattle.grammar.specs.Look.{next, rest, byteOf, Op, none, op, addOp, startOf, Start, Constants, Integral}
+use Rattle.grammar.specs.Look.{Named, Valued, Other}
 use Rattle.grammar.specs.Grammar.{Signed, unsigned-number, signed-number, Initially, of-number, of-name}
 use Rattle.grammar.specs.Parser.{End, got, bad, Res, give, stop, bind, onward, byName, byNumber, behindSign}
 use Rattle.grammar.specs.Parser.{signedValue, aNumber, signedNumber, initially}
 use Rattle.grammar.specs.Codes.{skipOf}
-use Rattle.grammar.specs.Contract.{Within, parseOutcome, wrote, stopped, partWrote, Meets, valueOf, numberAt, initialAt}
+use Rattle.grammar.specs.Contract.{Within, parseOutcome, wrote, stopped, partWrote, Meets, valueOf, numberAt}
+use Rattle.grammar.specs.Contract.{initialAt}
 use Rattle.grammar.proofs.Endings.{clash, Asked, Before, Out, OutEnd}
 use Rattle.grammar.proofs.Whole.{signed-out, initially-out}
 use Rattle.grammar.proofs.Clauses.{rest-at, left-at}
@@ -55,14 +57,20 @@ module _ {ks us : List ℕ} {i k s m : ℕ} (w : Within ks us i) (ek : k ≡ get
   pub number-missing : (m ≡ 1 → ⊥) → Missing (i + s) ≡ numberAt ks us i
   number-missing n =
       let row = heldRow ks us in
-      rw (behind, token-at ks us (i + s) (w .even), no-number {A = Float} (getD ks (i + s) 0) (getD us (i + s) 0) _ _ (λ z. n (em ∙ z)))
+      rw (
+        behind,
+        token-at ks us (i + s) (w .even),
+        no-number {A = Float} (getD ks (i + s) 0) (getD us (i + s) 0) _ _
+            (λ z. n (em ∙ z)),
+      )
       (ap Missing (sym (place-is ks us (i + s) (w .even) number-within)))
 
   -- one: its bits
   pub number-inside : m ≡ 1 → i + s < length ks
   number-inside e = stands ks (i + s) λ z. let y : m ≡ 0 = em ∙ z in omega arith
 
-  found : (b : ℕ) → m ≡ 1 → b ≡ toBits binary64 (signedValue (addOp (mark k)) (ofBits binary64 (getD us (i + s) 0))) → Found 0 b (i + s + 1) ≡ numberAt ks us i
+  found : (b : ℕ) → m ≡ 1 → b ≡ toBits binary64 (signedValue (addOp (mark k)) (ofBits binary64 (getD us (i + s) 0)))
+      → Found 0 b (i + s + 1) ≡ numberAt ks us i
   found b e h =
       let row = heldRow ks us in
       let a = number-inside e in
@@ -76,11 +84,13 @@ module _ {ks us : List ℕ} {i k s m : ℕ} (w : Within ks us i) (ek : k ≡ get
         h,
       )
 
-  pub number-plain : {b : ℕ} {x : Float} → m ≡ 1 → (k ≡ 45 → ⊥) → x ≡ ofBits binary64 (getD us (i + s) 0) → b ≡ toBits binary64 x
+  pub number-plain : {b : ℕ} {x : Float} → m ≡ 1 → (k ≡ 45 → ⊥) → x ≡ ofBits binary64 (getD us (i + s) 0)
+      → b ≡ toBits binary64 x
       → Found 0 b (i + s + 1) ≡ numberAt ks us i
   number-plain {b} {x} e n ex eb = found b e (eb ∙ ap (toBits binary64) (ex ∙ sym (plain-value k _ n)))
 
-  pub number-minus : {b : ℕ} {x : Float} → m ≡ 1 → k ≡ 45 → x ≡ ofBits binary64 (getD us (i + s) 0) → b ≡ toBits binary64 (neg x)
+  pub number-minus : {b : ℕ} {x : Float} → m ≡ 1 → k ≡ 45 → x ≡ ofBits binary64 (getD us (i + s) 0)
+      → b ≡ toBits binary64 (neg x)
       → Found 0 b (i + s + 1) ≡ numberAt ks us i
   unfolding byteOf
   number-minus {b} {x} e z ex eb = found b e (rw z (eb ∙ ap (λ (y : Float). toBits binary64 (neg y)) ex))
@@ -95,7 +105,12 @@ module _ {ks us : List ℕ} {i m : ℕ} (w : Within ks us i) (em : m ≡ getD ks
   initial-name e =
       let a = name-inside e in
       let n = place-is ks us (i + 1) (w .even) (omega arith) in
-      rw (token-at ks us i (w .even), is-name {A = Initial} (getD ks i 0) (getD us i 0) _ _ (sym em ∙ e), rest-at (heldRow ks us) i, n)
+      rw (
+        token-at ks us i (w .even),
+        is-name {A = Initial} (getD ks i 0) (getD us i 0) _ _ (sym em ∙ e),
+        rest-at (heldRow ks us) i,
+        n,
+      )
 
   -- or a number
   pub initial-number : {r : Value} → (m ≡ 2 → ⊥) → r ≡ numberAt ks us i → r ≡ initialAt ks us i
@@ -124,7 +139,8 @@ quiet-signed : (s : List Symbol) → Quiet (signedNumber s)
 unfolding signedNumber
 quiet-signed s = go (addOp (next s)) (behindSign (addOp (next s)) s) (startOf (next (behindSign (addOp (next s)) s)))
   where
-    go : (o : Op) (s : List Symbol) (p : Start) → Quiet (byNumber p (λ x. give (signedValue o x) (rest s)) (λ _. stop 18 s))
+    go : (o : Op) (s : List Symbol) (p : Start)
+        → Quiet (byNumber p (λ x. give (signedValue o x) (rest s)) (λ _. stop 18 s))
     go o s Constants = record { silent = refl; faults = refl }
     go o s Integral = record { silent = refl; faults = refl }
     go o s (Named k) = record { silent = refl; faults = refl }
@@ -146,7 +162,8 @@ quiet-initially s = go (startOf (next s))
     given : Quiet (bind (signedNumber s) λ v t. give (plain v) t)
     given = quiet-plain (signedNumber s) (quiet-signed s)
 
-    go : (p : Start) → Quiet (byName p (λ k. give (from k) (rest s)) (λ _. bind (signedNumber s) λ v t. give (plain v) t))
+    go : (p : Start)
+        → Quiet (byName p (λ k. give (from k) (rest s)) (λ _. bind (signedNumber s) λ v t. give (plain v) t))
     go Constants = given
     go Integral = given
     go (Named k) = record { silent = refl; faults = tt }
@@ -154,7 +171,8 @@ quiet-initially s = go (startOf (next s))
     go Other = given
 
 -- a value, with its draft and the place behind it
-pub record Valued-at {A : Type 0} (f : A → Draft) (x : List Symbol → Res A) (ks us : List ℕ) (i k a j : ℕ) : Type 0 where
+pub record Valued-at {A : Type 0} (f : A → Draft) (x : List Symbol → Res A) (ks us : List ℕ)
+    (i k a j : ℕ) : Type 0 where
   pub what : A
   pub ends : x (drop i (heldRow ks us)) .end ≡ got what (drop j (heldRow ks us))
   pub silent : x (drop i (heldRow ks us)) .out ≡ []
@@ -176,10 +194,12 @@ module _ {A : Type 0} (f : A → Draft) (x : List Symbol → Res A) {L : Asked A
     (size : (o : List Draft) (w : List Symbol) (e : A) → L o w e → 0 < length w) {ks us : List ℕ} {i : ℕ}
     (w : Within ks us i) (out : Out L F (drop i (heldRow ks us)) (x (drop i (heldRow ks us))))
     (quiet : Quiet (x (drop i (heldRow ks us)))) where
-  valued-at : {k a j : ℕ} → Found k a j ≡ valueOf f (length ks) (x (drop i (heldRow ks us)) .end) → Valued-at f x ks us i k a j
+  valued-at : {k a j : ℕ} → Found k a j ≡ valueOf f (length ks) (x (drop i (heldRow ks us)) .end)
+      → Valued-at f x ks us i k a j
   valued-at {k} {a} {j} = go (x (drop i (heldRow ks us)) .end) refl (out .ends)
     where
-      go : (t : End A) → x (drop i (heldRow ks us)) .end ≡ t → OutEnd L F (drop i (heldRow ks us)) (x (drop i (heldRow ks us)) .out) t
+      go : (t : End A) → x (drop i (heldRow ks us)) .end ≡ t
+          → OutEnd L F (drop i (heldRow ks us)) (x (drop i (heldRow ks us)) .out) t
           → Found k a j ≡ valueOf f (length ks) t → Valued-at f x ks us i k a j
       go (got e t) s r h =
           let n = held-length ks us (w .even) in
@@ -203,11 +223,15 @@ module _ {A : Type 0} (f : A → Draft) (x : List Symbol → Res A) {L : Asked A
       go (bad c t) s r h = clash (cc)
 
   -- missing: both stop
-  missing-at : {B : Type 0} {j p : ℕ} {l u : List ℕ} (k : A → List Symbol → Res B) → Missing j ≡ valueOf f (length ks) (x (drop i (heldRow ks us)) .end)
+  missing-at : {B : Type 0} {j p : ℕ} {l u : List ℕ} (k : A → List Symbol → Res B)
+      → Missing j ≡ valueOf f (length ks) (x (drop i (heldRow ks us)) .end)
       → Meets ks us (λ s. bind (x s) k) i p l u (stopped 18 j) l u
   unfolding bind wrote
   missing-at {j = j} {p = p} {l = l} {u = u} k h =
-      record { same = go (x (drop i (heldRow ks us)) .out) (x (drop i (heldRow ks us)) .end) (quiet .silent) (quiet .faults) h }
+      record {
+        same = go (x (drop i (heldRow ks us)) .out) (x (drop i (heldRow ks us)) .end) (quiet .silent)
+            (quiet .faults) h;
+      }
     where
       go : (o : List Draft) (t : End A) → o ≡ [] → Grammar t → Missing j ≡ valueOf f (length ks) t
           → parseOutcome (stopped 18 j) l u ≡ partWrote (length ks) (onward o t k) p l u
@@ -215,34 +239,43 @@ module _ {A : Type 0} (f : A → Draft) (x : List Symbol → Res A) {L : Asked A
       go o (bad c t) s g h = let m : j ≡ length ks - length t = cc in rw (s, g, m)
 
 module _ {ks us : List ℕ} {i : ℕ} (w : Within ks us i) where
-  pub number-found : {k a j : ℕ} → Found k a j ≡ numberAt ks us i → Valued-at (λ x. draft 0 (toBits binary64 x)) signedNumber ks us i k a j
+  pub number-found : {k a j : ℕ} → Found k a j ≡ numberAt ks us i
+      → Valued-at (λ x. draft 0 (toBits binary64 x)) signedNumber ks us i k a j
   number-found h =
       let s = drop i (heldRow ks us) in
-      valued-at (λ x. draft 0 (toBits binary64 x)) signedNumber (λ o v x r. signed-size (r .0)) w (signed-out 0 s) (quiet-signed s) h
+      valued-at (λ x. draft 0 (toBits binary64 x)) signedNumber (λ o v x r. signed-size (r .0)) w (signed-out 0 s)
+      (quiet-signed s) h
 
   pub initial-found : {k a j : ℕ} → Found k a j ≡ initialAt ks us i → Valued-at initialDraft initially ks us i k a j
   initial-found h =
       let s = drop i (heldRow ks us) in
       valued-at initialDraft initially (λ o v x r. initially-size (r .0)) w (initially-out 0 s) (quiet-initially s) h
 
-  pub number-stops : {B : Type 0} {j p : ℕ} {l u : List ℕ} (k : Float → List Symbol → Res B) → Missing j ≡ numberAt ks us i
+  pub number-stops : {B : Type 0} {j p : ℕ} {l u : List ℕ} (k : Float → List Symbol → Res B)
+      → Missing j ≡ numberAt ks us i
       → Meets ks us (λ s. bind (signedNumber s) k) i p l u (stopped 18 j) l u
   number-stops k h =
       let s = drop i (heldRow ks us) in
-      missing-at (λ x. draft 0 (toBits binary64 x)) signedNumber (λ o v x r. signed-size (r .0)) w (signed-out 0 s) (quiet-signed s) k h
+      missing-at (λ x. draft 0 (toBits binary64 x)) signedNumber (λ o v x r. signed-size (r .0)) w (signed-out 0 s)
+      (quiet-signed s) k h
 
-  pub initial-stops : {B : Type 0} {j p : ℕ} {l u : List ℕ} (k : Initial → List Symbol → Res B) → Missing j ≡ initialAt ks us i
+  pub initial-stops : {B : Type 0} {j p : ℕ} {l u : List ℕ} (k : Initial → List Symbol → Res B)
+      → Missing j ≡ initialAt ks us i
       → Meets ks us (λ s. bind (initially s) k) i p l u (stopped 18 j) l u
   initial-stops k h =
       let s = drop i (heldRow ks us) in
       missing-at initialDraft initially (λ o v x r. initially-size (r .0)) w (initially-out 0 s) (quiet-initially s) k h
 
 -- found: what follows goes on from there
-pub value-then : {A B : Type 0} {f : A → Draft} {x : List Symbol → Res A} {ks us : List ℕ} {i k a j p : ℕ} {l u : List ℕ} {r : Part} {l₁ u₁ : List ℕ}
+pub value-then : {A B : Type 0} {f : A → Draft} {x : List Symbol → Res A} {ks us : List ℕ} {i k a j p : ℕ}
+    {l u : List ℕ} {r : Part} {l₁ u₁ : List ℕ}
     (c : A → List Symbol → Res B) (v : Valued-at f x ks us i k a j) → Meets ks us (c (v .what)) j p l u r l₁ u₁
     → Meets ks us (λ s. bind (x s) c) i p l u r l₁ u₁
 value-then {x = x} {ks = ks} {us = us} {i = i} {j = j} {p = p} {l = l} {u = u} c v h =
     let row = heldRow ks us in
     let y = x (drop i row) in
     let q : p ≡ p + length (y .out) = rw (v .silent, add-zero) in
-    record { same = h .same ∙ bind-wrote (length ks) y c (v .what) (drop j row) p p l u l u (v .ends) q (rw (v .silent)) (rw (v .silent)) }
+    record {
+      same = h .same
+          ∙ bind-wrote (length ks) y c (v .what) (drop j row) p p l u l u (v .ends) q (rw (v .silent)) (rw (v .silent));
+    }

@@ -1,5 +1,6 @@
--- A rule for each way through each function of the cycle: what its calls ask, and what it gives by what they give. In all of them i is the
--- token's place, p that of the next draft, l and u are the buffers, and t is the measure at the entry.
+-- A rule for each way through each function of the cycle: what its calls ask, and what it gives by what they give. In
+-- all of them i is the token's place, p that of the next draft, l and u are the buffers, and t is the measure at the
+-- entry.
 use Prim.Native.Nat.{ℕ, _+_, _-_, _*_, _≤_, _<_}
 use mathlib.Core.Path.{_≡_, refl, sym, ap, _∙_}
 use mathlib.Core.Bool.{Bool, true, false, cond}
@@ -39,12 +40,14 @@ pub record After (n i p : ℕ) (l u : List ℕ) (j q : ℕ) (l₁ u₁ : List �
   pub long-args : length u₁ ≡ length u
 
 module _ {ks us : List ℕ} {m : Mode} {d i p j q : ℕ} {l u : List ℕ} {r : Part} {l₁ u₁ : List ℕ} where
-  pub after : Ready ks us i p l u → r ≡ passed j q → Parses ks us m d i p l u r l₁ u₁ → After (length ks) i p l u j q l₁ u₁
+  pub after : Ready ks us i p l u → r ≡ passed j q → Parses ks us m d i p l u r l₁ u₁
+      → After (length ks) i p l u j q l₁ u₁
   after w e h =
       let row = heldRow ks us in
       let n = held-length ks us (w .even) in
       let a = w .within in
-      let z = went row (reads m d (drop i row)) i p l u j q l₁ u₁ (omega arith) (reads-fits m d (drop i row)) (rw (e, ← n) at (h .meets .same)) in
+      let z = went row (reads m d (drop i row)) i p l u j q l₁ u₁ (omega arith) (reads-fits m d (drop i row))
+      (rw (e, ← n) at (h .meets .same)) in
       let b = z .inside in
       record {
         on = z .on;
@@ -54,12 +57,6 @@ module _ {ks us : List ℕ} {m : Mode} {d i p j q : ℕ} {l u : List ℕ} {r : P
         long-args = ap length (z .args) ∙ simp length-sets;
       }
 
-  -- what follows it can be called
-  pub ready-on : Ready ks us i p l u → r ≡ passed j q → Parses ks us m d i p l u r l₁ u₁ → Ready ks us j q l₁ u₁
-  ready-on w e h =
-      let z = after w e h in
-      record { even = w .even; within = z .inside; room-kinds = omega (arith, w .room-kinds); room-args = omega (arith, w .room-args) }
-
 module _ {B : Type 0} {ks us : List ℕ} {m : Mode} {d i p : ℕ} {l u : List ℕ} (k : Tree → List Symbol → Res B) where
   -- a part that stops stops the whole
   pub stops : {r : Part} {l₁ u₁ : List ℕ} → (r .code ≡ 0 → ⊥) → Parses ks us m d i p l u r l₁ u₁
@@ -67,7 +64,8 @@ module _ {B : Type 0} {ks us : List ℕ} {m : Mode} {d i p : ℕ} {l u : List �
   stops e h = meets-bad k e (h .meets)
 
   -- what follows a part goes on from where it ends
-  pub goes-on : {j q : ℕ} {r r₁ : Part} {l₁ u₁ l₂ u₂ : List ℕ} → Ready ks us i p l u → r₁ ≡ passed j q → Parses ks us m d i p l u r₁ l₁ u₁
+  pub goes-on : {j q : ℕ} {r r₁ : Part} {l₁ u₁ l₂ u₂ : List ℕ} → Ready ks us i p l u → r₁ ≡ passed j q
+      → Parses ks us m d i p l u r₁ l₁ u₁
       → ((e : Tree) → Meets ks us (k e) j q l₁ u₁ r l₂ u₂) → Meets ks us (λ s. bind (reads m d s) k) i p l u r l₂ u₂
   goes-on w e h g = meets-bind k (reads-fits m d (drop i (heldRow ks us))) (w .even) (w .within) e (h .meets) λ x _. g x
 
@@ -79,8 +77,10 @@ behind-at row i none = rw add-zero
 behind-at row i (op o) = rest-at row i
 
 -- a kind that is an operator stands before the end
-op-stands : (look : Symbol → Op) (ks : List ℕ) (i k : ℕ) → k ≡ getD ks i 0 → look (mark 0) ≡ none → {o : Two} → look (mark k) ≡ op o → i < length ks
-op-stands look ks i k ek bare {o} h = stands ks i λ z. let y : look (mark k) ≡ none = ap (λ (x : ℕ). look (mark x)) (ek ∙ z) ∙ bare in clash (cc)
+op-stands : (look : Symbol → Op) (ks : List ℕ) (i k : ℕ) → k ≡ getD ks i 0 → look (mark 0) ≡ none → {o : Two}
+    → look (mark k) ≡ op o → i < length ks
+op-stands look ks i k ek bare {o} h =
+    stands ks i λ z. let y : look (mark k) ≡ none = ap (λ (x : ℕ). look (mark x)) (ek ∙ z) ∙ bare in clash (cc)
 
 -- only a minus writes
 pub plain-sign : (k : ℕ) → (k ≡ 45 → ⊥) → signDrafts (addOp (mark k)) ≡ []
@@ -101,7 +101,8 @@ sign-pays (op o) = go (isMinus o)
     go false = omega arith
 
 -- the place behind the sign is within
-pub skip-within : (ks : List ℕ) (i k s : ℕ) → i ≤ length ks → k ≡ getD ks i 0 → s ≡ skipOf (addOp (mark k)) → i + s ≤ length ks
+pub skip-within : (ks : List ℕ) (i k s : ℕ) → i ≤ length ks → k ≡ getD ks i 0 → s ≡ skipOf (addOp (mark k))
+    → i + s ≤ length ks
 unfolding byteOf
 skip-within ks i k s le ek es = rw es (go (addOp (mark k)) refl)
   where
@@ -109,11 +110,13 @@ skip-within ks i k s le ek es = rw es (go (addOp (mark k)) refl)
     go none h = omega arith
     go (op o) h = let a = op-stands addOp ks i k ek refl h in omega arith
 
-pub sign-within : {ks us : List ℕ} {i p k s : ℕ} {l u : List ℕ} → Ready ks us i p l u → k ≡ getD ks i 0 → s ≡ skipOf (addOp (mark k)) → i + s ≤ length ks
+pub sign-within : {ks us : List ℕ} {i p k s : ℕ} {l u : List ℕ} → Ready ks us i p l u → k ≡ getD ks i 0
+    → s ≡ skipOf (addOp (mark k)) → i + s ≤ length ks
 sign-within {ks} {i = i} {k = k} {s = s} w ek es = skip-within ks i k s (w .within) ek es
 
 -- the sign there
-pub sign-at : (ks us : List ℕ) (i k : ℕ) → length us ≡ length ks → k ≡ getD ks i 0 → addOp (next (drop i (heldRow ks us))) ≡ addOp (mark k)
+pub sign-at : (ks us : List ℕ) (i k : ℕ) → length us ≡ length ks → k ≡ getD ks i 0
+    → addOp (next (drop i (heldRow ks us))) ≡ addOp (mark k)
 sign-at ks us i k even ek =
     ap addOp (token-at ks us i even) ∙ add-seen (getD ks i 0) (getD us i 0) ∙ ap (λ (x : ℕ). addOp (mark x)) (sym ek)
 
@@ -126,7 +129,8 @@ chain-then d chain is f e t = tell is (reads (chain (f e)) d t)
 -- a chain of parts, with the look at its operators
 pub record Chain (look : Symbol → Op) (part : Mode) (chain : Tree → Mode) : Type 0 where
   pub clause : (d : ℕ) (s : List Symbol) (l : Tree) → reads (chain l) d s
-      ≡ byOp (look (next s)) (λ _. give l s) λ o. bind (reads part d (rest s)) (chain-then d chain (draft (kindTwo o) 0 ∷ []) (two o l))
+      ≡ byOp (look (next s)) (λ _. give l s) λ o. bind (reads part d (rest s))
+      (chain-then d chain (draft (kindTwo o) 0 ∷ []) (two o l))
   pub seen : (k a : ℕ) → look (symbolOf k a) ≡ look (mark k)
   pub bare : look (mark 0) ≡ none
 
@@ -158,18 +162,23 @@ op-draft k n = rw (ne-eqb k 0 n)
 pub op-place : {p n : ℕ} (k : ℕ) → (k ≡ 0 → ⊥) → p + length (opDrafts k) ≤ n → p < n
 op-place k z h = let e : length (opDrafts k) ≡ 1 = ap length (op-draft k z) in omega arith
 
-module _ {look : Symbol → Op} {part : Mode} {chain : Tree → Mode} (c : Chain look part chain) {ks us : List ℕ} {i p k o : ℕ} {l u : List ℕ}
+module _ {look : Symbol → Op} {part : Mode} {chain : Tree → Mode}
+    (c : Chain look part chain) {ks us : List ℕ} {i p k o : ℕ} {l u : List ℕ}
     (w : Ready ks us i p l u) (ek : k ≡ getD ks i 0) (eo : o ≡ kindOp (look (mark k))) where
   -- the look at the token
   look-at : look (next (drop i (heldRow ks us))) ≡ look (mark k)
-  look-at = ap look (token-at ks us i (w .even)) ∙ c .seen (getD ks i 0) (getD us i 0) ∙ ap (λ (x : ℕ). look (mark x)) (sym ek)
+  look-at = ap look (token-at ks us i (w .even)) ∙ c .seen (getD ks i 0) (getD us i 0)
+      ∙ ap (λ (x : ℕ). look (mark x)) (sym ek)
 
   -- no operator: it ends
   chain-end : {d : ℕ} → o ≡ 0 → (x : Tree) → Parses ks us (chain x) d i p l u (passed i p) l u
   chain-end {d} z x =
       let row = heldRow ks us in
       let n = look-at ∙ no-op (look (mark k)) (sym eo ∙ z) in
-      record { meets = meets-by (reads (chain x) d) (c .clause d (drop i row) x ∙ rw n) (meets-give (w .even) (w .within) x) }
+      record {
+        meets = meets-by (reads (chain x) d) (c .clause d (drop i row) x ∙ rw n)
+            (meets-give (w .even) (w .within) x);
+      }
 
   module _ (z : o ≡ 0 → ⊥) where
     -- it is an operator
@@ -181,28 +190,36 @@ module _ {look : Symbol → Op} {part : Mode} {chain : Tree → Mode} (c : Chain
 
     -- a part behind it goes on
     chain-by : {d : ℕ} {r : Part} {l₁ u₁ : List ℕ} (x : Tree)
-        → Meets ks us (λ s. bind (reads part d s) (chain-then d chain (opDrafts o) (two (found .0) x))) (i + 1) p l u r l₁ u₁
+        → Meets ks us (λ s. bind (reads part d s) (chain-then d chain (opDrafts o) (two (found .0) x)))
+        (i + 1) p l u r l₁ u₁
         → Parses ks us (chain x) d i p l u r l₁ u₁
     chain-by {d} {r} {l₁} {u₁} x h =
         let row = heldRow ks us in
         let n = found .0 in
-        let f : opDrafts o ≡ draft (kindTwo n) 0 ∷ [] = op-draft o z ∙ ap (λ (y : ℕ). draft y 0 ∷ []) (eo ∙ ap kindOp (found .1)) in
-        let y : List Symbol → Res Tree = λ s. bind (reads part d s) (chain-then d chain (draft (kindTwo n) 0 ∷ []) (two n x)) in
+        let f : opDrafts o ≡ draft (kindTwo n) 0 ∷ [] =
+        op-draft o z ∙ ap (λ (y : ℕ). draft y 0 ∷ []) (eo ∙ ap kindOp (found .1)) in
+        let y : List Symbol → Res Tree =
+        λ s. bind (reads part d s) (chain-then d chain (draft (kindTwo n) 0 ∷ []) (two n x)) in
         let g : Meets ks us y (i + 1) p l u r l₁ u₁ = rw (← f) h in
-        record { meets = meets-by (reads (chain x) d) (c .clause d (drop i row) x ∙ rw (look-at ∙ found .1)) (meets-rest g) }
+        record {
+          meets = meets-by (reads (chain x) d) (c .clause d (drop i row) x ∙ rw (look-at ∙ found .1))
+              (meets-rest g);
+        }
 
 -- ---- a chain on its way
 
--- Of the whole, begun in the mode m at token i and draft p, the part at token j is next; behind it stands the draft of the operator o. What the
--- rest gives, the whole gives.
-pub record Going (ks us : List ℕ) (m part : Mode) (chain : Tree → Mode) (d i p : ℕ) (l u : List ℕ) (o j q : ℕ) (l₁ u₁ : List ℕ) : Type 0 where
+-- Of the whole, begun in the mode m at token i and draft p, the part at token j is next; behind it stands the draft of
+-- the operator o. What the rest gives, the whole gives.
+pub record Going (ks us : List ℕ) (m part : Mode) (chain : Tree → Mode) (d i p : ℕ) (l u : List ℕ) (o j q : ℕ)
+    (l₁ u₁ : List ℕ) : Type 0 where
   pub on : i ≤ j
   pub long-kinds : length l₁ ≡ length l
   pub long-args : length u₁ ≡ length u
   pub ready : Ready ks us j (q + length (opDrafts o)) l₁ u₁
   pub joins : Tree → Tree → Tree
   pub whole : {r : Part} {l₂ u₂ : List ℕ}
-      → ((x : Tree) → Meets ks us (λ s. bind (reads part d s) (chain-then d chain (opDrafts o) (joins x))) j q l₁ u₁ r l₂ u₂)
+      → ((x : Tree) → Meets ks us (λ s. bind (reads part d s) (chain-then d chain (opDrafts o) (joins x))) j q l₁ u₁ r
+      l₂ u₂)
       → Parses ks us m d i p l u r l₂ u₂
 
 abbrev pub GoingTerms : List ℕ → List ℕ → ℕ → ℕ → ℕ → List ℕ → List ℕ → ℕ → ℕ → ℕ → List ℕ → List ℕ → Type 0
@@ -212,18 +229,26 @@ abbrev pub GoingFactors : List ℕ → List ℕ → ℕ → ℕ → ℕ → List
 GoingFactors ks us = Going ks us term factor factors
 
 -- a term begins with its first factor
-pub term-first : {ks us : List ℕ} {d i p : ℕ} {l u : List ℕ} → Ready ks us i p l u → Going ks us term factor factors d i p l u 0 i p l u
+pub term-first : {ks us : List ℕ} {d i p : ℕ} {l u : List ℕ} → Ready ks us i p l u
+    → Going ks us term factor factors d i p l u 0 i p l u
 term-first {ks} {us} {d} {i} w =
     record {
       on = omega arith;
       long-kinds = refl;
       long-args = refl;
-      ready = record { even = w .even; within = w .within; room-kinds = omega (arith, w .room-kinds); room-args = omega (arith, w .room-args) };
+      ready =
+          record {
+            even = w .even;
+            within = w .within;
+            room-kinds = omega (arith, w .room-kinds);
+            room-args = omega (arith, w .room-args);
+          };
       joins = λ x y. y;
       whole = λ g. record { meets = meets-by (reads term d) (reads-term d (drop i (heldRow ks us))) (g time) };
     }
 
-module _ {ks us : List ℕ} {i p k s : ℕ} {l u : List ℕ} (o : ℕ) (w : Ready ks us i p l u) (ek : k ≡ getD ks i 0) (eo : opDrafts o ≡ signDrafts (addOp (mark k)))
+module _ {ks us : List ℕ} {i p k s : ℕ} {l u : List ℕ} (o : ℕ) (w : Ready ks us i p l u) (ek : k ≡ getD ks i 0)
+    (eo : opDrafts o ≡ signDrafts (addOp (mark k)))
     (es : s ≡ skipOf (addOp (mark k))) where
   -- the reading behind the sign
   signed-at : (d : ℕ) → reads expr d (drop i (heldRow ks us))
@@ -241,7 +266,13 @@ module _ {ks us : List ℕ} {i p k s : ℕ} {l u : List ℕ} (o : ℕ) (w : Read
         on = omega arith;
         long-kinds = refl;
         long-args = refl;
-        ready = record { even = w .even; within = n; room-kinds = omega (arith, w .room-kinds); room-args = omega (arith, w .room-args) };
+        ready =
+            record {
+              even = w .even;
+              within = n;
+              room-kinds = omega (arith, w .room-kinds);
+              room-args = omega (arith, w .room-args);
+            };
         joins = λ x. signed (addOp (mark k));
         whole = λ g. record { meets = meets-by (reads expr d) (signed-at d) (g time) };
       }
@@ -251,17 +282,25 @@ module _ {ks us : List ℕ} {m part : Mode} {chain : Tree → Mode} {d i p : ℕ
   part-ready : Ready ks us j q l₁ u₁
   part-ready =
       let w = z .ready in
-      record { even = w .even; within = w .within; room-kinds = omega (arith, w .room-kinds); room-args = omega (arith, w .room-args) }
+      record {
+        even = w .even;
+        within = w .within;
+        room-kinds = omega (arith, w .room-kinds);
+        room-args = omega (arith, w .room-args);
+      }
 
   -- the part can be called; t is the measure of the whole
-  pub part-enter : {t : ℕ} (g : ℕ) → g + 1 + 5 * (length ks - i) ≡ t → (g + 5 * (length ks - j) < t) × Ready ks us j q l₁ u₁
+  pub part-enter : {t : ℕ} (g : ℕ) → g + 1 + 5 * (length ks - i) ≡ t
+      → (g + 5 * (length ks - j) < t) × Ready ks us j q l₁ u₁
   part-enter g h = let a = z .on in (omega arith, part-ready)
 
   -- a part that stops stops the whole
-  pub part-stopped : {r : Part} {l₂ u₂ : List ℕ} → (r .code ≡ 0 → ⊥) → Parses ks us part d j q l₁ u₁ r l₂ u₂ → Parses ks us m d i p l u r l₂ u₂
+  pub part-stopped : {r : Part} {l₂ u₂ : List ℕ} → (r .code ≡ 0 → ⊥) → Parses ks us part d j q l₁ u₁ r l₂ u₂
+      → Parses ks us m d i p l u r l₂ u₂
   part-stopped e h = z .whole λ x. stops (chain-then d chain (opDrafts o) (z .joins x)) e h
 
-  module _ {j₁ q₁ : ℕ} {r : Part} {l₂ u₂ : List ℕ} (e : r ≡ passed j₁ q₁) (h : Parses ks us part d j q l₁ u₁ r l₂ u₂) where
+  module _ {j₁ q₁ : ℕ} {r : Part} {l₂ u₂ : List ℕ} (e : r ≡ passed j₁ q₁)
+      (h : Parses ks us part d j q l₁ u₁ r l₂ u₂) where
     -- there is room for the operator's draft
     pub op-room : (q₁ + length (opDrafts o) ≤ length l₂) × (q₁ + length (opDrafts o) ≤ length u₂)
     op-room =
@@ -291,11 +330,14 @@ module _ {ks us : List ℕ} {m part : Mode} {chain : Tree → Mode} {d i p : ℕ
           }
 
       -- what the chain gives from there on, the whole gives
-      op-whole : {r : Part} {l₄ u₄ : List ℕ} → ((x : Tree) → Parses ks us (chain x) d j₁ q₂ l₃ u₃ r l₄ u₄) → Parses ks us m d i p l u r l₄ u₄
+      op-whole : {r : Part} {l₄ u₄ : List ℕ} → ((x : Tree) → Parses ks us (chain x) d j₁ q₂ l₃ u₃ r l₄ u₄)
+          → Parses ks us m d i p l u r l₄ u₄
       op-whole g =
-          z .whole λ x. goes-on (chain-then d chain (opDrafts o) (z .joins x)) part-ready e h λ y. meets-op w (g (z .joins x y) .meets)
+          z .whole λ x. goes-on (chain-then d chain (opDrafts o) (z .joins x)) part-ready e h λ y. meets-op w
+          (g (z .joins x y) .meets)
 
-      module _ {look : Symbol → Op} (c : Chain look part chain) {k o₁ : ℕ} (ek : k ≡ getD ks j₁ 0) (eo : o₁ ≡ kindOp (look (mark k))) where
+      module _ {look : Symbol → Op} (c : Chain look part chain) {k o₁ : ℕ} (ek : k ≡ getD ks j₁ 0)
+          (eo : o₁ ≡ kindOp (look (mark k))) where
         -- no operator: the whole ends
         pub part-last : o₁ ≡ 0 → Parses ks us m d i p l u (passed j₁ q₂) l₃ u₃
         part-last n = op-whole λ x. chain-end c op-ready ek eo n x
@@ -319,7 +361,13 @@ module _ {ks us : List ℕ} {m part : Mode} {chain : Tree → Mode} {d i p : ℕ
                 on = omega arith;
                 long-kinds = op-long .0;
                 long-args = op-long .1;
-                ready = record { even = v .even; within = omega arith; room-kinds = omega (arith, v .room-kinds); room-args = omega (arith, v .room-args) };
+                ready =
+                    record {
+                      even = v .even;
+                      within = omega arith;
+                      room-kinds = omega (arith, v .room-kinds);
+                      room-args = omega (arith, v .room-args);
+                    };
                 joins = two (found c op-ready ek eo n .0);
                 whole = λ g. op-whole λ x. chain-by c op-ready ek eo n x (g x);
               }

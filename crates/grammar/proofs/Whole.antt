@@ -1,4 +1,5 @@
--- Statements: what is read is derived, and what is written are its drafts; where a fault is, what stands before it is the front of a statement.
+-- Statements: what is read is derived, and what is written are its drafts; where a fault is, what stands before it is
+-- the front of a statement.
 use Prim.Native.Nat.{ℕ, zero, suc, _≤_}
 use mathlib.Core.Path.{_≡_, refl}
 use mathlib.Core.List.{List, [], _∷_, _++_, append-assoc, append-nil}
@@ -8,12 +9,15 @@ use Rattle.tokens.specs.Symbol.{INTGRL, Symbol, mark, number, name, word}
 use Rattle.drafts.specs.Tree.{value, Constant, constantOf, Initial, plain, from, Says, constants, assignment, state}
 use Rattle.drafts.specs.Drafts.{Draft, draft, constantDrafts, initialDraft, draftsOf}
 use Rattle.grammar.specs.Look.{next, rest, Op, none, op, addOp, startOf}
-use Rattle.grammar.specs.Grammar.{expr, Signed, unsigned-number, signed-number, Many, one, more, Initially, of-number, of-name}
+use Rattle.grammar.specs.Grammar.{expr, Signed, unsigned-number, signed-number, Many, one, more, Initially}
+use Rattle.grammar.specs.Grammar.{of-number, of-name}
 use Rattle.grammar.specs.Grammar.{Derives, of-constants, of-assignment, of-state}
-use Rattle.grammar.specs.Parser.{Res, give, stop, tell, bind, byStart, byName, byNumber, byIntegral, need, behindSign, parse}
+use Rattle.grammar.specs.Parser.{Res, give, stop, tell, bind, byStart, byName, byNumber, byIntegral, need}
+use Rattle.grammar.specs.Parser.{behindSign, parse}
 use Rattle.grammar.specs.Parser.{signedValue, aNumber, signedNumber, onMore, valued, many, initially}
 use Rattle.grammar.specs.Parser.{assigned, rated, started, integrated, equated, statement, ended, entire}
-use Rattle.grammar.proofs.Endings.{Asked, Before, Out, out-mark, out-tell, out-give, out-stop, out-rest, out-bind, out-map, out-need}
+use Rattle.grammar.proofs.Endings.{Asked, Before, Out, out-mark, out-tell, out-give, out-stop, out-rest}
+use Rattle.grammar.proofs.Endings.{out-bind, out-map, out-need}
 use Rattle.grammar.proofs.Endings.{here-mark, Fronts, extend, behind, fresh}
 use Rattle.grammar.proofs.Looks.{add-here, start-cases}
 use Rattle.drafts.proofs.Postfix.{drafted-items}
@@ -21,12 +25,14 @@ use Rattle.grammar.proofs.Sound.{der-le, nought, zero-expr, sound}
 
 module _ {A : Type 0} (L : Asked A) (F : Before) where
   -- a name, or else
-  out-name : (s : List Symbol) (x : ℕ → Res A) (y : Unit {0} → Res A) → ((k : ℕ) → s ≡ name k ∷ rest s → Out L F s (x k)) → Out L F s (y tt)
+  out-name : (s : List Symbol) (x : ℕ → Res A) (y : Unit {0} → Res A)
+      → ((k : ℕ) → s ≡ name k ∷ rest s → Out L F s (x k)) → Out L F s (y tt)
       → Out L F s (byName (startOf (next s)) x y)
   out-name s x y g h = start-cases s (λ p. Out L F s (byName p x y)) (λ _ _. h) (λ _. h) g (λ _ _. h) h
 
   -- a number, or else
-  out-number : (s : List Symbol) (x : Float → Res A) (y : Unit {0} → Res A) → ((v : Float) → s ≡ number v ∷ rest s → Out L F s (x v)) → Out L F s (y tt)
+  out-number : (s : List Symbol) (x : Float → Res A) (y : Unit {0} → Res A)
+      → ((v : Float) → s ≡ number v ∷ rest s → Out L F s (x v)) → Out L F s (y tt)
       → Out L F s (byNumber (startOf (next s)) x y)
   out-number s x y g h = start-cases s (λ p. Out L F s (byNumber p x y)) (λ _ _. h) (λ _. h) (λ _ _. h) g h
 
@@ -41,9 +47,11 @@ abbrev pub NumberVia : ℕ → Before
 NumberVia d c w = Fronts (λ D. Signed) d c w
 
 -- a number behind its sign
-number-out : (L : Asked Float) (F : Before) (o : Op) (s : List Symbol) → ((x : Float) → L [] (number x ∷ []) (signedValue o x)) → F 18 []
+number-out : (L : Asked Float) (F : Before) (o : Op) (s : List Symbol)
+    → ((x : Float) → L [] (number x ∷ []) (signedValue o x)) → F 18 []
     → Out L F s (aNumber o s)
-number-out L F o s l p = out-number L F s _ _ (λ x q. out-rest L F s _ q (out-give _ _ (rest s) _ (l x))) (out-stop L F s p)
+number-out L F o s l p =
+    out-number L F s _ _ (λ x q. out-rest L F s _ q (out-give _ _ (rest s) _ (l x))) (out-stop L F s p)
 
 -- with a sign or without
 pub signed-out : (d : ℕ) (s : List Symbol) → Out Number (NumberVia d) s (signedNumber s)
@@ -51,10 +59,12 @@ unfolding signedNumber
 signed-out d s = go (addOp (next s)) refl
   where
     go : (o : Op) → addOp (next s) ≡ o → Out Number (NumberVia d) s (aNumber o (behindSign o s))
-    go none e = number-out _ _ none s (λ x. (unsigned-number, refl)) (fresh [] λ D le. (number nought ∷ [], _, unsigned-number))
+    go none e =
+        number-out _ _ none s (λ x. (unsigned-number, refl)) (fresh [] λ D le. (number nought ∷ [], _, unsigned-number))
     go (op o) e =
         out-rest _ _ s _ (add-here s o e)
-        (number-out _ _ (op o) (rest s) (λ x. (signed-number e, refl)) (fresh (next s ∷ []) λ D le. (number nought ∷ [], _, signed-number e)))
+        (number-out _ _ (op o) (rest s) (λ x. (signed-number e, refl))
+        (fresh (next s ∷ []) λ D le. (number nought ∷ [], _, signed-number e)))
 
 -- ---- constants
 
@@ -73,14 +83,16 @@ zero-many d = fresh [] λ D le. (_, _, one {k = 0} (unsigned-number {x = nought}
 -- behind a constant's value: a comma and more, or nothing
 more-out : (d : ℕ) (go : List Symbol → Res (List Constant)) → ((s : List Symbol) → Out Consts (ConstsVia d) s (go s))
     → (k : ℕ) (w : List Symbol) (o : List Draft) (x : Float) (t : List Symbol) → Number o w x
-    → Out (λ o′ v. Consts (o ++ o′) (name k ∷ mark 61 ∷ (w ++ v))) (λ c v. ConstsVia d c (name k ∷ mark 61 ∷ (w ++ v))) t
+    → Out (λ o′ v. Consts (o ++ o′) (name k ∷ mark 61 ∷ (w ++ v)))
+    (λ c v. ConstsVia d c (name k ∷ mark 61 ∷ (w ++ v))) t
     (tell (constantDrafts (constantOf k x)) (onMore go (constantOf k x) t))
 unfolding concat-map
 more-out d go ih k w o x t r =
     out-tell _ _ (constantDrafts (constantOf k x)) t _
     (out-mark _ _ 43 t _ _
     (λ m. out-rest _ _ t _ (here-mark t 43 m)
-    (out-map _ _ (rest t) (go (rest t)) (λ cs. constantOf k x ∷ cs) (ih (rest t)) (λ o′ v cs z. (more (r .0) (z .0), rw (r .1, z .1)))
+    (out-map _ _ (rest t) (go (rest t)) (λ cs. constantOf k x ∷ cs) (ih (rest t))
+    (λ o′ v cs z. (more (r .0) (z .0), rw (r .1, z .1)))
     λ c v z. rw append-assoc at (behind {H = λ D. Many} (name k ∷ mark 61 ∷ (w ++ mark 44 ∷ []))
     (λ D u cs le a. (constantOf k x ∷ cs, rw append-assoc (more (r .0) a))) v z)))
     (out-give _ _ t (constantOf k x ∷ []) (rw (append-nil w) (one (r .0), rw (r .1)))))
@@ -114,7 +126,8 @@ pub initially-out : (d : ℕ) (s : List Symbol) → Out Init (InitVia d) s (init
 unfolding initially
 initially-out d s =
     out-name _ _ s _ _ (λ k q. out-rest _ _ s _ q (out-give _ _ (rest s) (from k) (of-name, refl)))
-    (out-map _ _ s (signedNumber s) plain (signed-out d s) (λ o w x r. (of-number (r .0), r .1)) λ c. behind [] λ D w x le r. (plain x, of-number r))
+    (out-map _ _ s (signedNumber s) plain (signed-out d s) (λ o w x r. (of-number (r .0), r .1)) λ c.
+    behind [] λ D w x le r. (plain x, of-number r))
 
 -- ---- statements
 
@@ -140,7 +153,8 @@ zero-state k a = of-state a zero-expr
 
 module _ (f d k : ℕ) where
   -- an expression behind name =
-  assigned-out : (s : List Symbol) → Out (λ o w. Stated d o (assigns k w)) (λ c w. StatedVia d c (assigns k w)) s (assigned f d k s)
+  assigned-out : (s : List Symbol) → Out (λ o w. Stated d o (assigns k w)) (λ c w. StatedVia d c (assigns k w)) s
+      (assigned f d k s)
   unfolding assigned
   assigned-out s =
       out-bind _ _ s (parse f expr d s) _ (sound f expr d s tt)
@@ -157,13 +171,16 @@ module _ (f d k : ℕ) where
       (λ o′ v e t z. out-need _ _ 40 t (λ u. tell (draft 14 k ∷ []) (give (state k i e) u))
       (λ m. out-tell _ _ (draft 14 k ∷ []) (rest t) _
       (out-give _ _ (rest t) (state k i e) (of-state (r .0) (z .0), rw (r .1, z .1, drafted-items e))))
-      (rw (append-nil v) (fresh (integral k (w ++ mark 44 ∷ v)) λ D le. (mark 41 ∷ [], state k i e, rw append-assoc (of-state (r .0) (der-le (z .0) D le))))))
+      (rw (append-nil v)
+      (fresh (integral k (w ++ mark 44 ∷ v)) λ D le.
+      (mark 41 ∷ [], state k i e, rw append-assoc (of-state (r .0) (der-le (z .0) D le))))))
       λ c v z. rw append-assoc at (extend {H = Derives} (integral k (w ++ mark 44 ∷ []))
       (λ D v e le a. (mark 41 ∷ [], state k i e, rw append-assoc (of-state (r .0) a))) v z)
 
   -- behind name = INTGRL
   integrated-out : (s : List Symbol)
-      → Out (λ o w. Stated d o (name k ∷ mark 61 ∷ word INTGRL ∷ w)) (λ c w. StatedVia d c (name k ∷ mark 61 ∷ word INTGRL ∷ w)) s (integrated f d k s)
+      → Out (λ o w. Stated d o (name k ∷ mark 61 ∷ word INTGRL ∷ w))
+      (λ c w. StatedVia d c (name k ∷ mark 61 ∷ word INTGRL ∷ w)) s (integrated f d k s)
   unfolding integrated
   integrated-out s =
       out-need _ _ 39 s (started f d k)
@@ -172,10 +189,12 @@ module _ (f d k : ℕ) where
       (out-need _ _ 43 t (rated f d k i) (λ m. rated-out w o i (rest t) r)
       (rw (append-nil w) (fresh (integral k w) λ D le. (_, _, zero-state k (r .0))))))
       λ c. extend (integral k []) λ D w i le r. (_, _, zero-state k r))
-      (fresh (name k ∷ mark 61 ∷ word INTGRL ∷ []) λ D le. (_, _, zero-state k {w = number nought ∷ []} (of-number unsigned-number)))
+      (fresh (name k ∷ mark 61 ∷ word INTGRL ∷ []) λ D le.
+      (_, _, zero-state k {w = number nought ∷ []} (of-number unsigned-number)))
 
   -- behind name =
-  equated-out : (s : List Symbol) → Out (λ o w. Stated d o (assigns k w)) (λ c w. StatedVia d c (assigns k w)) s (equated f d k s)
+  equated-out : (s : List Symbol) → Out (λ o w. Stated d o (assigns k w)) (λ c w. StatedVia d c (assigns k w)) s
+      (equated f d k s)
   equated-out s =
       let plainly = assigned-out s in
       start-cases s
@@ -187,13 +206,16 @@ module _ (f d k : ℕ) where
 pub statement-out : (f d : ℕ) (s : List Symbol) → Out (Stated d) (StatedVia d) s (statement f d s)
 unfolding statement
 statement-out f d s =
-    let nothing : Out (Stated d) (StatedVia d) s (stop 18 s) = out-stop _ _ s (fresh [] λ D le. (_, _, of-assignment {k = 0} zero-expr)) in
+    let nothing : Out (Stated d) (StatedVia d) s (stop 18 s) =
+    out-stop _ _ s (fresh [] λ D le. (_, _, of-assignment {k = 0} zero-expr)) in
     start-cases s
     (λ p. Out (Stated d) (StatedVia d) s
-    (byStart p (λ _. bind (many f (rest s)) λ cs t. give (constants cs) t) (λ _. stop 18 s) (λ k. need 61 (rest s) (equated f d k)) (λ _. stop 18 s)
+    (byStart p (λ _. bind (many f (rest s)) λ cs t. give (constants cs) t) (λ _. stop 18 s)
+    (λ k. need 61 (rest s) (equated f d k)) (λ _. stop 18 s)
     (λ _. stop 18 s)))
     (λ e q. out-rest _ _ s _ q
-    (out-map _ _ (rest s) (many f (rest s)) constants (many-out f d (rest s)) (λ o w cs r. (of-constants e (r .0), r .1))
+    (out-map _ _ (rest s) (many f (rest s)) constants (many-out f d (rest s))
+    (λ o w cs r. (of-constants e (r .0), r .1))
     λ c. behind (next s ∷ []) λ D w cs le r. (constants cs, of-constants e r)))
     (λ _. nothing)
     (λ k q. out-rest _ _ s _ q
@@ -215,4 +237,5 @@ entire-out f d s = out-bind _ _ s (statement f d s) ended (statement-out f d s) 
     end : (o : List Draft) (w : List Symbol) (x : Says) (t : List Symbol) → Stated d o w x
         → Out (λ o′ v. Stated d (o ++ o′) (w ++ v)) (λ c v. StatedVia d c (w ++ v)) t (ended x t)
     end o w x [] q = out-give _ _ [] x (rw (append-nil o, append-nil w) q)
-    end o w x (t ∷ s) q = out-stop _ _ (t ∷ s) (rw (append-nil w) (fresh w λ D le. ([], x, rw (append-nil w) (stated-le (q .0) D le))))
+    end o w x (t ∷ s) q =
+        out-stop _ _ (t ∷ s) (rw (append-nil w) (fresh w λ D le. ([], x, rw (append-nil w) (stated-le (q .0) D le))))

@@ -18,7 +18,8 @@ use Rattle.grammar.specs.declared.Parsed.the-variants.{Done, Fault, NoRo
 use Rattle.drafts.specs.Kinds.{kindNumber}
 use Rattle.drafts.specs.Drafts.{Draft, draft, initialDraft}
 use Rattle.grammar.specs.Grammar.{Mode}
-use Rattle.grammar.specs.Parser.{End, got, bad, Res, reads, signedNumber, many, initially, entire, calls, Read, read, fault, readRow}
+use Rattle.grammar.specs.Parser.{End, got, bad, Res, reads, signedNumber, many, initially, entire, calls, Read}
+use Rattle.grammar.specs.Parser.{read, fault, readRow}
 
 -- an answer and the two buffers
 pub record ParseOutcome (R : Type 0) : Type 0 where
@@ -56,7 +57,8 @@ rowWrote row p l u =
     let o = entire (calls row) levels row .out in
     wrote (parsedAs (p + length o) (readRow row)) o p l u
 
--- where the arguments are not as many as the kinds, or a buffer has no room for as many drafts as there are tokens, nothing is written
+-- where the arguments are not as many as the kinds, or a buffer has no room for as many drafts as there are tokens,
+-- nothing is written
 unfoldable pub rowOutcome : List ℕ → List ℕ → List ℕ → List ℕ → ℕ → ParseOutcome Parsed
 rowOutcome ks us l u p =
     cond (eqb (length us) (length ks) && (leb (p + length ks) (length l) && leb (p + length ks) (length u)))
@@ -81,7 +83,8 @@ pub record Within (ks us : List ℕ) (i : ℕ) : Type 0 where
   pub even : length us ≡ length ks
   pub within : i ≤ length ks
 
--- a part that has passed, with the places of the next token and of the next draft; and one that stops with the code c at the token's place i
+-- a part that has passed, with the places of the next token and of the next draft; and one that stops with the code c
+-- at the token's place i
 abbrev pub passed : ℕ → ℕ → Part
 passed i q = record { code = 0; next = i; place = q }
 
@@ -97,7 +100,8 @@ abbrev pub partWrote : {A : Type 0} → ℕ → Res A → ℕ → List ℕ → L
 partWrote n x p l u = wrote (partOf n (p + length (x .out)) (x .end)) (x .out) p l u
 
 -- what it gives: the answer and the buffers are those of the reader x at place i
-pub record Meets {A : Type 0} (ks us : List ℕ) (x : List Symbol → Res A) (i p : ℕ) (l u : List ℕ) (r : Part) (l′ u′ : List ℕ) : Type 0 where
+pub record Meets {A : Type 0} (ks us : List ℕ) (x : List Symbol → Res A) (i p : ℕ) (l u : List ℕ) (r : Part)
+    (l′ u′ : List ℕ) : Type 0 where
   pub same : parseOutcome r l′ u′ ≡ partWrote (length ks) (x (drop i (heldRow ks us))) p l u
 
 -- what a member of the cycle gives, in its mode and with d levels still allowed
@@ -114,7 +118,8 @@ valueOf f n (got e t) = let x : Draft = f e in Found (x .kind) (x .arg) (n - len
 valueOf f n (bad c t) = Missing (n - length t)
 
 abbrev pub numberAt : List ℕ → List ℕ → ℕ → Value
-numberAt ks us i = valueOf (λ x. draft kindNumber (toBits binary64 x)) (length ks) (signedNumber (drop i (heldRow ks us)) .end)
+numberAt ks us i =
+    valueOf (λ x. draft kindNumber (toBits binary64 x)) (length ks) (signedNumber (drop i (heldRow ks us)) .end)
 
 abbrev pub initialAt : List ℕ → List ℕ → ℕ → Value
 initialAt ks us i = valueOf initialDraft (length ks) (initially (drop i (heldRow ks us)) .end)

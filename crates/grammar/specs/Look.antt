@@ -1,11 +1,14 @@
--- What a token can be at its place: the next one of a row, an operator, what begins a factor, what begins a statement or a part of one.
+-- What a token can be at its place: the next one of a row, an operator, what begins a factor, what begins a statement
+-- or a part of one.
 use Prim.Native.Nat.{ℕ}
 use mathlib.Core.Bool.{Bool, true, false, cond}
 use mathlib.Core.List.{List, [], _∷_}
 use lib.Dec.{eqb}
 use lib.Ieee.{Float}
-use Rattle.tokens.specs.Symbol.{Word, CONST, PARAM, INCON, INTGRL, TIME, INSW, LIMIT, COMPAR, Symbol, mark, number, name, word}
-use Rattle.drafts.specs.Tree.{Two, plus, minus, times, over, compar, Three, insw, limit, Tree, value, named, time, negated, two, three}
+use Rattle.tokens.specs.Symbol.{CONST, PARAM, INCON, INTGRL, TIME, INSW, LIMIT, COMPAR, Symbol, mark, number, name}
+use Rattle.tokens.specs.Symbol.{word}
+use Rattle.drafts.specs.Tree.{Two, plus, minus, times, over, compar, Three, insw, limit, Tree, value, named, time}
+use Rattle.drafts.specs.Tree.{negated, two, three}
 
 -- past the last token stands the mark 0, which begins nothing and continues nothing
 unfoldable pub next : List Symbol → Symbol

@@ -1,5 +1,5 @@
--- What the faults 18 and 19 mean: the first token at which no statement of the grammar can go on (or the early end), 18, or an opening
--- that the grammar allows but goes to level 17, 19.
+-- What the faults 18 and 19 mean: the first token at which no statement of the grammar can go on (or the early end),
+-- 18, or an opening that the grammar allows but goes to level 17, 19.
 use Prim.Native.Nat.{ℕ, suc, _+_, _≤_, _<_}
 use mathlib.Core.Path.{_≡_}
 use mathlib.Core.List.{List, [], _∷_, _++_}
@@ -10,7 +10,8 @@ use Rattle.drafts.specs.Tree.{Says}
 use Rattle.grammar.specs.Look.{Opening, Call, shapeOf}
 use Rattle.grammar.specs.Grammar.{Derives}
 
--- the tokens w are the front of a statement with at most d levels; a statement without limit is one with some count of levels
+-- the tokens w are the front of a statement with at most d levels; a statement without limit is one with some count of
+-- levels
 pub record Front (d : ℕ) (w : List Symbol) : Type 0 where
   pub behind : List Symbol
   pub says : Says
@@ -27,8 +28,9 @@ pub record TooDeep (row : List Symbol) (i : ℕ) : Type 0 where
   pub allowed : Front (suc levels) (take (i + 1) row)
   pub no-more : Front levels (take (i + 1) row) → ⊥
 
--- at place i no statement can go on: what stands before it is the front of one, within the levels but for a function's name that wants
--- one more; with the token there it is the front of none, whatever the levels; and the row is none (at its end that is all)
+-- at place i no statement can go on: what stands before it is the front of one, within the levels but for a function's
+-- name that wants one more; with the token there it is the front of none, whatever the levels; and the row is none (at
+-- its end that is all)
 pub record Wrong (row : List Symbol) (i : ℕ) : Type 0 where
   pub within : i ≤ length row
   pub before : Front (suc levels) (take i row)

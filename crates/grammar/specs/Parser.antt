@@ -6,16 +6,20 @@ use lib.ListN.{length}
 use lib.Dec.{eqb}
 use lib.Ieee.{Float, neg}
 use Rattle.limits.specs.Limits.{levels}
-use Rattle.tokens.specs.Symbol.{Symbol, mark}
-use Rattle.drafts.specs.Tree.{Two, Three, Tree, two, Constant, constantOf, Initial, plain, from, Says, constants, assignment, state, compar}
+use Rattle.tokens.specs.Symbol.{Symbol}
+use Rattle.drafts.specs.Tree.{Two, Tree, two, Constant, constantOf, Initial, plain, from, Says, constants, assignment}
+use Rattle.drafts.specs.Tree.{state, compar}
 use Rattle.drafts.specs.Kinds.{kindInitial, kindTwo, kindNegate, kindThree, kindStore, kindRate}
 use Rattle.drafts.specs.Drafts.{Draft, draft, drafted, constantDrafts, initialDraft}
-use Rattle.grammar.specs.Look.{next, rest, byteOf, Op, none, op, addOp, mulOp, isMinus, signed, Given, whole, wants, give-to}
+use Rattle.grammar.specs.Look.{next, rest, byteOf, Op, none, op, addOp, mulOp, isMinus, signed, Given, whole}
+use Rattle.grammar.specs.Look.{wants, give-to}
 use Rattle.grammar.specs.Look.{Opening, group, pair, pair-of, triple, triple-of, triple-of-two}
-use Rattle.grammar.specs.Look.{Shape, Leaf, Paren, Call, NoFactor, shapeOf, Start, Constants, Integral, Named, Valued, Other, startOf}
+use Rattle.grammar.specs.Look.{Shape, Leaf, Paren, Call, NoFactor, shapeOf, Start, Constants, Integral, Named}
+use Rattle.grammar.specs.Look.{Valued, Other, startOf}
 use Rattle.grammar.specs.Grammar.{Mode, expr, term, factor, terms, factors, opened, list}
 
--- how reading ends: with what was read and the tokens left; or with a fault's code and the tokens left, the fault's first
+-- how reading ends: with what was read and the tokens left; or with a fault's code and the tokens left, the fault's
+-- first
 pub data End (A : Type 0) : Type 0 where
   got : A → List Symbol → End A
   bad : ℕ → List Symbol → End A
@@ -52,7 +56,8 @@ abbrev pub byOp : {A : Type 0} → Op → (Unit {0} → Res A) → (Two → Res 
 byOp none x y = x tt
 byOp (op o) x y = y o
 
-abbrev pub byShape : {A : Type 0} → Shape → (Tree → Res A) → (Unit {0} → Res A) → (Opening → Res A) → (Unit {0} → Res A) → Res A
+abbrev pub byShape : {A : Type 0} → Shape → (Tree → Res A) → (Unit {0} → Res A) → (Opening → Res A) → (Unit {0} → Res A)
+    → Res A
 byShape (Leaf e) x p y z = x e
 byShape Paren x p y z = p tt
 byShape (Call o) x p y z = y o
@@ -91,10 +96,12 @@ step call expr d s =
     let o = addOp (next s) in
     bind (call term d (behindSign o s)) λ e t. tell (signDrafts o) (call (terms (signed o e)) d t)
 step call (terms l) d s =
-    byOp (addOp (next s)) (λ _. give l s) λ o. bind (call term d (rest s)) λ e t. tell (draft (kindTwo o) 0 ∷ []) (call (terms (two o l e)) d t)
+    byOp (addOp (next s)) (λ _. give l s) λ o. bind (call term d (rest s)) λ e t. tell (draft (kindTwo o) 0 ∷ [])
+    (call (terms (two o l e)) d t)
 step call term d s = bind (call factor d s) λ e t. call (factors e) d t
 step call (factors l) d s =
-    byOp (mulOp (next s)) (λ _. give l s) λ o. bind (call factor d (rest s)) λ e t. tell (draft (kindTwo o) 0 ∷ []) (call (factors (two o l e)) d t)
+    byOp (mulOp (next s)) (λ _. give l s) λ o. bind (call factor d (rest s)) λ e t. tell (draft (kindTwo o) 0 ∷ [])
+    (call (factors (two o l e)) d t)
 step call factor d s =
     byShape (shapeOf (next s))
     (λ e. tell (drafted e) (give e (rest s)))
@@ -112,7 +119,8 @@ unfoldable pub parse : ℕ → Mode → ℕ → List Symbol → Res Tree
 parse zero m d s = stop 18 s
 parse (suc f) m d s = step (parse f) m d s
 
--- every call reads a token or is followed, within four, by one that does: `rank` and five for each token bound the calls
+-- every call reads a token or is followed, within four, by one that does: `rank` and five for each token bound the
+-- calls
 abbrev pub rank : Mode → ℕ
 rank expr = 3
 rank term = 2
@@ -168,7 +176,8 @@ many (suc f) s = byName (startOf (next s)) (λ k. need 61 (rest s) (valued (many
 
 -- an initial
 unfoldable pub initially : List Symbol → Res Initial
-initially s = byName (startOf (next s)) (λ k. give (from k) (rest s)) (λ _. bind (signedNumber s) λ x t. give (plain x) t)
+initially s =
+    byName (startOf (next s)) (λ k. give (from k) (rest s)) (λ _. bind (signedNumber s) λ x t. give (plain x) t)
 
 -- behind name =: an expression; behind INTGRL: an initial, and the expression of the rate
 unfoldable pub assigned : ℕ → ℕ → ℕ → List Symbol → Res Says
@@ -208,7 +217,8 @@ entire f d s = bind (statement f d s) ended
 abbrev pub calls : List Symbol → ℕ
 calls row = 4 + 5 * length row
 
--- the answer for a row of tokens: what it says; or a fault's code and the place of its token, the row's count for an early end
+-- the answer for a row of tokens: what it says; or a fault's code and the place of its token, the row's count for an
+-- early end
 pub data Read : Type 0 where
   read : Says → Read
   fault : ℕ → ℕ → Read

@@ -16,8 +16,8 @@ use super::faces::sign_op;
 use super::faces::skip_of;
 use bits::reads::byte_at;
 
-// How reading a part ends: code 0 and the places of the next token and of the next draft; or a fault's code, its token's place, and 0.
-// The fields are of one width, so that no bytes lie between them.
+// How reading a part ends: code 0 and the places of the next token and of the next draft; or a fault's code, its
+// token's place, and 0. The fields are of one width, so that no bytes lie between them.
 pub struct Part {
     pub code: usize,
     pub next: usize,
@@ -27,7 +27,8 @@ pub struct Part {
 // Writes a draft.
 pub(crate) fn emit(drafts: &mut [u8], values: &mut [u64], place: usize, kind: u8, arg: u64)
     requires { ⌜ (place < length (now drafts)) × (place < length (now values)) ⌝ }
-    ensures { λ _. ⌜ (now (drafts .exit) ≡ set (now (drafts .entry)) place kind) × (now (values .exit) ≡ set (now (values .entry)) place arg) ⌝ }
+    ensures { λ _. ⌜ (now (drafts .exit) ≡ set (now (drafts .entry)) place kind)
+        × (now (values .exit) ≡ set (now (values .entry)) place arg) ⌝ }
 {
     drafts[place] = kind;
     values[place] = arg;
@@ -35,8 +36,10 @@ pub(crate) fn emit(drafts: &mut [u8], values: &mut [u64], place: usize, kind: u8
 
 // Writes the draft of an operator, if there is one; the place behind it.
 pub(crate) fn put_op(drafts: &mut [u8], values: &mut [u64], place: usize, op: u8) -> usize
-    requires { ⌜ (place + length (opDrafts op) ≤ length (now drafts)) × (place + length (opDrafts op) ≤ length (now values)) ⌝ }
-    ensures { λ r. ⌜ PutsOp op place (now (drafts .entry)) (now (values .entry)) r (now (drafts .exit)) (now (values .exit)) ⌝ }
+    requires { ⌜ (place + length (opDrafts op) ≤ length (now drafts))
+        × (place + length (opDrafts op) ≤ length (now values)) ⌝ }
+    ensures { λ r. ⌜ PutsOp op place (now (drafts .entry)) (now (values .entry)) r (now (drafts .exit))
+        (now (values .exit)) ⌝ }
 {
     if op == 0 {
         return place;
@@ -45,7 +48,8 @@ pub(crate) fn put_op(drafts: &mut [u8], values: &mut [u64], place: usize, op: u8
     place + 1
 }
 
-// An expression: a sign or none, a term, and more terms, each behind + or -. Behind each term stands the draft of what stands before it.
+// An expression: a sign or none, a term, and more terms, each behind + or -. Behind each term stands the draft of what
+// stands before it.
 pub(crate) fn expression(
     kinds: &[u8],
     args: &[u64],
@@ -187,7 +191,8 @@ pub(crate) fn opened(
     place: usize,
 ) -> Part
     requires { ⌜ (getD (now kinds) at 0 ≡ 40) × Ready (now kinds) (now args) at place (now drafts) (now values) ⌝ }
-    ensures { λ r. ⌜ ((o : Opening) → wantOf o ≡ count → kindOpening o ≡ kind → Parses (now (kinds .entry)) (now (args .entry)) (opened o) allowed at place
+    ensures { λ r. ⌜ ((o : Opening) → wantOf o ≡ count → kindOpening o ≡ kind
+        → Parses (now (kinds .entry)) (now (args .entry)) (opened o) allowed at place
         (now (drafts .entry)) (now (values .entry)) r (now (drafts .exit)) (now (values .exit))) ⌝ }
 {
     if allowed == 0 {
@@ -223,7 +228,8 @@ pub(crate) fn items(
     place: usize,
 ) -> Part
     requires { ⌜ Ready (now kinds) (now args) at place (now drafts) (now values) ⌝ }
-    ensures { λ r. ⌜ ((o : Opening) → wantOf o ≡ count → kindOpening o ≡ kind → Parses (now (kinds .entry)) (now (args .entry)) (list o) allowed at place
+    ensures { λ r. ⌜ ((o : Opening) → wantOf o ≡ count → kindOpening o ≡ kind
+        → Parses (now (kinds .entry)) (now (args .entry)) (list o) allowed at place
         (now (drafts .entry)) (now (values .entry)) r (now (drafts .exit)) (now (values .exit))) ⌝ }
 {
     let mut i = at;

@@ -69,7 +69,8 @@ pub(crate) fn closer_of(count: usize) -> u8
     if count <= 1 { b')' } else { b',' }
 }
 
-// What a token begins as a factor: one draft; parentheses; a function of so many expressions with its draft behind them; nothing.
+// What a token begins as a factor: one draft; parentheses; a function of so many expressions with its draft behind
+// them; nothing.
 pub enum Face {
     One { kind: u8 },
     Group,

@@ -36,7 +36,8 @@ pub fn parse_row(
     out_args: &mut [u64],
     place: usize,
 ) -> Parsed
-    ensures { λ r. ⌜ ParsesRow (now (kinds .entry)) (now (args .entry)) (now («out_kinds» .entry)) (now («out_args» .entry)) place
+    ensures { λ r. ⌜ ParsesRow (now (kinds .entry)) (now (args .entry)) (now («out_kinds» .entry))
+        (now («out_args» .entry)) place
         r (now («out_kinds» .exit)) (now («out_args» .exit)) ⌝ }
 {
     let n = kinds.len();

@@ -19,31 +19,37 @@ pub concat-concat : {A B C : Type 0} (f : B → List C) (g : A → List B) (l : 
     → concat-map f (concat-map g l) ≡ concat-map (λ (a : A). concat-map f (g a)) l
 unfolding concat-map
 concat-concat f g [] = refl
-concat-concat f g (a ∷ l) = concat-append f (g a) (concat-map g l) ∙ ap (λ r. concat-map f (g a) ++ r) (concat-concat f g l)
+concat-concat f g (a ∷ l) =
+    concat-append f (g a) (concat-map g l) ∙ ap (λ r. concat-map f (g a) ++ r) (concat-concat f g l)
 
 -- .. with f of each member
-pub map-concat : {A B C : Type 0} (f : B → C) (g : A → List B) (l : List A) → map f (concat-map g l) ≡ concat-map (λ (a : A). map f (g a)) l
+pub map-concat : {A B C : Type 0} (f : B → C) (g : A → List B) (l : List A)
+    → map f (concat-map g l) ≡ concat-map (λ (a : A). map f (g a)) l
 unfolding concat-map
 map-concat f g [] = refl
 map-concat f g (a ∷ l) = map-append f (g a) (concat-map g l) ∙ ap (λ r. map f (g a) ++ r) (map-concat f g l)
 
 -- a row made of mapped members
-pub concat-mapped : {A B C : Type 0} (f : B → List C) (g : A → B) (l : List A) → concat-map f (map g l) ≡ concat-map (λ (a : A). f (g a)) l
+pub concat-mapped : {A B C : Type 0} (f : B → List C) (g : A → B) (l : List A)
+    → concat-map f (map g l) ≡ concat-map (λ (a : A). f (g a)) l
 unfolding concat-map
 concat-mapped f g [] = refl
 concat-mapped f g (a ∷ l) = ap (λ r. f (g a) ++ r) (concat-mapped f g l)
 
 -- two functions that agree make the same row
-pub concat-same : {A B : Type 0} (f g : A → List B) → ((a : A) → f a ≡ g a) → (l : List A) → concat-map f l ≡ concat-map g l
+pub concat-same : {A B : Type 0} (f g : A → List B) → ((a : A) → f a ≡ g a) → (l : List A)
+    → concat-map f l ≡ concat-map g l
 unfolding concat-map
 concat-same f g e [] = refl
 concat-same f g e (a ∷ l) = ap₂ _++_ (e a) (concat-same f g e l)
 
 -- it is enough that they agree on the members
-pub concat-same-in : {B : Type 0} (f g : ℕ → List B) (l : List ℕ) → ((a : ℕ) → a ∈ l → f a ≡ g a) → concat-map f l ≡ concat-map g l
+pub concat-same-in : {B : Type 0} (f g : ℕ → List B) (l : List ℕ) → ((a : ℕ) → a ∈ l → f a ≡ g a)
+    → concat-map f l ≡ concat-map g l
 unfolding concat-map count
 concat-same-in f g [] e = refl
-concat-same-in f g (a ∷ l) e = ap₂ _++_ (e a (omega (arith, count-cons-same a l))) (concat-same-in f g l (λ b h. e b (omega arith)))
+concat-same-in f g (a ∷ l) e =
+    ap₂ _++_ (e a (omega (arith, count-cons-same a l))) (concat-same-in f g l (λ b h. e b (omega arith)))
 
 -- a function that gives nothing makes an empty row
 pub concat-none : {A B : Type 0} (f : A → List B) → ((a : A) → f a ≡ []) → (l : List A) → concat-map f l ≡ []
@@ -65,11 +71,13 @@ same-at f g (a ∷ x) (b ∷ y) d e p zero h = cc
 same-at f g (a ∷ x) (b ∷ y) d e p (suc i) h = same-at f g x y d e (let q : map f x ≡ map g y = cc in q) i (omega arith)
 
 -- and as long as one another
-pub same-length : {A B C : Type 0} (f : A → C) (g : B → C) (x : List A) (y : List B) → map f x ≡ map g y → length x ≡ length y
+pub same-length : {A B C : Type 0} (f : A → C) (g : B → C) (x : List A) (y : List B) → map f x ≡ map g y
+    → length x ≡ length y
 same-length f g x y p = sym (length-map x f) ∙ ap length p ∙ length-map y g
 
 -- what stands at a place of a row made by f, whatever is read past the end
-pub at-map : {A B : Type 0} (f : A → B) (l : List A) (d : A) (e : B) (i : ℕ) → i < length l → getD (map f l) i e ≡ f (getD l i d)
+pub at-map : {A B : Type 0} (f : A → B) (l : List A) (d : A) (e : B) (i : ℕ) → i < length l
+    → getD (map f l) i e ≡ f (getD l i d)
 at-map f [] d e i h = absurd (omega arith)
 at-map f (a ∷ l) d e zero h = refl
 at-map f (a ∷ l) d e (suc i) h = at-map f l d e i (omega arith)

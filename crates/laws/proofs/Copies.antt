@@ -22,7 +22,8 @@ module _ (row old : List ℕ) (at : ℕ) where
   copied-first = record { long = refl; same = rw add-zero }
 
   -- one more is copied
-  pub copied-next : (now : List ℕ) (i : ℕ) → i < length row → Copied row old now at i → Copied row old (set now (at + i) (getD row i 0)) at (i + 1)
+  pub copied-next : (now : List ℕ) (i : ℕ) → i < length row → Copied row old now at i
+      → Copied row old (set now (at + i) (getD row i 0)) at (i + 1)
   copied-next now i h c =
       record {
         long = length-set now (at + i) (getD row i 0) ∙ c .long;
@@ -30,7 +31,8 @@ module _ (row old : List ℕ) (at : ℕ) where
       }
 
   -- all are copied, or all for which there is a place
-  pub copied-last : (now : List ℕ) (i : ℕ) → min (length old - at) (length row) ≤ i → Copied row old now at i → now ≡ sets old at row
+  pub copied-last : (now : List ℕ) (i : ℕ) → min (length old - at) (length row) ≤ i → Copied row old now at i
+      → now ≡ sets old at row
   copied-last now i h c = ⊎-elim part whole (lt-or-ge i (length row))
     where
       whole : length row ≤ i → now ≡ sets old at row

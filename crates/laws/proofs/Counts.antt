@@ -1,12 +1,12 @@
 -- Laws of counts and membership.
-use Prim.Native.Nat.{ℕ, zero, suc, _+_, _≤_, _<_}
+use Prim.Native.Nat.{ℕ, zero, suc, _+_, _<_}
 use mathlib.Core.Path.{_≡_, refl, sym}
-use mathlib.Core.Bool.{Bool, true, false}
+use mathlib.Core.Bool.{true, false}
 use mathlib.Core.Logic.{⊎-elim}
 use mathlib.Core.List.{List, [], _∷_, _++_}
 use native.Mathlib.Omega.{arith}
 use borrow.Author.Tests.{ltb-true, ltb-false, eq-eqb, ne-eqb}
-use lib.Dec.{ltb, eqb}
+use lib.Dec.{eqb}
 use lib.ListN.{length, getD, take}
 use Rattle.laws.specs.Counts.{once, count, _∈_, has}
 use Rattle.laws.proofs.Tests.{eq-or-ne}
@@ -47,4 +47,5 @@ place-of i zero l h = absurd (omega arith)
 place-of i (suc p) [] h = absurd (omega arith)
 place-of i (suc p) (a ∷ l) h =
     ⊎-elim (λ e. (0, omega arith, omega arith, sym e))
-    (λ d. let r = place-of i p l (omega (arith, once-other i a d)) in (suc (r .0), omega arith, omega arith, r .3)) (eq-or-ne i a)
+    (λ d. let r = place-of i p l (omega (arith, once-other i a d)) in (suc (r .0), omega arith, omega arith, r .3))
+    (eq-or-ne i a)

@@ -63,7 +63,8 @@ every-mapped P Q f g [] a = tt
 every-mapped P Q f g (e ∷ l) a = (g e (a .0), every-mapped P Q f g l (a .1))
 
 -- of rows of any members
-pub every-part : {A B : Type 0} (Q : B → Type 0) (f : A → List B) → ((a : A) → Every Q (f a)) → (l : List A) → Every Q (concat-map f l)
+pub every-part : {A B : Type 0} (Q : B → Type 0) (f : A → List B) → ((a : A) → Every Q (f a)) → (l : List A)
+    → Every Q (concat-map f l)
 unfolding concat-map
 every-part Q f g [] = tt
 every-part Q f g (e ∷ l) = every-append Q (f e) (concat-map f l) (g e) (every-part Q f g l)

@@ -44,7 +44,8 @@ any-none f (suc k) i e j a b = go (f i) refl e (λ e. any-none f k (suc i) e j)
 pub none-any : (f : ℕ → Bool) (k i : ℕ) → ((j : ℕ) → i ≤ j → j < i + k → f j ≡ false) → anyIn f k i ≡ false
 unfolding anyIn
 none-any f zero i h = refl
-none-any f (suc k) i h = rw (h i (omega arith) (omega arith)) (none-any f k (suc i) (λ j a b. h j (omega arith) (omega arith)))
+none-any f (suc k) i h =
+    rw (h i (omega arith) (omega arith)) (none-any f k (suc i) (λ j a b. h j (omega arith) (omega arith)))
 
 -- ---- what the places from i on, before n, give
 module _ {A : Type 0} (f : ℕ → List A) where
@@ -72,13 +73,15 @@ module _ {A : Type 0} (f : ℕ → List A) where
       let k = i - a in
       let e : (i + 1) - a ≡ k + 1 = omega arith in
       let z : a + k ≡ i = omega arith in
-      ap (λ (n : ℕ). gather f n a) e ∙ gather-add k 1 a ∙ ap (λ (r : List A). gather f k a ++ r) (append-nil (f (a + k)) ∙ ap f z)
+      ap (λ (n : ℕ). gather f n a) e ∙ gather-add k 1 a
+      ∙ ap (λ (r : List A). gather f k a ++ r) (append-nil (f (a + k)) ∙ ap f z)
 
   -- nothing, where each place gives nothing
   pub gather-none : (k i : ℕ) → ((j : ℕ) → i ≤ j → j < i + k → f j ≡ []) → gather f k i ≡ []
   unfolding gather
   gather-none zero i h = refl
-  gather-none (suc k) i h = rw (h i (omega arith) (omega arith)) (gather-none k (suc i) (λ j a b. h j (omega arith) (omega arith)))
+  gather-none (suc k) i h =
+      rw (h i (omega arith) (omega arith)) (gather-none k (suc i) (λ j a b. h j (omega arith) (omega arith)))
 
   -- a row of at most one at each place
   pub gather-short : ((i : ℕ) → length (f i) ≤ 1) → (k i : ℕ) → length (gather f k i) ≤ k
@@ -87,13 +90,15 @@ module _ {A : Type 0} (f : ℕ → List A) where
   gather-short h (suc k) i = omega (arith, length-append (f i) (gather f k (suc i)), h i, gather-short h k (suc i))
 
 -- two that agree at each place
-pub gather-same : {A : Type 0} (f g : ℕ → List A) (k i : ℕ) → ((j : ℕ) → i ≤ j → j < i + k → f j ≡ g j) → gather f k i ≡ gather g k i
+pub gather-same : {A : Type 0} (f g : ℕ → List A) (k i : ℕ) → ((j : ℕ) → i ≤ j → j < i + k → f j ≡ g j)
+    → gather f k i ≡ gather g k i
 unfolding gather
 gather-same f g zero i h = refl
 gather-same f g (suc k) i h =
     ap₂ _++_ (h i (omega arith) (omega arith)) (gather-same f g k (suc i) (λ j a b. h j (omega arith) (omega arith)))
 
--- ---- a loop that writes what f gives, one after the other, from place w₀ on: it stands at place i, and has written up to w
+-- ---- a loop that writes what f gives, one after the other, from place w₀ on: it stands at place i, and has written up
+-- to w
 pub record Writes {A : Type 0} (f : ℕ → List A) (n a i w₀ w : ℕ) (buf₀ buf : List A) : Type 0 where
   pub long : length buf ≡ length buf₀
   pub left : w + length (gather f (n - i) i) ≡ w₀ + length (gather f (n - a) a)
@@ -103,7 +108,8 @@ pub writes-first : {A : Type 0} (f : ℕ → List A) (n a w : ℕ) (buf : List A
 writes-first f n a w buf = record { long = refl; left = refl; same = refl }
 
 module _ {A : Type 0} {f : ℕ → List A} {n a i w₀ w : ℕ} {buf₀ buf : List A} where
-  pub writes-next : Writes f n a i w₀ w buf₀ buf → i < n → (r : ℕ) (last : List A) → r ≡ w + length (f i) → last ≡ sets buf w (f i)
+  pub writes-next : Writes f n a i w₀ w buf₀ buf → i < n → (r : ℕ) (last : List A) → r ≡ w + length (f i)
+      → last ≡ sets buf w (f i)
       → Writes f n a (i + 1) w₀ r buf₀ last
   writes-next v h r last p q =
       let rest = gather f (n - (i + 1)) (i + 1) in

@@ -22,7 +22,8 @@ in-has j l h = lt-ltb 0 (count j l) h
 pub has-append : (j : ℕ) (x y : List ℕ) → has j (x ++ y) ≡ (has j x || has j y)
 has-append j x y =
     ⊎-elim (λ t. rw t (in-has j (x ++ y) (omega (arith, has-true j x t, count-append j x y))))
-    (λ t. let e : count j (x ++ y) ≡ count j y = omega (arith, has-false j x t, count-append j x y) in rw t (ap (λ n. ltb 0 n) e)) (bool-cases (has j x))
+    (λ t. let e : count j (x ++ y) ≡ count j y = omega (arith, has-false j x t, count-append j x y) in rw t
+    (ap (λ n. ltb 0 n) e)) (bool-cases (has j x))
 
 -- .. of a row of one
 pub has-one : (j a : ℕ) → has j (a ∷ []) ≡ eqb j a
@@ -50,7 +51,8 @@ below-append n x y p q j h =
     ⊎-elim (λ l. p j l) (λ g. q j (omega (arith, count-append j x y))) (lt-or-ge 0 (count j x))
 
 -- .. of each part of a row
-pub below-concat : {A : Type 0} (n : ℕ) (f : A → List ℕ) → ((a : A) → Below n (f a)) → (l : List A) → Below n (concat-map f l)
+pub below-concat : {A : Type 0} (n : ℕ) (f : A → List ℕ) → ((a : A) → Below n (f a)) → (l : List A)
+    → Below n (concat-map f l)
 unfolding concat-map count
 below-concat n f p [] = λ j h. absurd (omega arith)
 below-concat n f p (a ∷ l) = below-append n (f a) (concat-map f l) (p a) (below-concat n f p l)
@@ -67,5 +69,6 @@ unfolding count
 below-only n a = go (ltb a n) refl
   where
     go : (b : Bool) → ltb a n ≡ b → Below n (onlyIf b a)
-    go true t j h = ⊎-elim (λ (e : j ≡ a). rw e (ltb-true a n t)) (λ e. absurd (omega (arith, once-other j a e))) (eq-or-ne j a)
+    go true t j h =
+        ⊎-elim (λ (e : j ≡ a). rw e (ltb-true a n t)) (λ e. absurd (omega (arith, once-other j a e))) (eq-or-ne j a)
     go false t j h = absurd (omega arith)

@@ -8,7 +8,7 @@ use native.Mathlib.Numerals.{add-one}
 use native.Mathlib.Omega.{arith}
 use borrow.Author.Tests.{eq-eqb}
 use lib.Dec.{eqb}
-use lib.ListN.{length, getD, take, drop, length-drop, drop-of-length-le, List·getD-eq-default}
+use lib.ListN.{length, getD, drop, length-drop, drop-of-length-le, List·getD-eq-default}
 use lib.Seq.{drop-cons}
 use Rattle.laws.specs.Runs.{run}
 use Rattle.laws.proofs.Tests.{bool-cases, not-both, lt-or-ge, cond-ind}
@@ -16,7 +16,8 @@ use Rattle.laws.proofs.Tests.{bool-cases, not-both, lt-or-ge, cond-ind}
 module _ (p : ℕ → Bool) (s : List ℕ) (i : ℕ) where
   -- a member that passes, where 0 does not, stands before the end
   pub inside : p 0 ≡ false → p (getD s i 0) ≡ true → i < length s
-  inside z h = ⊎-elim (λ l. l) (λ g. absurd (not-both h (ap p (List·getD-eq-default s 0 g) ∙ z))) (lt-or-ge i (length s))
+  inside z h =
+      ⊎-elim (λ l. l) (λ g. absurd (not-both h (ap p (List·getD-eq-default s 0 g) ∙ z))) (lt-or-ge i (length s))
 
   -- a member that passes is the first of the run
   pub run-more : p 0 ≡ false → p (getD s i 0) ≡ true → run p (drop i s) ≡ getD s i 0 ∷ run p (drop (i + 1) s)
@@ -29,7 +30,8 @@ module _ (p : ℕ → Bool) (s : List ℕ) (i : ℕ) where
   run-stop h = ⊎-elim (λ l. rw (drop-cons s i 0 l, h)) (λ g. rw (drop-of-length-le s g)) (lt-or-ge i (length s))
 
   -- the same, of the place behind the run
-  pub run-len : p 0 ≡ false → p (getD s i 0) ≡ true → i + length (run p (drop i s)) ≡ i + 1 + length (run p (drop (i + 1) s))
+  pub run-len : p 0 ≡ false → p (getD s i 0) ≡ true
+      → i + length (run p (drop i s)) ≡ i + 1 + length (run p (drop (i + 1) s))
   run-len z h = omega (arith, ap length (run-more z h))
 
   pub run-end : p (getD s i 0) ≡ false → i + length (run p (drop i s)) ≡ i
@@ -45,24 +47,19 @@ module _ (p : ℕ → Bool) where
   unfolding run
   run-short [] = zero-le
   run-short (x ∷ xs) =
-      cond-ind (λ (l : List ℕ). length l ≤ length (x ∷ xs)) (p x) (x ∷ run p xs) [] (λ _. suc-le-suc (run-short xs)) (λ _. zero-le)
+      cond-ind (λ (l : List ℕ). length l ≤ length (x ∷ xs)) (p x) (x ∷ run p xs) [] (λ _. suc-le-suc (run-short xs))
+      (λ _. zero-le)
 
   -- so the place behind it is not past the end
   pub run-room : (s : List ℕ) (i : ℕ) → i ≤ length s → i + length (run p (drop i s)) ≤ length s
   run-room s i h = omega (arith, run-short (drop i s), length-drop i s)
 
-  -- a run is a front part of its list
-  pub run-take : (xs : List ℕ) → take (length (run p xs)) xs ≡ run p xs
-  unfolding run
-  run-take [] = refl
-  run-take (x ∷ xs) =
-      cond-ind (λ (l : List ℕ). take (length l) (x ∷ xs) ≡ l) (p x) (x ∷ run p xs) [] (λ _. ap (λ (l : List ℕ). x ∷ l) (run-take xs)) (λ _. refl)
-
   -- all members of a run pass: it is its own run
   pub run-run : (xs : List ℕ) → run p (run p xs) ≡ run p xs
   unfolding run
   run-run [] = refl
-  run-run (x ∷ xs) = cond-ind (λ (l : List ℕ). run p l ≡ l) (p x) (x ∷ run p xs) [] (λ t. rw t (ap (λ (l : List ℕ). x ∷ l) (run-run xs))) (λ _. refl)
+  run-run (x ∷ xs) = cond-ind (λ (l : List ℕ). run p l ≡ l) (p x) (x ∷ run p xs) []
+      (λ t. rw t (ap (λ (l : List ℕ). x ∷ l) (run-run xs))) (λ _. refl)
 
   -- where all members pass, the first does, and so do the others
   pub all-pass : (x : ℕ) (xs : List ℕ) → run p (x ∷ xs) ≡ x ∷ xs → (p x ≡ true) × (run p xs ≡ xs)

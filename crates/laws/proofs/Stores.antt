@@ -9,7 +9,8 @@ use lib.ListN.{length, getD, set}
 use Rattle.laws.specs.Counts.{once, count}
 
 -- what stood there is lost, what was written is won
-pub count-set : (j a : ℕ) (l : List ℕ) (i : ℕ) → i < length l → count j (set l i a) + once (eqb j (getD l i 0)) ≡ count j l + once (eqb j a)
+pub count-set : (j a : ℕ) (l : List ℕ) (i : ℕ) → i < length l
+    → count j (set l i a) + once (eqb j (getD l i 0)) ≡ count j l + once (eqb j a)
 unfolding count
 count-set j a [] i h = absurd (omega arith)
 count-set j a (b ∷ l) zero h = omega arith

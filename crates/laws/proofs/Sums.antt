@@ -7,7 +7,7 @@ use native.Mathlib.Nat.{zero-mul, suc-mul, eq-or-lt-of-le}
 use native.Mathlib.Omega.{arith}
 use lib.ListN.{length, length-append}
 use Rattle.laws.specs.Lists.{concat-map, numbers}
-use Rattle.laws.specs.Counts.{once, count}
+use Rattle.laws.specs.Counts.{count}
 use Rattle.laws.proofs.Tests.{lt-or-ge}
 use Rattle.laws.proofs.Counts.{once-same, once-other, count-cons-same}
 use Rattle.laws.proofs.Members.{Below}
@@ -44,7 +44,9 @@ weigh-below : (f : ℕ → ℕ) (a : ℕ) (l : List ℕ) (n : ℕ) → a < n →
 unfolding weigh
 weigh-below f a l zero h = absurd (omega arith)
 weigh-below f a l (suc n) h =
-    ⊎-elim (λ (e : a ≡ n). rw (← e, count-cons-same a l, suc-mul (count a l) (f a), weigh-above f a l a (omega arith)) (omega arith))
+    ⊎-elim
+    (λ (e : a ≡ n). rw (← e, count-cons-same a l, suc-mul (count a l) (f a), weigh-above f a l a (omega arith))
+    (omega arith))
     (λ g. rw (count-other n a l (λ e. omega arith), weigh-below f a l n g) (omega arith)) (eq-or-lt-of-le (omega arith))
 
 -- where all are below n, that is the sum
@@ -52,7 +54,8 @@ sum-weigh : (f : ℕ → ℕ) (n : ℕ) (l : List ℕ) → Below n l → sumOf f
 unfolding sumOf count
 sum-weigh f n [] b = sym (weigh-nil f n)
 sum-weigh f n (a ∷ l) b =
-    ap (λ s. f a + s) (sum-weigh f n l (λ j h. b j (omega arith))) ∙ sym (weigh-below f a l n (b a (omega (arith, once-same a))))
+    ap (λ s. f a + s) (sum-weigh f n l (λ j h. b j (omega arith)))
+    ∙ sym (weigh-below f a l n (b a (omega (arith, once-same a))))
 
 -- it goes by the counts alone
 weigh-same : (f : ℕ → ℕ) (x y : List ℕ) (n : ℕ) → ((i : ℕ) → i < n → count i x ≡ count i y) → weigh f x n ≡ weigh f y n

@@ -21,7 +21,8 @@ pub eq-or-ne : (a b : ℕ) → (a ≡ b) ⊎ (a ≡ b → ⊥)
 eq-or-ne a b = ⊎-elim (λ t. inl (eqb-true a b t)) (λ t. inr (eqb-false a b t)) (bool-cases (eqb a b))
 
 -- what holds of each case holds of a choice
-pub cond-ind : {A : Type 0} (P : A → Type 0) (b : Bool) (x y : A) → (b ≡ true → P x) → (b ≡ false → P y) → P (cond b x y)
+pub cond-ind : {A : Type 0} (P : A → Type 0) (b : Bool) (x y : A) → (b ≡ true → P x) → (b ≡ false → P y)
+    → P (cond b x y)
 cond-ind P true x y f g = f refl
 cond-ind P false x y f g = g refl
 

@@ -1,6 +1,6 @@
 -- Rows of places: i, i + 1, .., k of them.
 use Prim.Native.Nat.{ℕ, zero, suc}
-use mathlib.Core.Bool.{Bool, true, false, cond, _||_}
+use mathlib.Core.Bool.{Bool, true, false, _||_}
 use mathlib.Core.List.{List, [], _∷_, _++_}
 
 -- what f gives at each of the k places from i on, one after the other

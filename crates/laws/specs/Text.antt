@@ -1,6 +1,6 @@
 -- A quoted text as the list of its bytes (texts of ASCII alone).
 use Prim.Native.Nat.{ℕ}
-use Prim.Native.Char.{Char, code}
+use Prim.Native.Char.{code}
 use Prim.Native.String.{String, [] as none, _∷_ as _◂_}
 use mathlib.Core.List.{List, [], _∷_}
 

@@ -57,7 +57,8 @@ module _ {kinds args keys₀ places₀ : List ℕ} {d i : ℕ} {keys places : Li
     (v : Collecting kinds args keys₀ places₀ d i keys places) where
   -- one draft further on
   pub collecting-next : {key r : ℕ} {keys′ places′ : List ℕ} → i < length kinds → key ≡ getD args i 0
-      → Noted (getD kinds i 0) key i d r keys keys′ places places′ → Collecting kinds args keys₀ places₀ r (i + 1) keys′ places′
+      → Noted (getD kinds i 0) key i d r keys keys′ places places′
+      → Collecting kinds args keys₀ places₀ r (i + 1) keys′ places′
   collecting-next {key} {r} {keys′} {places′} h e noting =
       let named : Put (definedAt kinds args i) d r keys keys′ = rw e at (noting .named) in
       let placed = noting .placed in

@@ -34,8 +34,10 @@ module _ (bounds kinds : List ℕ) (j : ℕ) where
 
   module _ (slots : List ℕ) {kind : ℕ} (k : kind ≡ lastKind bounds kinds j) where
     -- the slot of a store, and 0 of anything else
-    pub assigned-store : {s last : ℕ} → kind ≡ kindStore → s ≡ getD slots last 0 → last ≡ ends bounds j - 1 → s ≡ assignedSlot bounds kinds slots j
-    assigned-store e p l = rw (eq-eqb (lastKind bounds kinds j) kindStore (sym k ∙ e)) (p ∙ ap (λ (i : ℕ). getD slots i 0) l)
+    pub assigned-store : {s last : ℕ} → kind ≡ kindStore → s ≡ getD slots last 0 → last ≡ ends bounds j - 1
+        → s ≡ assignedSlot bounds kinds slots j
+    assigned-store e p l =
+        rw (eq-eqb (lastKind bounds kinds j) kindStore (sym k ∙ e)) (p ∙ ap (λ (i : ℕ). getD slots i 0) l)
 
     pub assigned-none : (kind ≡ kindStore → ⊥) → 0 ≡ assignedSlot bounds kinds slots j
     assigned-none n = rw (ne-eqb (lastKind bounds kinds j) kindStore (λ e. n (k ∙ e)))
@@ -49,13 +51,17 @@ module _ (owners : List ℕ) (kind slot w : ℕ) where
     pub use-none : (used : List ℕ) → owner ≡ 0 → Put (usedHere owners kind slot) w w used used
     use-none used z = rw (eq-eqb kind kindFetch e) (put-none _ _ w used (le-ltb 0 (getD owners slot 0) (omega arith)))
 
-    pub use-one : {used used′ : List ℕ} → (owner ≡ 0 → ⊥) → used′ ≡ set used w (owner - 1) → Put (usedHere owners kind slot) w (w + 1) used used′
+    pub use-one : {used used′ : List ℕ} → (owner ≡ 0 → ⊥) → used′ ≡ set used w (owner - 1)
+        → Put (usedHere owners kind slot) w (w + 1) used used′
     use-one {used} {used′} n c =
         let some : 0 < getD owners slot 0 = omega (arith, lt-or-zero) in
-        rw (eq-eqb kind kindFetch e) (put-one _ _ w (lt-ltb 0 (getD owners slot 0) some) (c ∙ ap (λ (x : ℕ). set used w (x - 1)) o))
+        rw (eq-eqb kind kindFetch e)
+        (put-one _ _ w (lt-ltb 0 (getD owners slot 0) some) (c ∙ ap (λ (x : ℕ). set used w (x - 1)) o))
       where
         lt-or-zero : 0 < owner
-        lt-or-zero = ⊎-elim (λ (l : 0 < owner). l) (λ (g : owner ≤ 0). absurd (n (let z : owner ≡ 0 = omega arith in z))) (lt-or-ge 0 owner)
+        lt-or-zero =
+            ⊎-elim (λ (l : 0 < owner). l) (λ (g : owner ≤ 0). absurd (n (let z : owner ≡ 0 = omega arith in z)))
+            (lt-or-ge 0 owner)
 
 -- ---- the numbers at which a test holds, listed: the loop stands at j, with c of them written
 pub record Listing (f : ℕ → Bool) (n j c : ℕ) (rows₀ rows : List ℕ) : Type 0 where
@@ -64,13 +70,16 @@ pub record Listing (f : ℕ → Bool) (n j c : ℕ) (rows₀ rows : List ℕ) : 
   pub written : Writes (λ i. onlyIf (f i) i) n 0 j 0 c rows₀ rows
 
 pub listing-first : (f : ℕ → Bool) (n : ℕ) (rows : List ℕ) → Listing f n 0 0 rows rows
-listing-first f n rows = record { within = omega arith; few = omega arith; written = writes-first (λ i. onlyIf (f i) i) n 0 0 rows }
+listing-first f n rows =
+    record { within = omega arith; few = omega arith; written = writes-first (λ i. onlyIf (f i) i) n 0 0 rows }
 
 module _ {f : ℕ → Bool} {n j c : ℕ} {rows₀ rows : List ℕ} (v : Listing f n j c rows₀ rows) where
-  pub listing-next : {b : Bool} {r : ℕ} {rows′ : List ℕ} → j < n → b ≡ f j → Put (onlyIf b j) c r rows rows′ → Listing f n (j + 1) r rows₀ rows′
+  pub listing-next : {b : Bool} {r : ℕ} {rows′ : List ℕ} → j < n → b ≡ f j → Put (onlyIf b j) c r rows rows′
+      → Listing f n (j + 1) r rows₀ rows′
   listing-next {b} {r} {rows′} h e put =
       let behind : r ≡ c + length (onlyIf (f j) j) = put .behind ∙ ap (λ (t : Bool). c + length (onlyIf t j)) e in
-      let content : rows′ ≡ sets rows c (onlyIf (f j) j) = put .written ∙ ap (λ (t : Bool). sets rows c (onlyIf t j)) e in
+      let content : rows′ ≡ sets rows c (onlyIf (f j) j) =
+      put .written ∙ ap (λ (t : Bool). sets rows c (onlyIf t j)) e in
       record {
         within = omega arith;
         few = omega (arith, v .few, behind, only-length (f j) j);

@@ -29,7 +29,8 @@ fault-put line code c {stands} {list} {list′} t e =
     let one = ap (sets list (faultBytes * c)) (sym (append-nil (entryOf line code))) in
     rw t (record { behind = refl; written = e ∙ one })
 
-pub fault-none : (line code c : ℕ) (stands : Bool) (list : List ℕ) → stands ≡ false → Reported (faultIf stands line code) c c list list
+pub fault-none : (line code c : ℕ) (stands : Bool) (list : List ℕ) → stands ≡ false
+    → Reported (faultIf stands line code) c c list list
 unfolding faultList concat-map
 fault-none line code c stands list t = rw t (record { behind = omega arith; written = refl })
 
@@ -42,9 +43,17 @@ pub record Reports (f : ℕ → List Fault) (n i c : ℕ) (list₀ list : List �
   pub left : c + length (gather f (n - i) i) ≡ length (gather f n 0)
   pub same : sets list (faultBytes * c) (faultList (gather f (n - i) i)) ≡ sets list₀ 0 (faultList (gather f n 0))
 
-pub reports-first : (f : ℕ → List Fault) (n : ℕ) (list : List ℕ) → ((j : ℕ) → length (f j) ≤ 1) → Reports f n 0 0 list list
+pub reports-first : (f : ℕ → List Fault) (n : ℕ) (list : List ℕ) → ((j : ℕ) → length (f j) ≤ 1)
+    → Reports f n 0 0 list list
 reports-first f n list one =
-    record { single = one; within = omega arith; few = omega arith; long = refl; left = rw sub-zero (omega arith); same = rw sub-zero refl }
+    record {
+      single = one;
+      within = omega arith;
+      few = omega arith;
+      long = refl;
+      left = rw sub-zero (omega arith);
+      same = rw sub-zero refl;
+    }
 
 module _ {f : ℕ → List Fault} {n i c : ℕ} {list₀ list : List ℕ} (v : Reports f n i c list₀ list) where
   -- a turn that reports one fault, or none
@@ -53,15 +62,18 @@ module _ {f : ℕ → List Fault} {n i c : ℕ} {list₀ list : List ℕ} (v : R
   reports-next {fs} {r} {list′} h e put =
       let w : Reported (f i) c r list list′ = rw e at put in
       let rest = gather f (n - (i + 1)) (i + 1) in
-      let at : faultBytes * r ≡ faultBytes * c + length (faultList (f i)) = omega (arith, w .behind, list-length (f i)) in
-      let step : faultList (gather f (n - i) i) ≡ faultList (f i) ++ faultList rest = ap faultList (gather-step f n i h) ∙ list-append (f i) rest in
+      let at : faultBytes * r ≡ faultBytes * c + length (faultList (f i)) =
+      omega (arith, w .behind, list-length (f i)) in
+      let step : faultList (gather f (n - i) i) ≡ faultList (f i) ++ faultList rest =
+      ap faultList (gather-step f n i h) ∙ list-append (f i) rest in
       record {
         single = v .single;
         within = omega arith;
         few = omega (arith, v .few, w .behind, v .single i);
         long = ap length (w .written) ∙ length-sets list (faultBytes * c) (faultList (f i)) ∙ v .long;
         left = omega (arith, v .left, w .behind, ap length (gather-step f n i h), length-append (f i) rest);
-        same = rw (w .written, at, ← (sets-append list (faultBytes * c) (faultList (f i)) (faultList rest)), ← step) (v .same);
+        same = rw (w .written, at, ← (sets-append list (faultBytes * c) (faultList (f i)) (faultList rest)), ← step)
+            (v .same);
       }
 
   pub reports-last : n ≤ i → Reported (gather f n 0) 0 c list₀ list

@@ -1,7 +1,7 @@
 -- Places of names among the keys, and keys that stand once.
 use Prim.Native.Nat.{ℕ, zero, suc, _+_, _≤_, _<_}
 use mathlib.Core.Path.{_≡_, refl, sym, ap, _∙_}
-use mathlib.Core.Bool.{Bool, true, false, not, _||_}
+use mathlib.Core.Bool.{Bool, true, false, not}
 use mathlib.Core.Logic.{⊎-elim}
 use mathlib.Core.List.{List, [], _∷_, _++_, map, append-assoc}
 use native.Mathlib.Omega.{arith}
@@ -12,13 +12,14 @@ use lib.Ieee.{nan}
 use Rattle.laws.specs.Lists.{concat-map}
 use Rattle.laws.specs.Counts.{once, count, _∈_, has}
 use Rattle.laws.proofs.Bools.{or-false}
-use Rattle.laws.proofs.Tests.{bool-cases, not-both, eq-or-ne, lt-or-ge, cond-ind}
+use Rattle.laws.proofs.Tests.{bool-cases, eq-or-ne, lt-or-ge, cond-ind}
 use Rattle.laws.proofs.Counts.{count-append, once-same, once-other, has-true, has-false}
 use Rattle.laws.proofs.Concats.{map-append, none-left}
 use Rattle.laws.proofs.Members.{at-in}
 use Rattle.drafts.specs.Tree.{value}
 use Rattle.sheet.specs.Sheet.{Numbered}
-use Rattle.model.specs.Definitions.{What, constant, assigned, integral, Def, defined, definedBy, definitions, keys, placeIn, Equation, equationOf}
+use Rattle.model.specs.Definitions.{What, constant, assigned, integral, Def, defined, definedBy, definitions}
+use Rattle.model.specs.Definitions.{keys, placeIn, Equation, equationOf}
 use Rattle.model.specs.Definitions.{equations, noEquation, equationAt}
 use Rattle.model.specs.Faults.{faultIf, again, faults21, constantKey, constantKeys}
 use Rattle.model.proofs.StatementDrafts.{kindOfWhat}
@@ -40,7 +41,8 @@ pub place-at : (k : ℕ) (l : List ℕ) → placeIn k l < length l → getD l (p
 unfolding placeIn
 place-at k [] = λ h. absurd (omega arith)
 place-at k (a ∷ l) =
-    cond-ind (λ r. r < suc (length l) → getD (a ∷ l) r 0 ≡ k) (eqb k a) 0 (suc (placeIn k l)) (λ t h. sym (eqb-true k a t))
+    cond-ind (λ r. r < suc (length l) → getD (a ∷ l) r 0 ≡ k) (eqb k a) 0 (suc (placeIn k l))
+    (λ t h. sym (eqb-true k a t))
     (λ t h. place-at k l (omega arith))
 
 -- a number that has a place stands in the list
@@ -61,7 +63,8 @@ place-of-at (a ∷ l) d zero h = rw (eq-eqb a a refl)
 place-of-at (a ∷ l) d (suc i) h =
     let m = at-in l i (omega arith) in
     ⊎-elim (λ (e : getD l i 0 ≡ a). let n : a ∈ l = rw e at m in absurd (omega (arith, d a, once-same a)))
-    (λ e. rw (ne-eqb (getD l i 0) a e) (ap suc (place-of-at l (λ k. omega (arith, d k)) i (omega arith)))) (eq-or-ne (getD l i 0) a)
+    (λ e. rw (ne-eqb (getD l i 0) a e) (ap suc (place-of-at l (λ k. omega (arith, d k)) i (omega arith))))
+    (eq-or-ne (getD l i 0) a)
 
 -- .. and no two places hold the same
 pub at-same : (l : List ℕ) → Once l → (i j : ℕ) → i < length l → j < length l → getD l i 0 ≡ getD l j 0 → i ≡ j
@@ -75,7 +78,8 @@ slot-past k l =
   where
     missing : has k l ≡ false → length l < suc (placeIn k l)
     missing t =
-        ⊎-elim (λ h. absurd (omega (arith, placed-in k l h, has-false k l t))) (λ h. omega arith) (lt-or-ge (placeIn k l) (length l))
+        ⊎-elim (λ h. absurd (omega (arith, placed-in k l h, has-false k l t))) (λ h. omega arith)
+        (lt-or-ge (placeIn k l) (length l))
 
 -- ---- the keys of equations
 abbrev keysBy : List Equation → List ℕ
@@ -86,7 +90,8 @@ equationKeys ds = keysBy (equations ds)
 
 -- a definition is a constant's or an equation's
 count-one : (j l k : ℕ) (w : What) (cs : List ℕ) (es : List Equation)
-    → count j (constantKey k w ++ cs) + count j (keysBy (equationOf l k w ++ es)) ≡ once (eqb j k) + (count j cs + count j (keysBy es))
+    → count j (constantKey k w ++ cs) + count j (keysBy (equationOf l k w ++ es))
+    ≡ once (eqb j k) + (count j cs + count j (keysBy es))
 unfolding count
 count-one j l k (constant x) cs es = omega arith
 count-one j l k (assigned t) cs es = omega arith
@@ -96,7 +101,8 @@ count-one j l k (integral i t) cs es = omega arith
 pub count-keys : (j : ℕ) (ds : List Def) → count j (keys ds) ≡ count j (constantKeys ds) + count j (equationKeys ds)
 unfolding count concat-map
 count-keys j [] = omega arith
-count-keys j (d ∷ ds) = omega (arith, count-keys j ds, count-one j (d .line) (d .key) (d .what) (constantKeys ds) (equations ds))
+count-keys j (d ∷ ds) =
+    omega (arith, count-keys j ds, count-one j (d .line) (d .key) (d .what) (constantKeys ds) (equations ds))
 
 -- the key of equation i
 pub key-at : (ds : List Def) (i : ℕ) → getD (equationKeys ds) i 0 ≡ equationAt ds i .key
@@ -122,7 +128,8 @@ not-again seen (a ∷ ks) e d k =
     (λ q. omega (arith, count-append j seen (a ∷ []), d j, once-other j a q)) (eq-or-ne j a)) k)
 
 -- .. from statement to statement
-once-from : (ss : List Numbered) (seen : List ℕ) → faults21 seen ss ≡ [] → Once seen → Once (seen ++ keys (definitions ss))
+once-from : (ss : List Numbered) (seen : List ℕ) → faults21 seen ss ≡ [] → Once seen
+    → Once (seen ++ keys (definitions ss))
 unfolding faults21 concat-map count
 once-from [] seen e d k = omega (arith, count-append k seen [], d k)
 once-from (s ∷ ss) seen e d k =
@@ -160,27 +167,33 @@ unfolding placeIn
 definition-first x ds k e = rw (eq-eqb k (x .key) e)
 
 -- that of another name stands among the others
-pub definition-later : (x : Def) (ds : List Def) (k : ℕ) → (k ≡ x .key → ⊥) → definitionOf (x ∷ ds) k ≡ definitionOf ds k
+pub definition-later : (x : Def) (ds : List Def) (k : ℕ) → (k ≡ x .key → ⊥)
+    → definitionOf (x ∷ ds) k ≡ definitionOf ds k
 unfolding placeIn
 definition-later x ds k e = rw (ne-eqb k (x .key) e)
 
 -- a name stands among the constants' exactly if its definition is a constant's
-pub constant-at : (ds : List Def) → Once (keys ds) → (k : ℕ) → k ∈ keys ds → has k (constantKeys ds) ≡ isConstant (definitionOf ds k .what)
+pub constant-at : (ds : List Def) → Once (keys ds) → (k : ℕ) → k ∈ keys ds
+    → has k (constantKeys ds) ≡ isConstant (definitionOf ds k .what)
 unfolding concat-map count
 constant-at [] d k h = absurd (omega arith)
 constant-at (x ∷ ds) d k h =
     ⊎-elim (λ (e : k ≡ x .key). rw (definition-first x ds k e) (same e (x .what)))
-    (λ e. rw (definition-later x ds k e) (other e (x .what) ∙ constant-at ds (λ j. omega (arith, d j)) k (omega (arith, once-other k (x .key) e))))
+    (λ e. rw (definition-later x ds k e)
+    (other e (x .what) ∙ constant-at ds (λ j. omega (arith, d j)) k (omega (arith, once-other k (x .key) e))))
     (eq-or-ne k (x .key))
   where
     same : k ≡ x .key → (w : What) → has k (constantKey (x .key) w ++ constantKeys ds) ≡ isConstant w
     same e (constant v) = rw (eq-eqb k (x .key) e) (lt-ltb 0 (1 + count k (constantKeys ds)) (omega arith))
-    same e (assigned t) = le-ltb 0 (count k (constantKeys ds)) (omega (arith, d k, rw (eq-eqb k (x .key) e) at (d k), count-keys k ds))
-    same e (integral i t) = le-ltb 0 (count k (constantKeys ds)) (omega (arith, d k, rw (eq-eqb k (x .key) e) at (d k), count-keys k ds))
+    same e (assigned t) =
+        le-ltb 0 (count k (constantKeys ds)) (omega (arith, d k, rw (eq-eqb k (x .key) e) at (d k), count-keys k ds))
+    same e (integral i t) =
+        le-ltb 0 (count k (constantKeys ds)) (omega (arith, d k, rw (eq-eqb k (x .key) e) at (d k), count-keys k ds))
 
     other : (k ≡ x .key → ⊥) → (w : What) → has k (constantKey (x .key) w ++ constantKeys ds) ≡ has k (constantKeys ds)
     other e (constant v) =
-        let z : count k (x .key ∷ constantKeys ds) ≡ count k (constantKeys ds) = omega (arith, once-other k (x .key) e) in
+        let z : count k (x .key ∷ constantKeys ds) ≡ count k (constantKeys ds) =
+        omega (arith, once-other k (x .key) e) in
         ap (λ n. ltb 0 n) z
     other e (assigned t) = refl
     other e (integral i t) = refl

@@ -35,26 +35,22 @@ pub place-le : (k : ℕ) (l : List ℕ) → placeIn k l ≤ length l
 unfolding placeIn
 place-le k [] = omega arith
 place-le k (a ∷ l) =
-    cond-ind (λ (r : ℕ). r ≤ suc (length l)) (eqb k a) 0 (suc (placeIn k l)) (λ _. omega arith) (λ _. omega (arith, place-le k l))
+    cond-ind (λ (r : ℕ). r ≤ suc (length l)) (eqb k a) 0 (suc (placeIn k l)) (λ _. omega arith)
+    (λ _. omega (arith, place-le k l))
 
 pub place-there : (k : ℕ) (l : List ℕ) → placeIn k l < length l → getD l (placeIn k l) 0 ≡ k
 unfolding placeIn
 place-there k [] h = absurd (omega arith)
 place-there k (a ∷ l) h =
     ⊎-elim (λ (e : k ≡ a). rw (eq-eqb k a e) (sym e))
-    (λ (n : k ≡ a → ⊥). rw (ne-eqb k a n) (place-there k l (let m : suc (placeIn k l) < suc (length l) = rw (ne-eqb k a n) at h in omega arith)))
+    (λ (n : k ≡ a → ⊥). rw (ne-eqb k a n)
+    (place-there k l (let m : suc (placeIn k l) < suc (length l) = rw (ne-eqb k a n) at h in omega arith)))
     (eq-or-ne k a)
-
-pub place-least : (k : ℕ) (l : List ℕ) (d : ℕ) → d < length l → getD l d 0 ≡ k → placeIn k l ≤ d
-unfolding placeIn
-place-least k [] d h e = absurd (omega arith)
-place-least k (a ∷ l) zero h e = rw (eq-eqb k a (sym e)) (omega arith)
-place-least k (a ∷ l) (suc d) h e =
-    cond-ind (λ (r : ℕ). r ≤ suc d) (eqb k a) 0 (suc (placeIn k l)) (λ _. omega arith) (λ _. omega (arith, place-least k l d (omega arith) e))
 
 -- ---- the first place from here on whose key has a remainder
 module _ (keys : List ℕ) (b i : ℕ) where
-  next-step : i < length keys → nextFrom keys b i ≡ cond (eqb (getD keys i 0 % buckets) b) (suc i) (nextFrom keys b (i + 1))
+  next-step : i < length keys → nextFrom keys b i
+      ≡ cond (eqb (getD keys i 0 % buckets) b) (suc i) (nextFrom keys b (i + 1))
   unfolding nextIn
   next-step h = let e : length keys - i ≡ suc (length keys - (i + 1)) = omega arith in rw (e, add-one i)
 
@@ -74,12 +70,14 @@ unfolding nextIn
 next-ahead keys b zero i h = absurd (omega arith)
 next-ahead keys b (suc n) i h = go (eqb (getD keys i 0 % buckets) b) (next-ahead keys b n (suc i)) h
   where
-    go : (t : Bool) → (0 < nextIn keys b n (suc i) → suc i < nextIn keys b n (suc i)) → 0 < cond t (suc i) (nextIn keys b n (suc i))
+    go : (t : Bool) → (0 < nextIn keys b n (suc i) → suc i < nextIn keys b n (suc i))
+        → 0 < cond t (suc i) (nextIn keys b n (suc i))
         → i < cond t (suc i) (nextIn keys b n (suc i))
     go true r p = omega arith
     go false r p = omega (arith, r p)
 
--- ---- a key sought: with h = 0 it stands nowhere; else the key at h - 1 has its remainder, and it does not stand before that
+-- ---- a key sought: with h = 0 it stands nowhere; else the key at h - 1 has its remainder, and it does not stand
+-- before that
 pub record Sought (keys : List ℕ) (key h : ℕ) : Type 0 where
   pub within : h ≤ length keys
   pub none : h ≡ 0 → placeIn key keys ≡ length keys
@@ -88,7 +86,8 @@ pub record Sought (keys : List ℕ) (key h : ℕ) : Type 0 where
 
 module _ (keys : List ℕ) (key : ℕ) where
   -- from a place that is not past the key, the next with its remainder is not either
-  sought-in : (n i : ℕ) → i + n ≡ length keys → i + placeIn key (drop i keys) ≡ placeIn key keys → Sought keys key (nextIn keys (key % buckets) n i)
+  sought-in : (n i : ℕ) → i + n ≡ length keys → i + placeIn key (drop i keys) ≡ placeIn key keys
+      → Sought keys key (nextIn keys (key % buckets) n i)
   unfolding nextIn
   sought-in zero i l e =
       record {
@@ -97,23 +96,28 @@ module _ (keys : List ℕ) (key : ℕ) where
         same = λ h. absurd (omega arith);
         place = λ h. absurd (omega arith);
       }
-  sought-in (suc n) i l e = ⊎-elim here (there (sought-in n (suc i) (omega arith))) (eq-or-ne (getD keys i 0 % buckets) (key % buckets))
+  sought-in (suc n) i l e =
+      ⊎-elim here (there (sought-in n (suc i) (omega arith))) (eq-or-ne (getD keys i 0 % buckets) (key % buckets))
     where
       here : getD keys i 0 % buckets ≡ key % buckets
-          → Sought keys key (cond (eqb (getD keys i 0 % buckets) (key % buckets)) (suc i) (nextIn keys (key % buckets) n (suc i)))
+          → Sought keys key
+          (cond (eqb (getD keys i 0 % buckets) (key % buckets)) (suc i) (nextIn keys (key % buckets) n (suc i)))
       here s =
           let z : suc i - 1 ≡ i = omega arith in
           rw (eq-eqb (getD keys i 0 % buckets) (key % buckets) s)
           (record { within = omega arith; none = λ h. absurd (omega arith); same = λ _. rw z s; place = λ _. rw z e })
 
-      there : (suc i + placeIn key (drop (suc i) keys) ≡ placeIn key keys → Sought keys key (nextIn keys (key % buckets) n (suc i)))
+      there : (suc i + placeIn key (drop (suc i) keys) ≡ placeIn key keys
+          → Sought keys key (nextIn keys (key % buckets) n (suc i)))
           → (getD keys i 0 % buckets ≡ key % buckets → ⊥)
-          → Sought keys key (cond (eqb (getD keys i 0 % buckets) (key % buckets)) (suc i) (nextIn keys (key % buckets) n (suc i)))
+          → Sought keys key
+          (cond (eqb (getD keys i 0 % buckets) (key % buckets)) (suc i) (nextIn keys (key % buckets) n (suc i)))
       there more d =
           let p = place-pass key keys i (omega arith) (λ k. d (ap (λ (a : ℕ). a % buckets) k)) in
           rw (ne-eqb (getD keys i 0 % buckets) (key % buckets) d) (more (rw (← (add-one i)) (sym p ∙ e)))
 
-  sought-from : (i : ℕ) → i ≤ length keys → i + placeIn key (drop i keys) ≡ placeIn key keys → Sought keys key (nextFrom keys (key % buckets) i)
+  sought-from : (i : ℕ) → i ≤ length keys → i + placeIn key (drop i keys) ≡ placeIn key keys
+      → Sought keys key (nextFrom keys (key % buckets) i)
   sought-from i h e = sought-in (length keys - i) i (omega arith) e
 
 -- how far a search may still go
@@ -134,7 +138,8 @@ sought-none s h = sym (s .none (omega arith))
 module _ {keys hints links : List ℕ} (t : Hinted keys hints links) {key : ℕ} where
   -- the search begins at the hint
   pub sought-first : {b h : ℕ} → b ≡ key % buckets → b < buckets → h ≡ getD hints b 0 → Sought keys key h
-  sought-first {b} {h} q l e = rw (e ∙ t .hint b l ∙ ap (λ (a : ℕ). nextFrom keys a 0) q) (sought-from keys key 0 (omega arith) (omega arith))
+  sought-first {b} {h} q l e =
+      rw (e ∙ t .hint b l ∙ ap (λ (a : ℕ). nextFrom keys a 0) q) (sought-from keys key 0 (omega arith) (omega arith))
 
   module _ {h : ℕ} (s : Sought keys key h) (p : 0 < h) where
     -- it ends at the key
@@ -179,13 +184,15 @@ hinting-first keys {hints} {links} z h =
       link = λ e a l. absurd (omega arith);
     }
 
-pub hinting-last : {keys links₀ hints links : List ℕ} {d : ℕ} → Hinting keys links₀ d hints links → d ≤ 0 → Hinted keys hints links
+pub hinting-last : {keys links₀ hints links : List ℕ} {d : ℕ} → Hinting keys links₀ d hints links → d ≤ 0
+    → Hinted keys hints links
 hinting-last {keys} {links₀} {hints} {links} {d} v h =
     let z : d ≡ 0 = omega arith in
     record { hint = λ b l. rw z at (v .hint b l); link = λ e l. v .link e (omega arith) l }
 
 -- key d - 1 takes over the hint of its remainder as its link, and the hint leads to it
-module _ {keys links₀ hints links : List ℕ} {d b : ℕ} (v : Hinting keys links₀ d hints links) (p : 0 < d) (q : b ≡ getD keys (d - 1) 0 % buckets)
+module _ {keys links₀ hints links : List ℕ} {d b : ℕ} (v : Hinting keys links₀ d hints links) (p : 0 < d)
+    (q : b ≡ getD keys (d - 1) 0 % buckets)
     (h : b < buckets) where
   inside : d - 1 < length keys
   inside = omega (arith, v .within)
@@ -217,7 +224,8 @@ module _ {keys links₀ hints links : List ℕ} {d b : ℕ} (v : Hinting keys li
       other : (e ≡ d - 1 → ⊥) → getD (set links (d - 1) x) e 0 ≡ nextFrom keys (getD keys e 0 % buckets) (e + 1)
       other n = getD-set-other links (d - 1) e x 0 n ∙ v .link e (omega (arith, lt-of-le-of-ne lo (λ z. n (sym z)))) hi
 
-  pub hinting-next : {x : ℕ} {hints′ links′ : List ℕ} → x ≡ getD hints b 0 → links′ ≡ set links (d - 1) x → hints′ ≡ set hints b d
+  pub hinting-next : {x : ℕ} {hints′ links′ : List ℕ} → x ≡ getD hints b 0 → links′ ≡ set links (d - 1) x
+      → hints′ ≡ set hints b d
       → Hinting keys links₀ (d - 1) hints′ links′
   hinting-next {x} {hints′} {links′} o m e =
       record {

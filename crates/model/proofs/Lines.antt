@@ -1,14 +1,14 @@
 -- The first lines of a text's equations rise, so that the order is first also by the list of first lines.
-use Prim.Native.Nat.{ℕ, suc, _≤_, _<_}
-use mathlib.Core.Path.{_≡_, refl, sym, ap, _∙_}
+use Prim.Native.Nat.{ℕ, suc, _<_}
+use mathlib.Core.Path.{_≡_, refl}
 use mathlib.Core.List.{List, [], _∷_, _++_, map}
 use native.Mathlib.Omega.{arith}
-use lib.ListN.{length, getD, length-map, List·getD-map}
+use lib.ListN.{length-map, List·getD-map}
 use Rattle.laws.specs.Lists.{concat-map}
 use Rattle.laws.specs.Rising.{Rising}
 use Rattle.laws.proofs.Lists.{concat-append}
 use Rattle.laws.proofs.Rising.{rising-le, rising-lt}
-use Rattle.deck.specs.Lines.{Line, linesOf}
+use Rattle.deck.specs.Lines.{linesOf}
 use Rattle.deck.specs.Reading.{Statement, fresh, reading}
 use Rattle.deck.specs.Reports.{Report, report}
 use Rattle.deck.proofs.Rising.{firsts, reading-rises}
@@ -17,7 +17,8 @@ use Rattle.sheet.specs.Sheet.{Told, says, faulty, Sheet, Numbered, said}
 use Rattle.sheet.specs.Reader.{told, sheetOf}
 use Rattle.order.specs.Order.{_≼_}
 use Rattle.order.proofs.FirstOrder.{first-by-lines}
-use Rattle.model.specs.Definitions.{What, Def, definedBy, definitions, Equation, equationOf, equations, noEquation, equationAt, equationCount}
+use Rattle.model.specs.Definitions.{Def, definedBy, definitions, Equation, equationOf, equations, noEquation}
+use Rattle.model.specs.Definitions.{equationCount}
 use Rattle.model.specs.Faults.{usesIn, GoodOrder, orderOf}
 use Rattle.model.specs.Text.{textDefinitions, lineAt}
 
@@ -28,7 +29,8 @@ abbrev linesIn : List Equation → List ℕ
 linesIn es = map (λ (e : Equation). e .line) es
 
 -- ---- from the reading to the sheet and to the statements without fault
-sheet-rises : (b : ℕ) (ss : List Statement) → Rising b (firsts ss) → Rising b (map (λ (r : Report Told). r .line) (map (report told) ss))
+sheet-rises : (b : ℕ) (ss : List Statement) → Rising b (firsts ss)
+    → Rising b (map (λ (r : Report Told). r .line) (map (report told) ss))
 sheet-rises b [] r = tt
 sheet-rises b (s ∷ ss) r = (r .0, sheet-rises (suc (s .first)) ss (r .1))
 
@@ -37,7 +39,8 @@ unfolding concat-map
 said-rises b [] h = tt
 said-rises b (r ∷ rs) h = go (r .what) (said-rises (suc (r .line)) rs (h .1))
   where
-    go : (t : Told) → Rising (suc (r .line)) (numbersOf (said rs)) → Rising b (numbersOf (said (record { line = r .line; what = t } ∷ rs)))
+    go : (t : Told) → Rising (suc (r .line)) (numbersOf (said rs))
+        → Rising b (numbersOf (said (record { line = r .line; what = t } ∷ rs)))
     go (says x) k = (h .0, k)
     go (faulty c p) k = rising-le (suc (r .line)) b (numbersOf (said rs)) k (omega (arith, h .0))
 
@@ -50,10 +53,12 @@ no-equations l (c ∷ cs) = no-equations l cs
 abbrev equationsIn : List Numbered → List Equation
 equationsIn ss = equations (definitions ss)
 
-equations-cons : (s : Numbered) (ss : List Numbered) → equationsIn (s ∷ ss) ≡ equations (definedBy (s .line) (s .says)) ++ equationsIn ss
+equations-cons : (s : Numbered) (ss : List Numbered)
+    → equationsIn (s ∷ ss) ≡ equations (definedBy (s .line) (s .says)) ++ equationsIn ss
 unfolding concat-map
 equations-cons s ss =
-    concat-append (λ (d : Def). equationOf (d .line) (d .key) (d .what)) (definedBy (s .line) (s .says)) (definitions ss)
+    concat-append (λ (d : Def). equationOf (d .line) (d .key) (d .what)) (definedBy (s .line) (s .says))
+    (definitions ss)
 
 equations-rise : (b : ℕ) (ss : List Numbered) → Rising b (numbersOf ss) → Rising b (linesIn (equationsIn ss))
 unfolding concat-map
@@ -61,8 +66,10 @@ equations-rise b [] r = tt
 equations-rise b (s ∷ ss) r =
     rw (equations-cons s ss) (go (s .says) (equations-rise (suc (s .line)) ss (r .1)))
   where
-    go : (x : Says) → Rising (suc (s .line)) (linesIn (equationsIn ss)) → Rising b (linesIn (equations (definedBy (s .line) x) ++ equationsIn ss))
-    go (constants cs) k = rw (no-equations (s .line) cs) (rising-le (suc (s .line)) b (linesIn (equationsIn ss)) k (omega (arith, r .0)))
+    go : (x : Says) → Rising (suc (s .line)) (linesIn (equationsIn ss))
+        → Rising b (linesIn (equations (definedBy (s .line) x) ++ equationsIn ss))
+    go (constants cs) k =
+        rw (no-equations (s .line) cs) (rising-le (suc (s .line)) b (linesIn (equationsIn ss)) k (omega (arith, r .0)))
     go (assignment key e) k = (r .0, k)
     go (state key i e) k = (r .0, k)
 

@@ -33,11 +33,14 @@ marking-first placed {marks} e =
     record {
       within = omega arith;
       long = long;
-      mark = λ r h. eq-eqb (getD marks r 0) 0 (ap (λ (l : List ℕ). getD l r 0) e ∙ getD-replicate {A = ℕ} mostStatements r 0 0 (omega arith));
+      mark =
+          λ r h. eq-eqb (getD marks r 0) 0
+          (ap (λ (l : List ℕ). getD l r 0) e ∙ getD-replicate {A = ℕ} mostStatements r 0 0 (omega arith));
     }
 
 module _ {placed marks : List ℕ} {k : ℕ} (v : Marking placed k marks) where
-  pub marking-next : {r : ℕ} {marks′ : List ℕ} → k < length placed → r ≡ getD placed k 0 → marks′ ≡ set marks r 1 → Marking placed (k + 1) marks′
+  pub marking-next : {r : ℕ} {marks′ : List ℕ} → k < length placed → r ≡ getD placed k 0 → marks′ ≡ set marks r 1
+      → Marking placed (k + 1) marks′
   marking-next {r} {marks′} h p e =
       record { within = omega arith; long = ap length e ∙ length-set marks r 1 ∙ v .long; mark = at }
     where
@@ -54,27 +57,31 @@ module _ {placed marks : List ℕ} {k : ℕ} (v : Marking placed k marks) where
           same z =
               let one : getD marks′ q 0 ≡ 1 = rw (e, z) (getD-set-same marks r 1 0 (omega (arith, inside))) in
               let more : 0 < count r (take k placed ++ (r ∷ [])) = omega (arith, count-snoc-same r (take k placed)) in
-              let there : has q (take k placed ++ (r ∷ [])) ≡ true = rw z (lt-ltb 0 (count r (take k placed ++ (r ∷ []))) more) in
+              let there : has q (take k placed ++ (r ∷ [])) ≡ true =
+              rw z (lt-ltb 0 (count r (take k placed ++ (r ∷ []))) more) in
               rw (one, there)
 
           other : (q ≡ r → ⊥) → eqb (getD marks′ q 0) 0 ≡ not (has q (take k placed ++ (r ∷ [])))
           other z = rw (e, getD-set-other marks r q 1 0 z, count-snoc-other q r (take k placed) z) (v .mark q inside)
 
   pub marking-last : length placed ≤ k → Marked placed marks
-  marking-last h = record { long = v .long; mark = λ r l. v .mark r l ∙ ap (λ (p : List ℕ). not (has r p)) (take-all k placed h) }
+  marking-last h =
+      record { long = v .long; mark = λ r l. v .mark r l ∙ ap (λ (p : List ℕ). not (has r p)) (take-all k placed h) }
 
 -- 24 stands once at a statement
 pub unmarked-single : (marks rows lines : List ℕ) (r : ℕ) → length (unmarkedAt marks rows lines r) ≤ 1
 unmarked-single marks rows lines r = if-length (eqb (getD marks r 0) 0) (getD lines (getD rows r 0) 0) 24
 
 -- 24 at equation r, as it was found
-pub unmarked-found : (marks rows lines : List ℕ) (r : ℕ) {b line j : ℕ} → b ≡ getD marks r 0 → j ≡ getD rows r 0 → line ≡ getD lines j 0
+pub unmarked-found : (marks rows lines : List ℕ) (r : ℕ) {b line j : ℕ} → b ≡ getD marks r 0 → j ≡ getD rows r 0
+    → line ≡ getD lines j 0
     → faultIf (eqb b 0) line 24 ≡ unmarkedAt marks rows lines r
 unmarked-found marks rows lines r p q l =
     ap₂ (λ (m n : ℕ). faultIf (eqb m 0) n 24) p (l ∙ ap (λ (i : ℕ). getD lines i 0) q)
 
 -- 24 is the same by marks
-pub unmarked-loops : {placed marks list list′ : List ℕ} {r : ℕ} (rows lines : List ℕ) → Marked placed marks → length rows ≤ mostStatements
+pub unmarked-loops : {placed marks list list′ : List ℕ} {r : ℕ} (rows lines : List ℕ) → Marked placed marks
+    → length rows ≤ mostStatements
     → Reported (unmarked marks rows lines) 0 r list list′ → Reported (loops placed rows lines) 0 r list list′
 unfolding loops
 unmarked-loops {placed} {marks} rows lines m h reported =

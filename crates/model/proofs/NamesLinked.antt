@@ -18,20 +18,25 @@ use Rattle.laws.specs.Put.{Put}
 use Rattle.model.specs.Places.{resolvedAt, resolved, isEquation, equationRows}
 use Rattle.model.specs.Places.{usedAt, usedIn, startsFrom}
 use Rattle.model.specs.Plan.{ownSlots}
-use Rattle.model.specs.Working.{flawedBy, usedOwner, usedHere, usedFrom, Resolved, Resolving, Linking, Walked, Linkable, Tabled, Linked}
+use Rattle.model.specs.Working.{flawedBy, usedOwner, usedHere, usedFrom, Resolved, Resolving, Linking, Walked}
+use Rattle.model.specs.Working.{Linkable, Tabled, Linked}
 use Rattle.model.specs.declared.names.Walk.{Walk}
 use Rattle.model.proofs.DefinitionsCollected.{only-length}
-use Rattle.model.proofs.NamesResolved.{resolving-first, resolving-flawed, resolving-clear, resolving-other, resolving-last, slot-here}
+use Rattle.model.proofs.NamesResolved.{resolving-first, resolving-flawed, resolving-clear, resolving-other}
+use Rattle.model.proofs.NamesResolved.{resolving-last, slot-here}
 use Rattle.model.proofs.SlotOwners.{used-same}
-use Rattle.model.proofs.UsesTabled.{rises-to, gather-next, ends-within, usesOf, usesTo, beginAt, whole-uses, whole-begin}
+use Rattle.model.proofs.UsesTabled.{rises-to, gather-next, ends-within, usesOf, usesTo, beginAt, whole-uses}
+use Rattle.model.proofs.UsesTabled.{whole-begin}
 
 -- ---- one part more is written behind a row
-put-append : {x y : List ℕ} {w₀ w r : ℕ} {buf₀ buf buf′ : List ℕ} → Put x w₀ w buf₀ buf → Put y w r buf buf′ → Put (x ++ y) w₀ r buf₀ buf′
+put-append : {x y : List ℕ} {w₀ w r : ℕ} {buf₀ buf buf′ : List ℕ} → Put x w₀ w buf₀ buf → Put y w r buf buf′
+    → Put (x ++ y) w₀ r buf₀ buf′
 put-append {x} {y} {w₀} {buf₀ = buf₀} p q =
     record {
       behind = omega (arith, p .behind, q .behind, length-append x y);
       written =
-          q .written ∙ ap₂ (λ (b : List ℕ) (n : ℕ). sets b n y) (p .written) (p .behind) ∙ sym (sets-append buf₀ w₀ x y);
+          q .written ∙ ap₂ (λ (b : List ℕ) (n : ℕ). sets b n y) (p .written) (p .behind)
+          ∙ sym (sets-append buf₀ w₀ x y);
     }
 
 -- nothing is written
@@ -42,7 +47,8 @@ put-none w buf = record { behind = omega arith; written = refl }
 used-one : (owners : List ℕ) (kind slot : ℕ) → length (usedHere owners kind slot) ≤ 1
 used-one owners kind slot =
     let o = getD owners slot 0 in
-    cond-ind (λ (l : List ℕ). length l ≤ 1) (eqb kind kindFetch) (usedOwner owners slot) [] (λ _. only-length (ltb 0 o) (o - 1)) (λ _. omega arith)
+    cond-ind (λ (l : List ℕ). length l ≤ 1) (eqb kind kindFetch) (usedOwner owners slot) []
+    (λ _. only-length (ltb 0 o) (o - 1)) (λ _. omega arith)
 
 used-other : (owners : List ℕ) (kind slot : ℕ) → isNamed kind ≡ false → usedHere owners kind slot ≡ []
 used-other owners kind slot n =
@@ -55,14 +61,16 @@ walk w flawed = record { count = w; flawed = flawed }
 
 -- ---- before the first draft of a part
 linking-first : {keys kinds places args₀ args : List ℕ} {flawed : Bool} {i : ℕ} (owners used : List ℕ) (w : ℕ)
-    → Resolving keys kinds places args₀ flawed i args → Linking keys kinds places owners args₀ used i w i (walk w flawed) args used
+    → Resolving keys kinds places args₀ flawed i args
+    → Linking keys kinds places owners args₀ used i w i (walk w flawed) args used
 unfolding gather
 linking-first {i = i} owners used w r =
     let e : i - i ≡ 0 = omega arith in
     record { resolving = r; uses = rw e (put-none w used) }
 
 -- ---- the loop over drafts stands at draft i, with w numbers listed; it began at `from` with what n tells
-pub record Walking (keys kinds places owners args₁ used₁ : List ℕ) (from end : ℕ) (n : Walk) (w : ℕ) (flawed : Bool) (i : ℕ) (args used : List ℕ)
+pub record Walking (keys kinds places owners args₁ used₁ : List ℕ) (from end : ℕ) (n : Walk) (w : ℕ) (flawed : Bool)
+    (i : ℕ) (args used : List ℕ)
     : Type 0 where
   pub beyond : from ≤ i
   pub within : i ≤ end
@@ -73,7 +81,8 @@ pub record Walking (keys kinds places owners args₁ used₁ : List ℕ) (from e
       → Linking keys kinds places owners args₀ used₁ from (n .count) i (walk w flawed) args used
 
 -- its beginning
-pub walking-first : {keys kinds args : List ℕ} {from end w : ℕ} (places owners used : List ℕ) (flawed : Bool) → Walked keys kinds args from end w
+pub walking-first : {keys kinds args : List ℕ} {from end w : ℕ} (places owners used : List ℕ) (flawed : Bool)
+    → Walked keys kinds args from end w
     → Walking keys kinds places owners args used from end (walk w flawed) w flawed from args used
 walking-first {w = w} places owners used flawed p =
     record {
@@ -86,11 +95,14 @@ walking-first {w = w} places owners used flawed p =
     }
 
 module _ {keys kinds places owners args₁ used₁ args used : List ℕ} {from end w i : ℕ} {n : Walk} {flawed : Bool}
-    (v : Walking keys kinds places owners args₁ used₁ from end n w flawed i args used) (l : length kinds ≤ length args₁) (e : end ≤ length kinds) where
+    (v : Walking keys kinds places owners args₁ used₁ from end n w flawed i args used) (l : length kinds ≤ length args₁)
+    (e : end ≤ length kinds) where
   -- one draft more, of which vs is what it uses
-  further : {r : ℕ} {after : Bool} {vs args′ used′ : List ℕ} → i < end → Put vs w r used used′ → length vs ≤ 1 → length args′ ≡ length args
+  further : {r : ℕ} {after : Bool} {vs args′ used′ : List ℕ} → i < end → Put vs w r used used′ → length vs ≤ 1
+      → length args′ ≡ length args
       → ((args₀ : List ℕ) → length kinds ≤ length args₀ → Resolving keys kinds places args₀ flawed i args
-      → Resolving keys kinds places args₀ after (i + 1) args′ × (vs ≡ usedFrom owners kinds (resolved keys kinds args₀) i))
+      → Resolving keys kinds places args₀ after (i + 1) args′
+      × (vs ≡ usedFrom owners kinds (resolved keys kinds args₀) i))
       → Walking keys kinds places owners args₁ used₁ from end n r after (i + 1) args′ used′
   further {r} {after} {vs} {args′} {used′} h put one same more =
       record {
@@ -110,8 +122,10 @@ module _ {keys kinds places owners args₁ used₁ args used : List ℕ} {from e
           record { resolving = m .0; uses = rw (gather-more f from i (v .beyond), ← (m .1)) (put-append (k .uses) put) }
 
   -- a draft is a name: it is resolved, and what it uses is listed
-  module _ {slot r r′ : ℕ} {args′ used′ used″ : List ℕ} (h : i < end) (s : slot ≡ resolvedAt keys (getD kinds i 0) (getD args i 0))
-      (put′ : Put (usedHere owners (getD kinds i 0) slot) w r′ used used″) (a : args′ ≡ set args i slot) (u : used′ ≡ used″) (c : r ≡ r′) where
+  module _ {slot r r′ : ℕ} {args′ used′ used″ : List ℕ} (h : i < end)
+      (s : slot ≡ resolvedAt keys (getD kinds i 0) (getD args i 0))
+      (put′ : Put (usedHere owners (getD kinds i 0) slot) w r′ used used″) (a : args′ ≡ set args i slot)
+      (u : used′ ≡ used″) (c : r ≡ r′) where
     -- what was put, with what the loop has then
     put : Put (usedHere owners (getD kinds i 0) slot) w r used used′
     put = rw (u, c) put′
@@ -122,7 +136,8 @@ module _ {keys kinds places owners args₁ used₁ args used : List ℕ} {from e
         → Walking keys kinds places owners args₁ used₁ from end n r after (i + 1) args′ used′
     listed more =
         further h put (used-one owners (getD kinds i 0) slot) (ap length a ∙ length-set args i slot)
-        (λ args₀ wide k. (more args₀ wide k, ap (usedHere owners (getD kinds i 0)) (sym (slot-here k (omega arith) wide s))))
+        (λ args₀ wide k.
+        (more args₀ wide k, ap (usedHere owners (getD kinds i 0)) (sym (slot-here k (omega arith) wide s))))
 
     pub walking-flawed : {b after : Bool} → b ≡ flawedBy places kinds (getD kinds i 0) slot → b ≡ true → after ≡ true
         → Walking keys kinds places owners args₁ used₁ from end n r after (i + 1) args′ used′
@@ -138,8 +153,10 @@ module _ {keys kinds places owners args₁ used₁ args used : List ℕ} {from e
       → Walking keys kinds places owners args₁ used₁ from end n r after (i + 1) args′ used′
   walking-other h m a u c z =
       further h (rw (u, c) (put-none w used)) (omega arith) (ap length a)
-      (λ args₀ wide k.
-      (resolving-other k (omega arith) wide m a z, sym (used-other owners (getD kinds i 0) (getD (resolved keys kinds args₀) i 0) m)))
+      (λ args₀ wide k. (
+        resolving-other k (omega arith) wide m a z,
+        sym (used-other owners (getD kinds i 0) (getD (resolved keys kinds args₀) i 0) m),
+      ))
 
   -- all drafts
   pub walking-last : end ≤ i → (w ≤ end) × ((args₀ : List ℕ) → Resolving keys kinds places args₀ (n .flawed) from args₁
@@ -151,7 +168,8 @@ module _ {keys kinds places owners args₁ used₁ args used : List ℕ} {from e
 -- ---- the loop over statements stands at statement j, with r equations before it
 
 -- with all owners a statement uses what it uses, with none nothing
-module _ (bounds kinds slots owners assigned : List ℕ) (same : (i : ℕ) → usedFrom owners kinds slots i ≡ usedAt assigned kinds slots i) where
+module _ (bounds kinds slots owners assigned : List ℕ)
+    (same : (i : ℕ) → usedFrom owners kinds slots i ≡ usedAt assigned kinds slots i) where
   uses-known : (j m : ℕ) → m ≡ cond (isEquation bounds kinds j) (length owners) 0
       → inStatement bounds (usedFrom (take m owners) kinds slots) j ≡ usesOf assigned bounds kinds slots j
   uses-known j m e = go (isEquation bounds kinds j) e
@@ -167,19 +185,29 @@ module _ (bounds kinds slots owners assigned : List ℕ) (same : (i : ℕ) → u
       none s false = refl
 
       go : (b : Bool) → m ≡ cond b (length owners) 0
-          → inStatement bounds (usedFrom (take m owners) kinds slots) j ≡ cond b (inStatement bounds (usedAt assigned kinds slots) j) []
+          → inStatement bounds (usedFrom (take m owners) kinds slots) j
+          ≡ cond b (inStatement bounds (usedAt assigned kinds slots) j) []
       go true q = rw (q, take-all (length owners) owners (omega arith)) (gather-same _ _ count begin (λ i _ _. same i))
-      go false q = rw q (gather-none (usedFrom [] kinds slots) count begin (λ i _ _. none (getD slots i 0) (eqb (getD kinds i 0) kindFetch)))
+      go false q =
+          rw q
+          (gather-none (usedFrom [] kinds slots) count
+          begin (λ i _ _. none (getD slots i 0) (eqb (getD kinds i 0) kindFetch)))
 
-pub record Stating (lines bounds kinds keys places args₀ starts₀ used₀ : List ℕ) (n : Walk) (r j : ℕ) (args starts used : List ℕ) : Type 0 where
+pub record Stating (lines bounds kinds keys places args₀ starts₀ used₀ : List ℕ) (n : Walk) (r j : ℕ)
+    (args starts used : List ℕ) : Type 0 where
   pub within : j ≤ length lines
   pub few : r ≤ j
   pub short : n .count ≤ begins bounds j
   pub long-starts : length starts ≡ length starts₀
   pub long-used : length used ≡ length used₀
   pub resolving : Resolving keys kinds places args₀ (n .flawed) (begins bounds j) args
-  pub uses : Put (usesTo (ownSlots (length lines) bounds kinds (resolved keys kinds args₀)) bounds kinds (resolved keys kinds args₀) j) 0 (n .count) used₀ used
-  pub begun : Put (gather (beginAt (ownSlots (length lines) bounds kinds (resolved keys kinds args₀)) bounds kinds (resolved keys kinds args₀)) j 0)
+  pub uses : Put
+      (usesTo (ownSlots (length lines) bounds kinds (resolved keys kinds args₀)) bounds kinds
+      (resolved keys kinds args₀) j) 0 (n .count) used₀ used
+  pub begun : Put
+      (gather
+      (beginAt (ownSlots (length lines) bounds kinds (resolved keys kinds args₀)) bounds kinds
+      (resolved keys kinds args₀)) j 0)
       0 r starts₀ starts
 
 module _ {lines bounds kinds keys owners args₀ used₀ : List ℕ} (places starts₀ : List ℕ)
@@ -207,7 +235,8 @@ module _ {lines bounds kinds keys owners args₀ used₀ : List ℕ} (places sta
   module _ {n : Walk} {r j : ℕ} {args starts used : List ℕ}
       (v : Stating lines bounds kinds keys places args₀ starts₀ used₀ n r j args starts used) where
     -- the drafts of a statement can be gone over
-    pub stating-walked : {from end : ℕ} → j < length lines → from ≡ begins bounds j → end ≡ ends bounds j → Walked keys kinds args from end (n .count)
+    pub stating-walked : {from end : ℕ} → j < length lines → from ≡ begins bounds j → end ≡ ends bounds j
+        → Walked keys kinds args from end (n .count)
     stating-walked h p q =
         record {
           few = s .few;
@@ -221,11 +250,19 @@ module _ {lines bounds kinds keys owners args₀ used₀ : List ℕ} (places sta
     -- not more is listed than 16 bits hold
     pub stating-few : n .count < 65536
     stating-few =
-        omega (arith, v .short, rises-to bounds (length lines) (s .sound .rises) j (v .within), s .sound .whole, s .sound .small)
+        omega (
+          arith,
+          v .short,
+          rises-to bounds (length lines) (s .sound .rises) j (v .within),
+          s .sound .whole,
+          s .sound .small,
+        )
 
     -- one statement more, of which the first m owners are looked at
-    pub stating-next : {b : Bool} {w r′ m from end : ℕ} {n′ : Walk} {args′ starts′ used′ : List ℕ} → j < length lines → b ≡ isEquation bounds kinds j
-        → w ≡ n .count → Put (onlyIf b w) r r′ starts starts′ → m ≡ cond b (length owners) 0 → from ≡ begins bounds j → end ≡ ends bounds j
+    pub stating-next : {b : Bool} {w r′ m from end : ℕ} {n′ : Walk} {args′ starts′ used′ : List ℕ} → j < length lines
+        → b ≡ isEquation bounds kinds j
+        → w ≡ n .count → Put (onlyIf b w) r r′ starts starts′ → m ≡ cond b (length owners) 0 → from ≡ begins bounds j
+        → end ≡ ends bounds j
         → length used′ ≡ length used → n′ .count ≤ end
         → ((args₁ : List ℕ) → Resolving keys kinds places args₁ (n .flawed) from args
         → Linking keys kinds places (take m owners) args₁ used from (n .count) end n′ args′ used′)
@@ -249,7 +286,8 @@ module _ {lines bounds kinds keys owners args₀ used₀ : List ℕ} (places sta
         next f = let e : j + 1 ≡ suc j = omega arith in rw e (gather-next f j)
 
         uses-same : gather (usedFrom (take m owners) kinds slots) (end - from) from ≡ usesOf own bounds kinds slots j
-        uses-same = rw (p, q) (uses-known bounds kinds slots owners own (used-same (s .owned) (s .slotted)) j m (rw t at known))
+        uses-same =
+            rw (p, q) (uses-known bounds kinds slots owners own (used-same (s .owned) (s .slotted)) j m (rw t at known))
 
         begin-same : onlyIf b w ≡ beginAt own bounds kinds slots j
         begin-same = ap₂ onlyIf t (omega (arith, c, v .uses .behind))
@@ -281,4 +319,9 @@ module _ {lines bounds kinds keys owners args₀ used₀ : List ℕ} (places sta
             rw (count, last) (whole-begin own bounds kinds slots (length lines))
 
         tabled : Tabled rows bounds kinds slots (n .count) starts₀ starts′ used₀ used
-        tabled = record { uses = rw all at (v .uses); begun = put-append (v .begun) behind .written ∙ ap (sets starts₀ 0) row }
+        tabled =
+            record {
+              uses = rw all at (v .uses);
+              begun = put-append (v .begun) behind .written
+                  ∙ ap (sets starts₀ 0) row;
+            }

@@ -42,13 +42,17 @@ pub undefined-read : (n : ℕ) {kind slot a b : ℕ} → kind ≡ a → slot ≡
 undefined-read n p q = ap₂ (λ (k s : ℕ). asks k && ltb n s) p q
 
 pub unfit-read : (places kinds : List ℕ) {kind slot a b : ℕ} → kind ≡ a → slot ≡ b
-    → (eqb kind kindFrom && not (eqb (getD kinds (homeOf places slot) 0) kindConstant)) ≡ (eqb a kindFrom && not (eqb (getD kinds (homeOf places b) 0) kindConstant))
-unfit-read places kinds p q = ap₂ (λ (k s : ℕ). eqb k kindFrom && not (eqb (getD kinds (homeOf places s) 0) kindConstant)) p q
+    → (eqb kind kindFrom && not (eqb (getD kinds (homeOf places slot) 0) kindConstant))
+    ≡ (eqb a kindFrom && not (eqb (getD kinds (homeOf places b) 0) kindConstant))
+unfit-read places kinds p q =
+    ap₂ (λ (k s : ℕ). eqb k kindFrom && not (eqb (getD kinds (homeOf places s) 0) kindConstant)) p q
 
 -- ---- a slot: one more than the place of a name, and what is no name
-pub slot-named : (keys : List ℕ) (kind arg : ℕ) {r : ℕ} → isNamed kind ≡ true → r ≡ placeIn arg keys → r + 1 ≡ resolvedAt keys kind arg
+pub slot-named : (keys : List ℕ) (kind arg : ℕ) {r : ℕ} → isNamed kind ≡ true → r ≡ placeIn arg keys
+    → r + 1 ≡ resolvedAt keys kind arg
 slot-named keys kind arg {r} t e =
-    cond-ind (λ (x : ℕ). r + 1 ≡ x) (isNamed kind) (suc (placeIn arg keys)) arg (λ _. omega arith) (λ f. absurd (not-both t f))
+    cond-ind (λ (x : ℕ). r + 1 ≡ x) (isNamed kind) (suc (placeIn arg keys)) arg (λ _. omega arith)
+    (λ f. absurd (not-both t f))
 
 pub slot-other : (keys : List ℕ) (kind arg : ℕ) → isNamed kind ≡ false → arg ≡ resolvedAt keys kind arg
 slot-other keys kind arg f =
@@ -64,12 +68,14 @@ resolved-at keys (k ∷ kinds) (a ∷ args) zero h l = refl
 resolved-at keys (k ∷ kinds) (a ∷ args) (suc i) h l = resolved-at keys kinds args i (omega arith) (omega arith)
 
 -- the slot of a store, found before its name is resolved
-pub slot-stored : (keys kinds args : List ℕ) (i : ℕ) {kind r a : ℕ} → length kinds ≤ length args → kind ≡ getD kinds i 0 → kind ≡ 13
+pub slot-stored : (keys kinds args : List ℕ) (i : ℕ) {kind r a : ℕ} → length kinds ≤ length args → kind ≡ getD kinds i 0
+    → kind ≡ 13
     → a ≡ getD args i 0 → r ≡ placeIn a keys → r + 1 ≡ getD (resolved keys kinds args) i 0
 slot-stored keys kinds args i {kind} {r} {a} l k e p q =
     let stored : getD kinds i 0 ≡ kindStore = sym k ∙ e in
     let value : getD (resolved keys kinds args) i 0 ≡ suc (placeIn (getD args i 0) keys) =
-    resolved-at keys kinds args i (stands 13 kinds i refl stored) l ∙ ap (λ (j : ℕ). resolvedAt keys j (getD args i 0)) stored in
+    resolved-at keys kinds args i (stands 13 kinds i refl stored) l
+    ∙ ap (λ (j : ℕ). resolvedAt keys j (getD args i 0)) stored in
     let same : r ≡ placeIn (getD args i 0) keys = q ∙ ap (λ (x : ℕ). placeIn x keys) p in
     omega (arith, value, same)
 
@@ -83,10 +89,13 @@ other-clear places kinds kind slot n =
 
 -- ---- the drafts before place i are resolved, and those that are flawed are noted
 pub resolving-first : (keys kinds places args : List ℕ) → Resolving keys kinds places args false 0 args
-resolving-first keys kinds places args = record { within = omega arith; long = refl; same = refl; left = rw sub-zero refl }
+resolving-first keys kinds places args =
+    record { within = omega arith; long = refl; same = refl; left = rw sub-zero refl }
 
-module _ {keys kinds places args₀ args : List ℕ} {flawed : Bool} {i : ℕ} (v : Resolving keys kinds places args₀ flawed i args) where
-  module _ {slot : ℕ} (h : i < length kinds) (l : length kinds ≤ length args₀) (e : slot ≡ resolvedAt keys (getD kinds i 0) (getD args i 0)) where
+module _ {keys kinds places args₀ args : List ℕ} {flawed : Bool} {i : ℕ}
+    (v : Resolving keys kinds places args₀ flawed i args) where
+  module _ {slot : ℕ} (h : i < length kinds) (l : length kinds ≤ length args₀)
+      (e : slot ≡ resolvedAt keys (getD kinds i 0) (getD args i 0)) where
     here : i < length args
     here = omega (arith, v .long)
 
@@ -98,7 +107,8 @@ module _ {keys kinds places args₀ args : List ℕ} {flawed : Bool} {i : ℕ} (
     pub slot-here : getD (resolved keys kinds args₀) i 0 ≡ slot
     slot-here =
         rw (← (v .same), step)
-        (getD-at (take i args) slot (resolved keys (drop (suc i) kinds) (drop (suc i) args)) 0 i (length-take-le i args (omega (arith, here))))
+        (getD-at (take i args) slot (resolved keys (drop (suc i) kinds) (drop (suc i) args)) 0 i
+        (length-take-le i args (omega (arith, here))))
 
     more : {b after : Bool} → b ≡ flawedBy places kinds (getD kinds i 0) slot → after ≡ (flawed || b)
         → Resolving keys kinds places args₀ after (i + 1) (set args i slot)
@@ -109,36 +119,47 @@ module _ {keys kinds places args₀ args : List ℕ} {flawed : Bool} {i : ℕ} (
           within = omega arith;
           long = length-set args i slot ∙ v .long;
           same =
-              rw (add-one, take-suc-set args i slot here, drop-set-lt (suc i) args i slot (omega arith), append-assoc (take i args))
+              rw (
+                add-one,
+                take-suc-set args i slot here,
+                drop-set-lt (suc i) args i slot (omega arith),
+                append-assoc (take i args),
+              )
               (ap (λ (r : List ℕ). take i args ++ r) (sym step) ∙ v .same);
           left =
-              ap (λ (a : Bool). a || anyIn f (length kinds - (i + 1)) (i + 1)) (z ∙ ap (λ (a : Bool). flawed || a) found)
+              ap (λ (a : Bool). a || anyIn f (length kinds - (i + 1)) (i + 1))
+              (z ∙ ap (λ (a : Bool). flawed || a) found)
               ∙ or-assoc flawed (f i) (anyIn f (length kinds - (i + 1)) (i + 1))
               ∙ ap (λ (a : Bool). flawed || a) (sym (any-step f (length kinds) i h)) ∙ v .left;
         }
 
     -- a name that is flawed, and one that is not
-    pub resolving-flawed : {b after : Bool} {args′ : List ℕ} → b ≡ flawedBy places kinds (getD kinds i 0) slot → b ≡ true → args′ ≡ set args i slot
+    pub resolving-flawed : {b after : Bool} {args′ : List ℕ} → b ≡ flawedBy places kinds (getD kinds i 0) slot
+        → b ≡ true → args′ ≡ set args i slot
         → after ≡ true → Resolving keys kinds places args₀ after (i + 1) args′
     resolving-flawed t y s z = rw s (more t (z ∙ sym (or-right flawed _ y)))
 
-    pub resolving-clear : {b after : Bool} {args′ : List ℕ} → b ≡ flawedBy places kinds (getD kinds i 0) slot → b ≡ false → args′ ≡ set args i slot
+    pub resolving-clear : {b after : Bool} {args′ : List ℕ} → b ≡ flawedBy places kinds (getD kinds i 0) slot
+        → b ≡ false → args′ ≡ set args i slot
         → after ≡ flawed → Resolving keys kinds places args₀ after (i + 1) args′
     resolving-clear t y s z = rw s (more t (z ∙ or-false-right flawed y))
 
   -- what is no name stays as it is
-  pub resolving-other : {after : Bool} {args′ : List ℕ} → i < length kinds → length kinds ≤ length args₀ → isNamed (getD kinds i 0) ≡ false
+  pub resolving-other : {after : Bool} {args′ : List ℕ} → i < length kinds → length kinds ≤ length args₀
+      → isNamed (getD kinds i 0) ≡ false
       → args′ ≡ args → after ≡ flawed → Resolving keys kinds places args₀ after (i + 1) args′
   resolving-other h l n s z =
       let kind = getD kinds i 0 in
       let arg = getD args i 0 in
-      resolving-clear h l (slot-other keys kind arg n) (sym (other-clear places kinds kind arg n)) refl (s ∙ sym (set-getD args i 0)) z
+      resolving-clear h l (slot-other keys kind arg n) (sym (other-clear places kinds kind arg n)) refl
+      (s ∙ sym (set-getD args i 0)) z
 
   pub resolving-last : length kinds ≤ i → Resolved keys kinds places args₀ args flawed
   unfolding resolved
   resolving-last h =
       let f = flawedAt places kinds (resolved keys kinds args₀) in
-      let e : args ≡ resolved keys kinds args₀ = sym (take-append-drop i args) ∙ (rw (drop-of-length-le kinds h) at (v .same)) in
+      let e : args ≡ resolved keys kinds args₀ =
+      sym (take-append-drop i args) ∙ (rw (drop-of-length-le kinds h) at (v .same)) in
       record { same = e; found = rw e (or-false-right flawed (any-done f (length kinds) i h) ∙ v .left) }
 
 -- ---- the flaw of the drafts from place i on, before b, with the worst that stands before them
@@ -160,7 +181,12 @@ module _ {f g : ℕ → Bool} {b from i flaw : ℕ} (v : Seeking f g b from i fl
   pub seeking-unfit : {worse : ℕ} → i < b → f i ≡ false → g i ≡ true → worse ≡ 23 → Seeking f g b from (i + 1) worse
   seeking-unfit h t u e =
       rw e
-      (record { named = sym (any-pass f b i h t) ∙ v .named; fit = refl; left = sym (or-true-right (ltb 0 flaw) (any-stop g b i h u)) ∙ v .left })
+      (record {
+        named = sym (any-pass f b i h t)
+            ∙ v .named;
+        fit = refl;
+        left = sym (or-true-right (ltb 0 flaw) (any-stop g b i h u)) ∙ v .left;
+      })
 
   pub seeking-pass : {same : ℕ} → i < b → f i ≡ false → g i ≡ false → same ≡ flaw → Seeking f g b from (i + 1) same
   seeking-pass h t u e =
@@ -174,13 +200,15 @@ module _ {f g : ℕ → Bool} {b from i flaw : ℕ} (v : Seeking f g b from i fl
       rw (none, ← worst) (v .fit)
 
 -- a flaw as a fault
-pub flaw-fault : (u x : Bool) (line : ℕ) → faultIf (ltb 0 (flawOf u x)) line (flawOf u x) ≡ nameFault (not u) (not x) line
+pub flaw-fault : (u x : Bool) (line : ℕ)
+    → faultIf (ltb 0 (flawOf u x)) line (flawOf u x) ≡ nameFault (not u) (not x) line
 flaw-fault true x line = refl
 flaw-fault false true line = refl
 flaw-fault false false line = refl
 
 -- 22 or 23 stands once at a statement
-pub names-single : (places lines bounds kinds slots : List ℕ) (j : ℕ) → length (namesAt places lines bounds kinds slots j) ≤ 1
+pub names-single : (places lines bounds kinds slots : List ℕ) (j : ℕ)
+    → length (namesAt places lines bounds kinds slots j) ≤ 1
 names-single places lines bounds kinds slots j =
     let u = anyOf bounds (undefinedAt (length places) kinds slots) j in
     let x = anyOf bounds (unfitAt places kinds slots) j in
@@ -188,11 +216,13 @@ names-single places lines bounds kinds slots j =
 
 -- 22 or 23 at statement j, as it was found
 pub flaw-found : (places lines bounds kinds slots : List ℕ) (j : ℕ) {flaw line a b : ℕ}
-    → flaw ≡ flawOf (anyIn (undefinedAt (length places) kinds slots) (b - a) a) (anyIn (unfitAt places kinds slots) (b - a) a)
+    → flaw ≡ flawOf (anyIn (undefinedAt (length places) kinds slots) (b - a) a)
+    (anyIn (unfitAt places kinds slots) (b - a) a)
     → a ≡ begins bounds j → b ≡ ends bounds j → line ≡ getD lines j 0
     → faultIf (ltb 0 flaw) line flaw ≡ namesAt places lines bounds kinds slots j
 flaw-found places lines bounds kinds slots j {flaw} {line} {a} {b} e p q l =
     let found : ℕ → ℕ → ℕ = λ (x y : ℕ).
     flawOf (anyIn (undefinedAt (length places) kinds slots) (y - x) x) (anyIn (unfitAt places kinds slots) (y - x) x) in
     ap₂ (λ (c n : ℕ). faultIf (ltb 0 c) n c) (e ∙ ap₂ found p q) l
-    ∙ flaw-fault (anyOf bounds (undefinedAt (length places) kinds slots) j) (anyOf bounds (unfitAt places kinds slots) j) (getD lines j 0)
+    ∙ flaw-fault (anyOf bounds (undefinedAt (length places) kinds slots) j)
+    (anyOf bounds (unfitAt places kinds slots) j) (getD lines j 0)

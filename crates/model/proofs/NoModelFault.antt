@@ -17,7 +17,8 @@ use Rattle.sheet.specs.Sheet.{Numbered, Fault}
 use Rattle.order.specs.Order.{unsortable}
 use Rattle.order.proofs.FirstOrder.{Sortable, order-is-first}
 use Rattle.model.specs.Definitions.{Def, definitions, keys, equationAt, equationCount}
-use Rattle.model.specs.Faults.{faults21, constantKeys, within, nameFault, nameFaultOf, nameFaults, usesIn, fault24, faults24, orElse, modelFaults}
+use Rattle.model.specs.Faults.{faults21, constantKeys, within, nameFault, nameFaultOf, nameFaults, usesIn}
+use Rattle.model.specs.Faults.{fault24, faults24, orElse, modelFaults}
 use Rattle.model.specs.Faults.{GoodOrder, orderOf}
 use Rattle.model.proofs.KeyPlaces.{no-fault}
 use Rattle.model.proofs.SheetKeys.{definedIn}
@@ -50,7 +51,8 @@ none-in f (b ∷ l) e a h =
 pub sortable : (ds : List Def) → faults24 ds ≡ [] → Sortable (equationCount ds) (usesIn ds)
 sortable ds e i h =
     no-fault (unsortable (equationCount ds) (usesIn ds) i) (equationAt ds i .line) 24
-    (none-in (fault24 ds) (numbers (equationCount ds) 0) e i (omega (arith, numbers-once (equationCount ds) 0 i (omega arith) (omega arith))))
+    (none-in (fault24 ds) (numbers (equationCount ds) 0) e i
+    (omega (arith, numbers-once (equationCount ds) 0 i (omega arith) (omega arith))))
 
 -- so the order is a permutation in which each stands after all it uses
 pub order-good : (ds : List Def) → faults24 ds ≡ [] → GoodOrder ds (orderOf ds)
@@ -70,11 +72,13 @@ none-at : (ss a : List Numbered) (s : Numbered) (b : List Numbered) → ss ≡ a
 unfolding concat-map
 none-at ss a s b p es e =
     let f = nameFaultOf es in
-    let w : definitions ss ≡ definitions a ++ (definedIn s ++ definitions b) = ap definitions p ∙ concat-append definedIn a (s ∷ b) in
+    let w : definitions ss ≡ definitions a ++ (definedIn s ++ definitions b) =
+    ap definitions p ∙ concat-append definedIn a (s ∷ b) in
     let x : concat-map f (definitions a) ++ concat-map f (definedIn s ++ definitions b) ≡ [] =
     sym (concat-append f (definitions a) (definedIn s ++ definitions b)) ∙ sym (ap (concat-map f) w) ∙ e in
     let y : concat-map f (definedIn s) ++ concat-map f (definitions b) ≡ [] =
-    sym (concat-append f (definedIn s) (definitions b)) ∙ none-left (concat-map f (definitions a)) (concat-map f (definedIn s ++ definitions b)) x .1 in
+    sym (concat-append f (definedIn s) (definitions b))
+    ∙ none-left (concat-map f (definitions a)) (concat-map f (definedIn s ++ definitions b)) x .1 in
     none-left (concat-map f (definedIn s)) (concat-map f (definitions b)) y .0
 
 -- so the name of an initial is a constant's
@@ -84,8 +88,11 @@ pub initial-known : (ss a : List Numbered) (s : Numbered) (b : List Numbered) �
 unfolding concat-map within
 initial-known ss a s b p es e k c t q =
     let x = rw q at (none-at ss a s b p es e) in
-    let y = none-left (nameFault (has c (keys es) && within (names t) (keys es)) (has c (constantKeys es) && true) (s .line)) [] x .0 in
-    let z = no-name-fault (has c (keys es) && within (names t) (keys es)) (has c (constantKeys es) && true) (s .line) y in (
+    let y =
+    none-left (nameFault (has c (keys es) && within (names t) (keys es)) (has c (constantKeys es) && true) (s .line)) []
+    x .0 in
+    let z =
+    no-name-fault (has c (keys es) && within (names t) (keys es)) (has c (constantKeys es) && true) (s .line) y in (
       has-true c (keys es) (and-true (has c (keys es)) (within (names t) (keys es)) (z .0) .0),
       has-true c (constantKeys es) (and-true (has c (constantKeys es)) true (z .1) .0),
     )

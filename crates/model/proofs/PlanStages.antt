@@ -1,7 +1,7 @@
 -- The stages of a plan: how what the passes leave makes up the outcome.
 use Prim.Native.Nat.{ℕ, suc, _+_, _-_, _*_, _≤_, _<_}
 use mathlib.Core.Path.{_≡_, refl, sym, ap, ap₂, _∙_}
-use mathlib.Core.Bool.{Bool, true, false, cond, _||_}
+use mathlib.Core.Bool.{Bool, true, false, cond}
 use mathlib.Core.List.{List, [], _∷_}
 use native.Mathlib.Omega.{arith}
 use borrow.Author.Tests.{ltb-false, leb-true, eqb-true, not-true, lt-ltb, le-ltb}
@@ -25,11 +25,15 @@ use Rattle.order.proofs.Tables.{fits-iff}
 use Rattle.drafts.specs.Kinds.{kindFetch}
 use Rattle.drafts.specs.Places.{begins, ends, anyOf}
 use Rattle.laws.specs.Put.{Put}
-use Rattle.model.specs.Places.{keysIn, placesIn, doubles, resolvedAt, resolved, undefinedAt, unfitAt, namesAt, nameless}
+use Rattle.model.specs.Places.{keysIn, placesIn, doubles, resolvedAt, resolved, undefinedAt, unfitAt, namesAt}
+use Rattle.model.specs.Places.{nameless}
 use Rattle.model.specs.Places.{isEquation, equationRows, assignedSlots, usedIn, startsFrom, loops}
-use Rattle.model.specs.Plan.{Lent, lent, withPlaces, PlanOutcome, planOutcome, refused, faulted, some, falls, inTurn, roomy, fit}
-use Rattle.model.specs.Plan.{orderedPlan, weighed, tested, ownSlots, ownUses, linkedPlan, distinct, sheeted, planned}
-use Rattle.model.specs.Working.{Reported, Collected, Keyed, flawedAt, Sound, Holds, Wide, Slotted, Owned, Linkable, Linked, Links, Searched, Weighs}
+use Rattle.model.specs.Plan.{Lent, lent, withPlaces, PlanOutcome, planOutcome, refused, faulted, some, falls}
+use Rattle.model.specs.Plan.{inTurn, roomy, fit}
+use Rattle.model.specs.Plan.{orderedPlan, weighed, tested, ownSlots, ownUses, linkedPlan, distinct, sheeted}
+use Rattle.model.specs.Plan.{planned}
+use Rattle.model.specs.Working.{Reported, Collected, Keyed, flawedAt, Sound, Holds, Wide, Slotted, Owned}
+use Rattle.model.specs.Working.{Linkable, Linked, Links, Searched, Weighs}
 use Rattle.model.specs.Working.{repeated}
 use Rattle.model.specs.declared.names.Walk.{Walk}
 use Rattle.model.specs.declared.stages.Link.{Link}
@@ -51,7 +55,8 @@ front-row array l h = rw (sets-eq l array 0 (omega arith)) (take-append-seam l (
 pub prefix-length : (n : ℕ) (l : List ℕ) → n ≤ length l → n ≡ length (take n l)
 prefix-length n l h = sym (length-take-le n l h)
 
-pub holds-put : {row array array′ : List ℕ} {n : ℕ} → Put row 0 n array array′ → length row ≤ length array → Holds array′ n row
+pub holds-put : {row array array′ : List ℕ} {n : ℕ} → Put row 0 n array array′ → length row ≤ length array
+    → Holds array′ n row
 holds-put {row} {array} {array′} {n} p h =
     let l : n ≡ length row = omega (arith, p .behind) in
     record {
@@ -86,11 +91,15 @@ module _ {fs : List Fault} {c : ℕ} {list list′ : List ℕ} (v : Reported fs 
   pub faults-none : c ≤ 0 → (list′ ≡ list) × (some fs ≡ false)
   unfolding faultList concat-map
   faults-none h =
-      let n : length fs ≡ 0 = omega (arith, v .behind) in
-      (v .written ∙ ap (λ (gs : List Fault). sets list 0 (faultList gs)) (no-faults fs n), le-ltb 0 (length fs) (omega arith))
+      let n : length fs ≡ 0 = omega (arith, v .behind) in (
+        v .written
+            ∙ ap (λ (gs : List Fault). sets list 0 (faultList gs)) (no-faults fs n),
+        le-ltb 0 (length fs) (omega arith),
+      )
 
 -- ---- 24
-module _ {m : ℕ} {starts used array out : List ℕ} {r : Sorted} (v : Sorts m starts used array out r) (f : Fit m starts used)
+module _ {m : ℕ} {starts used array out : List ℕ} {r : Sorted} (v : Sorts m starts used array out r)
+    (f : Fit m starts used)
     (w : mostStatements ≤ length array) where
   abbrev inOrder : List ℕ
   inOrder = order m (usesIn starts used)
@@ -103,7 +112,9 @@ module _ {m : ℕ} {starts used array out : List ℕ} {r : Sorted} (v : Sorts m 
 
   -- a table that fits is sorted
   pub sorts-fit : r ≡ Unfit → ⊥
-  sorts-fit e = let a = v .answer in let p : r ≡ Placed (length inOrder) = rw fitting at a in let z : _≡_ {A = ℕ} 0 1 = cc in omega arith
+  sorts-fit e =
+      let a = v .answer in let p : r ≡ Placed (length inOrder) = rw fitting at a in let z : _≡_ {A = ℕ} 0 1 = cc in
+      omega arith
 
   sorts-count : {k : ℕ} → r ≡ Placed k → k ≡ length inOrder
   sorts-count e = let a = v .answer in let p : r ≡ Placed (length inOrder) = rw fitting at a in cc
@@ -115,26 +126,33 @@ module _ {m : ℕ} {starts used array out : List ℕ} {r : Sorted} (v : Sorts m 
   sorts-long = ap length sorts-content ∙ length-sets array 0 inOrder
 
   -- fewer are placed than there are
-  pub sorts-short : {rows faults faults′ : List ℕ} {k c : ℕ} {p : Plan} (n : ℕ) (lines : List ℕ) → r ≡ Placed k → k < m → Holds rows m (take m rows)
-      → Reported (loops (take k out) (take m rows) lines) 0 c faults faults′ → p ≡ refused 7 c → (slots filled places : List ℕ)
-      → planOutcome p slots filled faults′ (lent places rows out) ≡ orderedPlan inOrder n (take m rows) lines slots filled faults (lent places rows array)
+  pub sorts-short : {rows faults faults′ : List ℕ} {k c : ℕ} {p : Plan} (n : ℕ) (lines : List ℕ) → r ≡ Placed k → k < m
+      → Holds rows m (take m rows)
+      → Reported (loops (take k out) (take m rows) lines) 0 c faults faults′ → p ≡ refused 7 c
+      → (slots filled places : List ℕ)
+      → planOutcome p slots filled faults′ (lent places rows out)
+      ≡ orderedPlan inOrder n (take m rows) lines slots filled faults (lent places rows array)
   unfolding orderedPlan
   sorts-short {rows} {faults} {faults′} {k} {c} n lines e l q u z slots filled places =
-      let front : take k out ≡ inOrder = rw (sorts-content, sorts-count e) (front-row array inOrder (omega (arith, sorts-room, sorts-count e))) in
+      let front : take k out ≡ inOrder =
+      rw (sorts-content, sorts-count e) (front-row array inOrder (omega (arith, sorts-room, sorts-count e))) in
       let told : Reported (loops inOrder (take m rows) lines) 0 c faults faults′ = rw front at u in
       let count : c ≡ length (loops inOrder (take m rows) lines) = omega (arith, told .behind) in
       rw (lt-ltb (length inOrder) (length (take m rows)) (omega (arith, q .long, sorts-count e)))
       (outcome-same slots filled (z ∙ ap (refused 7) count) (told .written) (ap (lent places rows) sorts-content))
 
   -- all are placed
-  pub sorts-whole : {rows : List ℕ} {k : ℕ} (n : ℕ) (lines faults : List ℕ) → r ≡ Placed k → m ≤ k → Holds rows m (take m rows)
+  pub sorts-whole : {rows : List ℕ} {k : ℕ} (n : ℕ) (lines faults : List ℕ) → r ≡ Placed k → m ≤ k
+      → Holds rows m (take m rows)
       → (slots filled places : List ℕ)
-      → planOutcome (record { number = 0; count = 0; definitions = n; equations = m }) slots filled faults (lent places rows out)
+      → planOutcome (record { number = 0; count = 0; definitions = n; equations = m }) slots filled faults
+      (lent places rows out)
       ≡ orderedPlan inOrder n (take m rows) lines slots filled faults (lent places rows array)
   unfolding orderedPlan
   sorts-whole {rows} n lines faults e l q slots filled places =
       rw (le-ltb (length inOrder) (length (take m rows)) (omega (arith, q .long, sorts-count e)))
-      (outcome-same slots filled (ap (λ (b : ℕ). record { number = 0; count = 0; definitions = n; equations = b }) (q .long)) refl
+      (outcome-same slots filled
+      (ap (λ (b : ℕ). record { number = 0; count = 0; definitions = n; equations = b }) (q .long)) refl
       (ap (lent places rows) sorts-content))
 
 -- the equations are no more than the statements
@@ -144,7 +162,8 @@ rows-few n bounds kinds =
     gather-short (λ j. onlyIf (isEquation bounds kinds j) j) (λ j. only-length (isEquation bounds kinds j) j) n 0
 
 -- ---- the table of uses is written
-module _ {lines bounds kinds keys places args slots used used′ starts rows : List ℕ} {m : ℕ} {n : Walk} (s : Sound lines bounds kinds used)
+module _ {lines bounds kinds keys places args slots used used′ starts rows : List ℕ} {m : ℕ} {n : Walk}
+    (s : Sound lines bounds kinds used)
     (h : Holds rows m (equationRows (length lines) bounds kinds))
     (k : Linked lines bounds kinds keys places n args slots (replicate (mostStatements + 1) 0) starts used used′) where
   abbrev listed : List ℕ
@@ -174,42 +193,60 @@ module _ {lines bounds kinds keys places args slots used used′ starts rows : L
         few-rows = m-few;
         rows-held = h;
         starts-room =
-            omega (arith, m-few, ap length (k .tabled-so .begun), front-length (mostStatements + 1) (startsFrom 0 own bounds kinds slots listed));
-        starts-held = rw (k .tabled-so .begun, starts-long) (front-row (replicate (mostStatements + 1) 0) (startsFrom 0 own bounds kinds slots listed) room);
+            omega (
+              arith,
+              m-few,
+              ap length (k .tabled-so .begun),
+              front-length (mostStatements + 1) (startsFrom 0 own bounds kinds slots listed),
+            );
+        starts-held =
+            rw (k .tabled-so .begun, starts-long)
+            (front-row (replicate (mostStatements + 1) 0) (startsFrom 0 own bounds kinds slots listed) room);
         used-room =
-            omega (arith, used-long, few, s .room, ap length (k .tabled-so .uses .written), length-sets used 0 (usedIn own bounds kinds slots listed));
-        used-held = rw (k .tabled-so .uses .written, used-long) (front-row used (usedIn own bounds kinds slots listed) (omega (arith, few, s .room)));
+            omega (
+              arith,
+              used-long,
+              few,
+              s .room,
+              ap length (k .tabled-so .uses .written),
+              length-sets used 0 (usedIn own bounds kinds slots listed),
+            );
+        used-held = rw (k .tabled-so .uses .written, used-long)
+            (front-row used (usedIn own bounds kinds slots listed) (omega (arith, few, s .room)));
       }
     where
       room : length (startsFrom 0 own bounds kinds slots listed) ≤ length (replicate {A = ℕ} (mostStatements + 1) 0)
       room = omega (arith, starts-long, m-few, length-replicate {A = ℕ} (mostStatements + 1) 0)
 
-  -- the table as it is written
-  pub used-written : used′ ≡ sets used 0 (ownUses (length lines) bounds kinds slots)
-  used-written = k .tabled-so .uses .written
-
-module _ {lines bounds kinds slots starts used rows : List ℕ} {m w : ℕ} (v : Weighs lines bounds kinds slots m w starts used rows) where
+module _ {lines bounds kinds slots starts used rows : List ℕ} {m w : ℕ}
+    (v : Weighs lines bounds kinds slots m w starts used rows) where
   pub weighed-fit : Fit m (take (m + 1) starts) (take w used)
   weighed-fit =
       let rows = equationRows (length lines) bounds kinds in
-      rw (v .starts-held, v .used-held, v .rows-held .long) (table-fit rows bounds kinds slots (omega (arith, v .few-rows, v .rows-held .long)))
+      rw (v .starts-held, v .used-held, v .rows-held .long)
+      (table-fit rows bounds kinds slots (omega (arith, v .few-rows, v .rows-held .long)))
 
   pub weighed-by : {p : Plan} {faults′ placed′ : List ℕ} (n : ℕ) (faults placed : List ℕ)
       → ((slots filled places : List ℕ)
       → planOutcome p slots filled faults′ (lent places rows placed′)
-      ≡ orderedPlan (order m (usesIn (take (m + 1) starts) (take w used))) n (take m rows) lines slots filled faults (lent places rows placed))
+      ≡ orderedPlan (order m (usesIn (take (m + 1) starts) (take w used))) n (take m rows) lines slots filled faults
+      (lent places rows placed))
       → (places : List ℕ)
       → planOutcome p slots used faults′ (lent places rows placed′)
-      ≡ weighed (equationRows (length lines) bounds kinds) n lines bounds kinds slots used faults (lent places rows placed)
+      ≡ weighed (equationRows (length lines) bounds kinds) n lines bounds kinds slots used faults
+      (lent places rows placed)
   unfolding weighed
   weighed-by n faults placed e places = e slots used places ∙ same
     where
-      same : orderedPlan (order m (usesIn (take (m + 1) starts) (take w used))) n (take m rows) lines slots used faults (lent places rows placed)
-          ≡ weighed (equationRows (length lines) bounds kinds) n lines bounds kinds slots used faults (lent places rows placed)
+      same : orderedPlan (order m (usesIn (take (m + 1) starts) (take w used))) n (take m rows) lines slots used faults
+          (lent places rows placed)
+          ≡ weighed (equationRows (length lines) bounds kinds) n lines bounds kinds slots used faults
+          (lent places rows placed)
       same = rw (v .starts-held, v .used-held, v .rows-held .front, v .rows-held .long)
 
 -- ---- a name in an expression has a slot
-slotted : (keys kinds args : List ℕ) → length keys ≤ mostDefinitions → length kinds ≤ length args → Slotted kinds (resolved keys kinds args)
+slotted : (keys kinds args : List ℕ) → length keys ≤ mostDefinitions → length kinds ≤ length args
+    → Slotted kinds (resolved keys kinds args)
 slotted keys kinds args h l = record { slot = λ i k. small i k }
   where
     small : (i : ℕ) → getD kinds i 0 ≡ kindFetch → getD (resolved keys kinds args) i 0 < slotCount + 1
@@ -227,7 +264,8 @@ as-many-keys kinds args = sym (as-many kinds args (length kinds) 0)
 -- ---- 22 and 23: where no draft is flawed, no statement is
 module _ (lines bounds kinds slots places : List ℕ) (inside : (j : ℕ) → j < length lines → ends bounds j ≤ length kinds)
     (clear : anyIn (flawedAt places kinds slots) (length kinds) 0 ≡ false) where
-  none-at : (i : ℕ) → i < length kinds → (undefinedAt (length places) kinds slots i ≡ false) × (unfitAt places kinds slots i ≡ false)
+  none-at : (i : ℕ) → i < length kinds → (undefinedAt (length places) kinds slots i ≡ false)
+      × (unfitAt places kinds slots i ≡ false)
   none-at i h =
       or-false (undefinedAt (length places) kinds slots i) (unfitAt places kinds slots i)
       (any-none (flawedAt places kinds slots) (length kinds) 0 clear i (omega arith) (omega arith))
@@ -246,10 +284,12 @@ module _ (lines bounds kinds slots places : List ℕ) (inside : (j : ℕ) → j 
 
 -- none is reported then
 pub names-clear : {lines bounds kinds slots places : List ℕ} {flawed : Bool} (list : List ℕ)
-    → Searched lines bounds kinds slots places flawed → flawed ≡ false → Reported (nameless places lines bounds kinds slots) 0 0 list list
+    → Searched lines bounds kinds slots places flawed → flawed ≡ false
+    → Reported (nameless places lines bounds kinds slots) 0 0 list list
 unfolding faultList concat-map
 names-clear {lines} {bounds} {kinds} {slots} {places} list s e =
-    rw (nameless-none lines bounds kinds slots places (s .inside) (sym (s .flaw) ∙ e)) (record { behind = refl; written = refl })
+    rw (nameless-none lines bounds kinds slots places (s .inside) (sym (s .flaw) ∙ e))
+    (record { behind = refl; written = refl })
 
 -- ---- linking
 module _ {lines bounds kinds args used keys places : List ℕ} (k : Keyed lines bounds kinds args used keys places) where
@@ -271,7 +311,8 @@ module _ {lines bounds kinds args used keys places : List ℕ} (k : Keyed lines 
     doubled =
         let s = k .sound in
         let same : repeated lines bounds keys places ≡ doubles lines bounds kinds args =
-        ap₂ (repeated lines bounds) (k .named) (k .placed) ∙ repeated-doubles kinds args lines bounds (s .rises) (ends-within s) in
+        ap₂ (repeated lines bounds) (k .named) (k .placed)
+        ∙ repeated-doubles kinds args lines bounds (s .rises) (ends-within s) in
         rw same at v
 
     pub distinct-fault : {p : Plan} (l : Lent) → 0 < c → p ≡ refused 7 c
@@ -293,7 +334,8 @@ module _ {lines bounds kinds args used keys places : List ℕ} (k : Keyed lines 
         rw (f .1) (e ∙ same)
 
   -- with the equations written, the names resolved, and what is used tabled
-  module _ {slots starts used′ rows rows′ : List ℕ} {n : Link} (r : Links lines bounds kinds keys places n args slots used used′ rows rows′ starts)
+  module _ {slots starts used′ rows rows′ : List ℕ} {n : Link}
+      (r : Links lines bounds kinds keys places n args slots used used′ rows rows′ starts)
       (room : mostStatements ≤ length rows) where
     abbrev table : Linked lines bounds kinds keys places (record { count = n .used; flawed = n .flawed }) args slots
         (replicate (mostStatements + 1) 0) starts used used′
@@ -314,48 +356,62 @@ module _ {lines bounds kinds args used keys places : List ℕ} (k : Keyed lines 
 
     -- what is found of the names is found of the plan
     linked-by : {p : Plan} {faults′ : List ℕ} {l′ : Lent} (faults places₀ placed : List ℕ)
-        → planOutcome p slots used′ faults′ l′ ≡ tested (placesIn kinds) lines bounds kinds slots used′ faults (lent places₀ rows′ placed)
+        → planOutcome p slots used′ faults′ l′ ≡ tested (placesIn kinds) lines bounds kinds slots used′ faults
+        (lent places₀ rows′ placed)
         → planOutcome p slots used′ faults′ l′
-        ≡ linkedPlan (placesIn kinds) lines bounds kinds (resolved (keysIn kinds args) kinds args) used faults (lent places₀ rows placed)
+        ≡ linkedPlan (placesIn kinds) lines bounds kinds (resolved (keysIn kinds args) kinds args) used faults
+        (lent places₀ rows placed)
     unfolding linkedPlan
     linked-by faults places₀ placed e =
         e
         ∙ ap (λ (u : List ℕ). rest u slots rows′) (table .tabled-so .uses .written)
-        ∙ ap (λ (v : List ℕ). rest (sets used 0 (ownUses (length lines) bounds kinds slots)) slots v) (r .equations-put .written)
-        ∙ ap (λ (a : List ℕ). rest (sets used 0 (ownUses (length lines) bounds kinds a)) a (sets rows 0 (equationRows (length lines) bounds kinds)))
+        ∙ ap (λ (v : List ℕ). rest (sets used 0 (ownUses (length lines) bounds kinds slots)) slots v)
+        (r .equations-put .written)
+        ∙ ap
+        (λ (a : List ℕ). rest (sets used 0 (ownUses (length lines) bounds kinds a)) a
+        (sets rows 0 (equationRows (length lines) bounds kinds)))
         same-slots
       where
         rest : List ℕ → List ℕ → List ℕ → PlanOutcome
         rest u a v = tested (placesIn kinds) lines bounds kinds a u faults (lent places₀ v placed)
 
-    module _ {faults faults′ : List ℕ} {c : ℕ} (v : Reported (nameless places lines bounds kinds slots) 0 c faults faults′) (places₀ placed : List ℕ) where
+    module _ {faults faults′ : List ℕ} {c : ℕ}
+        (v : Reported (nameless places lines bounds kinds slots) 0 c faults faults′) (places₀ placed : List ℕ) where
       reported : Reported (nameless (placesIn kinds) lines bounds kinds slots) 0 c faults faults′
       reported = rw (k .placed) at v
 
       pub tested-fault : {p : Plan} → 0 < c → p ≡ refused 7 c
           → planOutcome p slots used′ faults′ (lent places₀ rows′ placed)
-          ≡ linkedPlan (placesIn kinds) lines bounds kinds (resolved (keysIn kinds args) kinds args) used faults (lent places₀ rows placed)
+          ≡ linkedPlan (placesIn kinds) lines bounds kinds (resolved (keysIn kinds args) kinds args) used faults
+          (lent places₀ rows placed)
       unfolding tested
       tested-fault h e =
           let l = lent places₀ rows′ placed in
-          let rest = weighed (equationRows (length lines) bounds kinds) (length (placesIn kinds)) lines bounds kinds slots used′ faults l in
+          let rest = weighed (equationRows (length lines) bounds kinds)
+          (length (placesIn kinds)) lines bounds kinds slots used′ faults l in
           linked-by faults places₀ placed (faults-stand reported slots used′ l rest h e)
 
       pub tested-none : {p : Plan} {b : ℕ} {faults″ placed′ : List ℕ} → b ≡ length places → c ≤ 0
           → planOutcome p slots used′ faults″ (lent places₀ rows′ placed′)
-          ≡ weighed (equationRows (length lines) bounds kinds) b lines bounds kinds slots used′ faults′ (lent places₀ rows′ placed)
+          ≡ weighed (equationRows (length lines) bounds kinds) b lines bounds kinds slots used′ faults′
+          (lent places₀ rows′ placed)
           → planOutcome p slots used′ faults″ (lent places₀ rows′ placed′)
-          ≡ linkedPlan (placesIn kinds) lines bounds kinds (resolved (keysIn kinds args) kinds args) used faults (lent places₀ rows placed)
+          ≡ linkedPlan (placesIn kinds) lines bounds kinds (resolved (keysIn kinds args) kinds args) used faults
+          (lent places₀ rows placed)
       unfolding tested
       tested-none q h e =
           let f = faults-none reported h in
           let rows = equationRows (length lines) bounds kinds in
           let count = q ∙ ap length (k .placed) in
-          let same = ap₂ (λ (b : ℕ) (list : List ℕ). weighed rows b lines bounds kinds slots used′ list (lent places₀ rows′ placed)) count (f .0) in
+          let same =
+          ap₂
+          (λ (b : ℕ) (list : List ℕ). weighed rows b lines bounds kinds slots used′ list (lent places₀ rows′ placed))
+          count (f .0) in
           linked-by faults places₀ placed (rw (f .1) (e ∙ same))
 
 -- ---- the definitions
-module _ {kinds args keys places places′ : List ℕ} {n : ℕ} (v : Collected kinds args n (replicate mostDefinitions 0) keys places places′) where
+module _ {kinds args keys places places′ : List ℕ} {n : ℕ}
+    (v : Collected kinds args n (replicate mostDefinitions 0) keys places places′) where
   counted : n ≡ length (keysIn kinds args)
   counted = omega (arith, v .named .behind)
 
@@ -368,7 +424,8 @@ module _ {kinds args keys places places′ : List ℕ} {n : ℕ} (v : Collected 
   keys-row : n ≤ mostDefinitions → take n keys ≡ keysIn kinds args
   keys-row h =
       let l = length-replicate {A = ℕ} mostDefinitions 0 in
-      rw (v .named .written, counted) (front-row (replicate mostDefinitions 0) (keysIn kinds args) (omega (arith, counted)))
+      rw (v .named .written, counted)
+      (front-row (replicate mostDefinitions 0) (keysIn kinds args) (omega (arith, counted)))
 
   pub places-held : n ≤ mostDefinitions → mostDefinitions ≤ length places → Holds places′ n (placesIn kinds)
   places-held h w = holds-put (v .placed) (omega (arith, counted, as-many-keys kinds args))
@@ -376,7 +433,8 @@ module _ {kinds args keys places places′ : List ℕ} {n : ℕ} (v : Collected 
   pub places-front : n ≤ mostDefinitions → mostDefinitions ≤ length places → n ≡ length (take n places′)
   places-front h w = holds-front (places-held h w) .long
 
-  pub keyed : {lines bounds used : List ℕ} → Sound lines bounds kinds used → length kinds ≤ length args → mostDefinitions ≤ length places
+  pub keyed : {lines bounds used : List ℕ} → Sound lines bounds kinds used → length kinds ≤ length args
+      → mostDefinitions ≤ length places
       → n ≤ mostDefinitions → Keyed lines bounds kinds args used (take n keys) (take n places′)
   keyed s w r h =
       record {
@@ -393,10 +451,12 @@ module _ {kinds args keys places places′ : List ℕ} {n : ℕ} (v : Collected 
 
   module _ {p : Plan} (lines bounds used faults rows order : List ℕ) where
     pub sheeted-many : mostDefinitions < n → p ≡ refused 6 0
-        → planOutcome p args used faults (lent places′ rows order) ≡ sheeted lines bounds kinds args used faults (lent places rows order)
+        → planOutcome p args used faults (lent places′ rows order) ≡ sheeted lines bounds kinds args used faults
+        (lent places rows order)
     unfolding sheeted
     sheeted-many h e =
-        rw (lt-ltb mostDefinitions (length (keysIn kinds args)) (omega (arith, counted))) (outcome-same args used e refl (arrays rows order))
+        rw (lt-ltb mostDefinitions (length (keysIn kinds args)) (omega (arith, counted)))
+        (outcome-same args used e refl (arrays rows order))
 
     pub sheeted-few : {args′ used′ faults′ : List ℕ} {l′ : Lent} → n ≤ mostDefinitions
         → planOutcome p args′ used′ faults′ l′ ≡ distinct lines bounds kinds args used faults (lent places′ rows order)
@@ -428,7 +488,8 @@ fit-sound lines bounds kinds used rows order args faults places e =
         few = leb-true _ _ (a .0);
         small = leb-true _ _ (c .0);
         room = leb-true _ _ (f .0);
-        rises = record { rise = λ k h. ltb-false (ends bounds k) (begins bounds k) (none k (omega arith) (omega arith)) };
+        rises =
+            record { rise = λ k h. ltb-false (ends bounds k) (begins bounds k) (none k (omega arith) (omega arith)) };
         first = eqb-true _ _ (i .0);
         whole = eqb-true _ _ (j .0);
       },
@@ -440,7 +501,8 @@ fit-sound lines bounds kinds used rows order args faults places e =
 module _ (lines bounds kinds args used faults : List ℕ) (l : Lent) where
   -- whether they fit
   abbrev fitted : Bool
-  fitted = fit lines bounds kinds (length args) (length used) (length faults) (length (l .places)) (length (l .rows)) (length (l .order))
+  fitted = fit lines bounds kinds (length args) (length used) (length faults) (length (l .places)) (length (l .rows))
+      (length (l .order))
 
   pub planned-fit : {p : Plan} {args′ used′ faults′ : List ℕ} {l′ : Lent} → fitted ≡ true
       → planOutcome p args′ used′ faults′ l′ ≡ sheeted lines bounds kinds args used faults l
@@ -448,6 +510,7 @@ module _ (lines bounds kinds args used faults : List ℕ) (l : Lent) where
   unfolding planned
   planned-fit t e = rw t e
 
-  pub planned-unfit : {p : Plan} → fitted ≡ false → p ≡ refused 9 0 → planOutcome p args used faults l ≡ planned lines bounds kinds args used faults l
+  pub planned-unfit : {p : Plan} → fitted ≡ false → p ≡ refused 9 0
+      → planOutcome p args used faults l ≡ planned lines bounds kinds args used faults l
   unfolding planned
   planned-unfit t e = rw t (outcome-same args used e refl refl)

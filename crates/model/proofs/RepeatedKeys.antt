@@ -29,7 +29,8 @@ pub before-le : (e : ℕ) (l : List ℕ) → before e l ≤ length l
 unfolding before
 before-le e [] = omega arith
 before-le e (p ∷ l) =
-    cond-ind (λ (r : ℕ). r ≤ suc (length l)) (ltb p e) (suc (before e l)) 0 (λ _. omega (arith, before-le e l)) (λ _. omega arith)
+    cond-ind (λ (r : ℕ). r ≤ suc (length l)) (ltb p e) (suc (before e l)) 0 (λ _. omega (arith, before-le e l))
+    (λ _. omega arith)
 
 -- a later end is passed later
 pub before-later : (a b : ℕ) (l : List ℕ) → a ≤ b → before a l ≤ before b l
@@ -46,7 +47,8 @@ before-more e [] d h i p = absurd (omega arith)
 before-more e (q ∷ l) zero h i p = rw (lt-ltb q e p) (omega arith)
 before-more e (q ∷ l) (suc d) h i p =
     ⊎-elim
-    (λ (t : ltb q e ≡ true). let k : suc d ≤ suc (before e l) = rw t at h in rw t (omega (arith, before-more e l d (omega arith) (omega arith) p)))
+    (λ (t : ltb q e ≡ true). let k : suc d ≤ suc (before e l) = rw t at h in rw t
+    (omega (arith, before-more e l d (omega arith) (omega arith) p)))
     (λ (t : ltb q e ≡ false). let k : suc d ≤ 0 = rw t at h in absurd (omega arith)) (bool-cases (ltb q e))
 
 pub before-stop : (e : ℕ) (l : List ℕ) (d : ℕ) → d ≤ before e l → e ≤ getD l d 0 → d < length l → before e l ≡ d
@@ -55,7 +57,8 @@ before-stop e [] d h p i = absurd (omega arith)
 before-stop e (q ∷ l) zero h p i = rw (le-ltb q e p)
 before-stop e (q ∷ l) (suc d) h p i =
     ⊎-elim
-    (λ (t : ltb q e ≡ true). let k : suc d ≤ suc (before e l) = rw t at h in rw t (ap suc (before-stop e l d (omega arith) p (omega arith))))
+    (λ (t : ltb q e ≡ true). let k : suc d ≤ suc (before e l) = rw t at h in rw t
+    (ap suc (before-stop e l d (omega arith) p (omega arith))))
     (λ (t : ltb q e ≡ false). let k : suc d ≤ 0 = rw t at h in absurd (omega arith)) (bool-cases (ltb q e))
 
 pub before-done : (e : ℕ) (l : List ℕ) (d : ℕ) → d ≤ before e l → length l ≤ d → before e l ≡ d
@@ -67,7 +70,9 @@ unfolding count placeIn
 has-front k l zero h = sym (le-ltb (placeIn k l) 0 (omega arith))
 has-front k [] (suc d) h = absurd (omega arith)
 has-front k (a ∷ l) (suc d) h =
-    ⊎-elim (λ (e : k ≡ a). rw (eq-eqb k a e) (lt-ltb 0 (1 + count k (take d l)) (omega arith) ∙ sym (lt-ltb 0 (suc d) (omega arith))))
+    ⊎-elim
+    (λ (e : k ≡ a). rw (eq-eqb k a e) (lt-ltb 0 (1 + count k (take d l)) (omega arith)
+    ∙ sym (lt-ltb 0 (suc d) (omega arith))))
     (λ (n : k ≡ a → ⊥).
     rw (ne-eqb k a n)
     (ap (ltb 0) (let z : 0 + count k (take d l) ≡ count k (take d l) = omega arith in z)
@@ -76,15 +81,22 @@ has-front k (a ∷ l) (suc d) h =
 
 -- ---- a search for a repeated key, from place d on
 module _ (keys : List ℕ) (d e : ℕ) where
-  repeat-step : d < e → e ≤ length keys → repeats keys d e ≡ (ltb (placeIn (getD keys d 0) keys) d || repeats keys (d + 1) e)
+  repeat-step : d < e → e ≤ length keys → repeats keys d e
+      ≡ (ltb (placeIn (getD keys d 0) keys) d || repeats keys (d + 1) e)
   unfolding again
   repeat-step h k =
-      rw (slice-cons d e keys 0 h k, add-one d, has-front (getD keys d 0) keys d (omega arith), take-suc keys d 0 (omega arith))
+      rw (
+        slice-cons d e keys 0 h k,
+        add-one d,
+        has-front (getD keys d 0) keys d (omega arith),
+        take-suc keys d 0 (omega arith),
+      )
 
   pub repeat-stop : d < e → e ≤ length keys → placeIn (getD keys d 0) keys < d → repeats keys d e ≡ true
   repeat-stop h k p = rw (repeat-step h k, lt-ltb _ _ p)
 
-  pub repeat-pass : d < e → e ≤ length keys → d ≤ placeIn (getD keys d 0) keys → repeats keys d e ≡ repeats keys (d + 1) e
+  pub repeat-pass : d < e → e ≤ length keys → d ≤ placeIn (getD keys d 0) keys
+      → repeats keys d e ≡ repeats keys (d + 1) e
   repeat-pass h k p = rw (repeat-step h k, le-ltb _ _ p)
 
   pub repeat-done : e ≤ d → repeats keys d e ≡ false
@@ -98,8 +110,10 @@ module _ (keys : List ℕ) where
       → (i : ℕ) → d ≤ i → i < e → ltb (placeIn (getD keys i 0) keys) i ≡ false
   none-at zero d e q h z i a b = absurd (omega arith)
   none-at (suc k) d e q h z i a b =
-      let both = or-false (ltb (placeIn (getD keys d 0) keys) d) (repeats keys (d + 1) e) (sym (repeat-step keys d e (omega arith) h) ∙ z) in
-      ⊎-elim (λ (s : i ≡ d). rw s (both .0)) (λ n. none-at k (d + 1) e (omega arith) h (both .1) i (omega arith) b) (eq-or-ne i d)
+      let both = or-false (ltb (placeIn (getD keys d 0) keys) d) (repeats keys (d + 1) e)
+      (sym (repeat-step keys d e (omega arith) h) ∙ z) in
+      ⊎-elim (λ (s : i ≡ d). rw s (both .0)) (λ n. none-at k (d + 1) e (omega arith) h (both .1) i (omega arith) b)
+      (eq-or-ne i d)
 
   -- so no part has one again
   none-part : (k a b : ℕ) → a + k ≡ b → b ≤ length keys
@@ -110,10 +124,12 @@ module _ (keys : List ℕ) where
       ∙ rw (f a (omega arith) (omega arith)) (none-part k (a + 1) b (omega arith) h (λ i l m. f i (omega arith) m))
 
   -- NO FAULT 21 stands
-  pub repeated-none : (lines bounds places : List ℕ) → length places ≤ length keys → repeats keys 0 (length places) ≡ false
+  pub repeated-none : (lines bounds places : List ℕ) → length places ≤ length keys
+      → repeats keys 0 (length places) ≡ false
       → repeated lines bounds keys places ≡ []
   repeated-none lines bounds places h z =
-      gather-none (repeatAt lines bounds keys places) (length lines) 0 (λ j _ _. ap (λ (t : Bool). faultIf t (getD lines j 0) 21) (at j))
+      gather-none (repeatAt lines bounds keys places) (length lines) 0
+      (λ j _ _. ap (λ (t : Bool). faultIf t (getD lines j 0) 21) (at j))
     where
       first : (i : ℕ) → i < length places → ltb (placeIn (getD keys i 0) keys) i ≡ false
       first i l = none-at (length places) 0 (length places) (omega arith) h z i (omega arith) l
@@ -132,7 +148,8 @@ repeat-single lines bounds keys places j =
     if-length (repeats keys (before (begins bounds j) places) (before (ends bounds j) places)) (getD lines j 0) 21
 
 -- 21 at statement j, as it was found
-pub repeat-found : (lines bounds keys places : List ℕ) (j : ℕ) {again : Bool} {line d end e : ℕ} → again ≡ repeats keys d end
+pub repeat-found : (lines bounds keys places : List ℕ) (j : ℕ) {again : Bool} {line d end e : ℕ}
+    → again ≡ repeats keys d end
     → d ≡ before (begins bounds j) places → end ≡ before e places → e ≡ ends bounds j → line ≡ getD lines j 0
     → faultIf again line 21 ≡ repeatAt lines bounds keys places j
 repeat-found lines bounds keys places j t p q e l =
@@ -151,7 +168,8 @@ module _ (kinds args : List ℕ) where
   as-many (suc k) i = go (defines (getD kinds i 0)) (as-many k (suc i))
     where
       go : (b : Bool) → length (gather placeAt k (suc i)) ≡ length (gather (definedAt kinds args) k (suc i))
-          → length (onlyIf b i ++ gather placeAt k (suc i)) ≡ length (onlyIf b (getD args i 0) ++ gather (definedAt kinds args) k (suc i))
+          → length (onlyIf b i ++ gather placeAt k (suc i))
+          ≡ length (onlyIf b (getD args i 0) ++ gather (definedAt kinds args) k (suc i))
       go true h = ap suc h
       go false h = h
 
@@ -177,42 +195,53 @@ module _ (kinds args : List ℕ) where
           → before b (gather placeAt (suc k) i) ≡ length (gather placeAt (b - i) i)
       more p r = let e : b - i ≡ suc (b - suc i) = omega arith in rw e (go (defines (getD kinds i 0)))
         where
-          go : (t : Bool) → before b (onlyIf t i ++ gather placeAt k (suc i)) ≡ length (onlyIf t i ++ gather placeAt (b - suc i) (suc i))
+          go : (t : Bool) → before b (onlyIf t i ++ gather placeAt k (suc i))
+              ≡ length (onlyIf t i ++ gather placeAt (b - suc i) (suc i))
           go true = rw (lt-ltb i b p) (ap suc r)
           go false = r
 
   -- as many as the keys there
   pub before-keys : (b : ℕ) → b ≤ length kinds → before b (placesIn kinds) ≡ length (gather (definedAt kinds args) b 0)
   unfolding placesIn
-  before-keys b h = before-count b (length kinds) 0 (omega arith) (omega arith) ∙ ap (λ (n : ℕ). length (gather placeAt n 0)) (sub-zero b) ∙ as-many b 0
+  before-keys b h = before-count b (length kinds) 0 (omega arith) (omega arith)
+      ∙ ap (λ (n : ℕ). length (gather placeAt n 0)) (sub-zero b) ∙ as-many b 0
 
-  parts : (a b : ℕ) → a ≤ b → gather (definedAt kinds args) b 0 ≡ gather (definedAt kinds args) a 0 ++ gather (definedAt kinds args) (b - a) a
+  parts : (a b : ℕ) → a ≤ b → gather (definedAt kinds args) b 0
+      ≡ gather (definedAt kinds args) a 0 ++ gather (definedAt kinds args) (b - a) a
   parts a b h =
       let f = definedAt kinds args in
       let e : a + (b - a) ≡ b = omega arith in
       let z : 0 + a ≡ a = omega arith in
-      ap (λ (n : ℕ). gather f n 0) (sym e) ∙ gather-add f a (b - a) 0 ∙ ap (λ (i : ℕ). gather f a 0 ++ gather f (b - a) i) z
+      ap (λ (n : ℕ). gather f n 0) (sym e) ∙ gather-add f a (b - a) 0
+      ∙ ap (λ (i : ℕ). gather f a 0 ++ gather f (b - a) i) z
 
   -- the keys that are defined before b
-  keys-before : (b : ℕ) → b ≤ length kinds → take (before b (placesIn kinds)) (keysIn kinds args) ≡ gather (definedAt kinds args) b 0
+  keys-before : (b : ℕ) → b ≤ length kinds
+      → take (before b (placesIn kinds)) (keysIn kinds args) ≡ gather (definedAt kinds args) b 0
   unfolding keysIn
-  keys-before b h = rw (parts b (length kinds) h) (take-at (gather (definedAt kinds args) b 0) _ _ (sym (before-keys b h)))
+  keys-before b h =
+      rw (parts b (length kinds) h) (take-at (gather (definedAt kinds args) b 0) _ _ (sym (before-keys b h)))
 
   -- the keys that are defined from a on, before b
   keys-between : (a b : ℕ) → a ≤ b → b ≤ length kinds
-      → slice (before a (placesIn kinds)) (before b (placesIn kinds)) (keysIn kinds args) ≡ gather (definedAt kinds args) (b - a) a
+      → slice (before a (placesIn kinds)) (before b (placesIn kinds)) (keysIn kinds args)
+      ≡ gather (definedAt kinds args) (b - a) a
   keys-between a b h l =
-      rw (keys-before b l, parts a b h) (drop-at (gather (definedAt kinds args) a 0) _ _ (sym (before-keys a (omega arith))))
+      rw (keys-before b l, parts a b h)
+      (drop-at (gather (definedAt kinds args) a 0) _ _ (sym (before-keys a (omega arith))))
 
   -- 21 is the same by the keys and places
-  pub repeated-doubles : (lines bounds : List ℕ) → Rises bounds (length lines) → ((j : ℕ) → j < length lines → ends bounds j ≤ length kinds)
+  pub repeated-doubles : (lines bounds : List ℕ) → Rises bounds (length lines)
+      → ((j : ℕ) → j < length lines → ends bounds j ≤ length kinds)
       → repeated lines bounds (keysIn kinds args) (placesIn kinds) ≡ doubles lines bounds kinds args
   unfolding doubles
   repeated-doubles lines bounds r l = gather-same _ _ (length lines) 0 (λ j _ h. same j (omega arith))
     where
-      same : (j : ℕ) → j < length lines → repeatAt lines bounds (keysIn kinds args) (placesIn kinds) j ≡ doubleAt lines bounds kinds args j
+      same : (j : ℕ) → j < length lines → repeatAt lines bounds (keysIn kinds args) (placesIn kinds) j
+          ≡ doubleAt lines bounds kinds args j
       same j h =
           let rise = r .rise j h in
           let within = l j h in
           ap (λ (b : Bool). faultIf b (getD lines j 0) 21)
-          (ap₂ again (keys-before (begins bounds j) (omega arith)) (keys-between (begins bounds j) (ends bounds j) rise within))
+          (ap₂ again (keys-before (begins bounds j) (omega arith))
+          (keys-between (begins bounds j) (ends bounds j) rise within))

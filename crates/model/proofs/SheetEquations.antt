@@ -16,12 +16,14 @@ use Rattle.drafts.specs.Tree.{Tree, names, Constant, Initial, plain, from, Says
 use Rattle.drafts.specs.Drafts.{Draft, draft, constantDrafts, initialDraft, draftsOf}
 use Rattle.sheet.specs.Sheet.{Numbered}
 use Rattle.sheet.specs.Layout.{draftsIn}
-use Rattle.model.specs.Definitions.{Def, definitions, placeIn, Equation, equationOf, equations, noEquation, equationAt, equationCount}
+use Rattle.model.specs.Definitions.{Def, definitions, placeIn, Equation, equationOf, equations, noEquation}
+use Rattle.model.specs.Definitions.{equationAt, equationCount}
 use Rattle.drafts.specs.Places.{begins, ends, lastKind}
 use Rattle.model.specs.Places.{isEquation, equationRows, assignedSlot, usedBy, usedAt, usedOfRow}
 use Rattle.model.proofs.Lines.{no-equations}
 use Rattle.model.proofs.StatementDrafts.{expressionDrafts, expression-names}
-use Rattle.model.proofs.SheetWalk.{sheetKinds, sheetLines, sheetBounds, sheetKeys, sheetSlots, sheetRows, slotOf, kind-at, slot-at, draftsBy, begins-at}
+use Rattle.model.proofs.SheetWalk.{sheetKinds, sheetLines, sheetBounds, sheetKeys, sheetSlots, sheetRows, slotOf}
+use Rattle.model.proofs.SheetWalk.{kind-at, slot-at, draftsBy, begins-at}
 use Rattle.model.proofs.SheetWalk.{ends-at, line-at, in-statement, last-at}
 use Rattle.model.proofs.SheetKeys.{definedIn}
 
@@ -38,7 +40,8 @@ abbrev pub usedByNames : List ℕ → List ℕ → List ℕ → List ℕ
 usedByNames assigned ks ns = concat-map (λ k. usedBy assigned (suc (placeIn k ks))) ns
 
 -- the last draft of constants is a value
-constants-end : (c : Constant) (cs : List Constant) → (m : List Draft) × (x : ℕ) × (concat-map constantDrafts (c ∷ cs) ≡ m ++ (draft kindNumber x ∷ []))
+constants-end : (c : Constant) (cs : List Constant)
+    → (m : List Draft) × (x : ℕ) × (concat-map constantDrafts (c ∷ cs) ≡ m ++ (draft kindNumber x ∷ []))
 unfolding concat-map
 constants-end c [] = (draft kindConstant (c .key) ∷ [], _, refl)
 constants-end c (d ∷ cs) =
@@ -75,44 +78,53 @@ module _ (ss : List Numbered) where
     end = ends (sheetBounds ss) (length a)
 
     -- the kind of a statement's last draft
-    last-kind : (m : List Draft) (z : Draft) → draftsBy s ≡ m ++ (z ∷ []) → lastKind (sheetBounds ss) (sheetKinds ss) (length a) ≡ z .kind
+    last-kind : (m : List Draft) (z : Draft) → draftsBy s ≡ m ++ (z ∷ [])
+        → lastKind (sheetBounds ss) (sheetKinds ss) (length a) ≡ z .kind
     last-kind m z e = kind-at (draftsIn ss) _ ∙ ap (λ (d : Draft). d .kind) (last-at ss a s b p m z e)
 
     -- it says whether the statement is an equation
-    ends-with : (m : List Draft) (z : Draft) → draftsBy s ≡ m ++ (z ∷ []) → isRow (length a) ≡ (eqb (z .kind) 13 || eqb (z .kind) 14)
+    ends-with : (m : List Draft) (z : Draft) → draftsBy s ≡ m ++ (z ∷ [])
+        → isRow (length a) ≡ (eqb (z .kind) 13 || eqb (z .kind) 14)
     ends-with m z e =
-        let l : begin < end = omega (arith, begins-at ss a s b p, ends-at ss a s b p, ap length e, length-append m (z ∷ [])) in
+        let l : begin < end =
+        omega (arith, begins-at ss a s b p, ends-at ss a s b p, ap length e, length-append m (z ∷ [])) in
         rw (lt-ltb begin end l, last-kind m z e)
 
     -- assignments and state statements are, constants are not
     is-equation : (x : Says) → s .says ≡ x → isRow (length a) ≡ speaks x
     unfolding concat-map
     is-equation (constants []) e =
-        let l : end ≤ begin = omega (arith, begins-at ss a s b p, ends-at ss a s b p, ap (λ x. length (draftsOf x)) e) in
+        let l : end ≤ begin =
+        omega (arith, begins-at ss a s b p, ends-at ss a s b p, ap (λ x. length (draftsOf x)) e) in
         rw (le-ltb begin end l)
-    is-equation (constants (c ∷ cs)) e = let r = constants-end c cs in ends-with (r .0) (draft kindNumber (r .1)) (ap draftsOf e ∙ r .2)
+    is-equation (constants (c ∷ cs)) e =
+        let r = constants-end c cs in ends-with (r .0) (draft kindNumber (r .1)) (ap draftsOf e ∙ r .2)
     is-equation (assignment k t) e = ends-with (expressionDrafts t) (draft kindStore k) (ap draftsOf e)
     is-equation (state k i t) e = ends-with (stateFront k i t) (draft kindRate k) (ap draftsOf e)
 
   -- WHAT STANDS AT EACH ROW: h gives at each equation's statement what H says of the equation
   pub rows-by : {B : Type 0} (h : ℕ → B) (H : Equation → B)
-      → ((a : List Numbered) (s : Numbered) (b : List Numbered) → ss ≡ a ++ s ∷ b → (k : ℕ) (t : Tree) → s .says ≡ assignment k t
+      → ((a : List Numbered) (s : Numbered) (b : List Numbered) → ss ≡ a ++ s ∷ b → (k : ℕ) (t : Tree)
+      → s .says ≡ assignment k t
       → h (length a) ≡ H (equation (s .line) k false t))
-      → ((a : List Numbered) (s : Numbered) (b : List Numbered) → ss ≡ a ++ s ∷ b → (k : ℕ) (i : Initial) (t : Tree) → s .says ≡ state k i t
+      → ((a : List Numbered) (s : Numbered) (b : List Numbered) → ss ≡ a ++ s ∷ b → (k : ℕ) (i : Initial) (t : Tree)
+      → s .says ≡ state k i t
       → h (length a) ≡ H (equation (s .line) k true t))
       → map h (sheetRows ss) ≡ map H (equations ds)
   unfolding equationRows concat-map
   rows-by h H one two =
       rw (length-map ss (λ (s : Numbered). s .line))
       (map-gather h (λ j. onlyIf (isRow j) j) (length ss) 0
-      ∙ gather-over (λ j. map h (onlyIf (isRow j) j)) (λ s. map H (equations (definedIn s))) ss (λ a s b p. go a s b p (s .says) refl)
+      ∙ gather-over (λ j. map h (onlyIf (isRow j) j)) (λ s. map H (equations (definedIn s))) ss
+      (λ a s b p. go a s b p (s .says) refl)
       ∙ sym (ap (map H) (concat-concat (λ (d : Def). equationOf (d .line) (d .key) (d .what)) definedIn ss)
       ∙ map-concat H (λ s. equations (definedIn s)) ss))
     where
       go : (a : List Numbered) (s : Numbered) (b : List Numbered) → ss ≡ a ++ s ∷ b → (x : Says) → s .says ≡ x
           → map h (onlyIf (isRow (length a)) (length a)) ≡ map H (equations (definedIn s))
       go a s b p (constants cs) e = rw (is-equation a s b p (constants cs) e, e, no-equations (s .line) cs)
-      go a s b p (assignment k t) e = rw (is-equation a s b p (assignment k t) e, e) (ap (λ x. x ∷ []) (one a s b p k t e))
+      go a s b p (assignment k t) e =
+          rw (is-equation a s b p (assignment k t) e, e) (ap (λ x. x ∷ []) (one a s b p k t e))
       go a s b p (state k i t) e = rw (is-equation a s b p (state k i t) e, e) (ap (λ x. x ∷ []) (two a s b p k i t e))
 
   -- .. and so at one row
@@ -123,25 +135,29 @@ module _ (ss : List Numbered) where
   -- THE LINES of the equations
   pub row-lines : map (λ j. getD (sheetLines ss) j 0) (sheetRows ss) ≡ map (λ (e : Equation). e .line) (equations ds)
   row-lines =
-      rows-by (λ j. getD (sheetLines ss) j 0) (λ (e : Equation). e .line) (λ a s b p k t e. line-at ss a s b p) (λ a s b p k i t e. line-at ss a s b p)
+      rows-by (λ j. getD (sheetLines ss) j 0) (λ (e : Equation). e .line) (λ a s b p k t e. line-at ss a s b p)
+      (λ a s b p k i t e. line-at ss a s b p)
 
   -- HOW MANY they are
   pub rows-length : length (sheetRows ss) ≡ equationCount ds
-  rows-length = same-length (λ j. getD (sheetLines ss) j 0) (λ (e : Equation). e .line) (sheetRows ss) (equations ds) row-lines
+  rows-length =
+      same-length (λ j. getD (sheetLines ss) j 0) (λ (e : Equation). e .line) (sheetRows ss) (equations ds) row-lines
 
   -- ---- what each equation assigns
   abbrev assignedAt : ℕ → ℕ
   assignedAt j = assignedSlot (sheetBounds ss) (sheetKinds ss) (sheetSlots ss) j
 
   -- by its last draft
-  last-slot : (a : List Numbered) (s : Numbered) (b : List Numbered) (p : ss ≡ a ++ s ∷ b) (m : List Draft) (z : Draft) → draftsBy s ≡ m ++ (z ∷ [])
+  last-slot : (a : List Numbered) (s : Numbered) (b : List Numbered) (p : ss ≡ a ++ s ∷ b) (m : List Draft) (z : Draft)
+      → draftsBy s ≡ m ++ (z ∷ [])
       → assignedAt (length a) ≡ cond (eqb (z .kind) 13) (slotOf ks z) 0
   last-slot a s b p m z e = rw (last-kind a s b p m z e, slot-at ks (draftsIn ss) _, last-at ss a s b p m z e)
 
   -- THE SLOTS that the equations assign
   pub row-slots : map assignedAt (sheetRows ss) ≡ map (slotFor ks) (equations ds)
   row-slots =
-      rows-by assignedAt (slotFor ks) (λ a s b p k t e. last-slot a s b p (expressionDrafts t) (draft kindStore k) (ap draftsOf e))
+      rows-by assignedAt (slotFor ks)
+      (λ a s b p k t e. last-slot a s b p (expressionDrafts t) (draft kindStore k) (ap draftsOf e))
       (λ a s b p k i t e. last-slot a s b p (stateFront k i t) (draft kindRate k) (ap draftsOf e))
 
   -- ---- what each equation uses, by the slots that are assigned
@@ -157,23 +173,27 @@ module _ (ss : List Numbered) where
     used-ending : (t : Tree) (z k : ℕ) → eqb z 4 ≡ false
         → concat-map usedByDraft (expressionDrafts t ++ (draft z k ∷ [])) ≡ usedByNames assigned ks (names t)
     used-ending t z k q =
-        expression-names usedByDraft (λ k. usedBy assigned (suc (placeIn k ks))) (λ k. refl) (λ k a p q. rw q) t (draft z k)
+        expression-names usedByDraft (λ k. usedBy assigned (suc (placeIn k ks))) (λ k. refl) (λ k a p q. rw q) t
+        (draft z k)
         ∙ rw q (append-nil (usedByNames assigned ks (names t)))
 
     -- of a state statement
-    used-state : (k : ℕ) (i : Initial) (t : Tree) → concat-map usedByDraft (draftsOf (state k i t)) ≡ usedByNames assigned ks (names t)
+    used-state : (k : ℕ) (i : Initial) (t : Tree)
+        → concat-map usedByDraft (draftsOf (state k i t)) ≡ usedByNames assigned ks (names t)
     unfolding concat-map
     used-state k (plain x) t = used-ending t 14 k refl
     used-state k (from c) t = used-ending t 14 k refl
 
     -- of a statement of the sheet
-    used-row : (a : List Numbered) (s : Numbered) (b : List Numbered) → ss ≡ a ++ s ∷ b → usedIn (length a) ≡ concat-map usedByDraft (draftsBy s)
+    used-row : (a : List Numbered) (s : Numbered) (b : List Numbered) → ss ≡ a ++ s ∷ b
+        → usedIn (length a) ≡ concat-map usedByDraft (draftsBy s)
     used-row a s b p =
         in-statement ss a s b p (usedAt assigned (sheetKinds ss) (sheetSlots ss)) usedByDraft
         (λ i. rw (kind-at (draftsIn ss) i, slot-at ks (draftsIn ss) i))
 
     -- THE USES of the equations
-    pub row-uses : map usedIn (sheetRows ss) ≡ map (λ (e : Equation). usedByNames assigned ks (names (e .tree))) (equations ds)
+    pub row-uses : map usedIn (sheetRows ss)
+        ≡ map (λ (e : Equation). usedByNames assigned ks (names (e .tree))) (equations ds)
     row-uses =
         rows-by usedIn (λ (e : Equation). usedByNames assigned ks (names (e .tree)))
         (λ a s b p k t e. used-row a s b p ∙ ap (λ x. concat-map usedByDraft (draftsOf x)) e ∙ used-ending t 13 k refl)

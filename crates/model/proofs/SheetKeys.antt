@@ -17,8 +17,10 @@ use Rattle.model.specs.Definitions.{Def, definedBy, definitions, keys}
 use Rattle.model.specs.Faults.{faultIf, again, faults21}
 use Rattle.drafts.specs.Kinds.{defines}
 use Rattle.model.specs.Places.{definedAt, keysIn, placesIn, doubleAt, doubles}
-use Rattle.model.proofs.StatementDrafts.{noDraft, keyOf, defined-keys, Home, home, homesAt, homeOfDef, defined-homes}
-use Rattle.model.proofs.SheetWalk.{sheetKinds, sheetArgs, sheetLines, sheetBounds, sheetKeys, sheetPlaces, kind-at, arg-at, draftsBy, line-at, in-statement}
+use Rattle.model.proofs.StatementDrafts.{noDraft, keyOf, defined-keys, Home, home, homesAt, homeOfDef}
+use Rattle.model.proofs.StatementDrafts.{defined-homes}
+use Rattle.model.proofs.SheetWalk.{sheetKinds, sheetArgs, sheetLines, sheetBounds, sheetKeys, sheetPlaces}
+use Rattle.model.proofs.SheetWalk.{kind-at, arg-at, draftsBy, line-at, in-statement}
 use Rattle.model.proofs.SheetWalk.{before-statement}
 
 -- what a statement defines
@@ -29,11 +31,13 @@ definedIn s = definedBy (s .line) (s .says)
 drafts-keys : (ss : List Numbered) → concat-map keyOf (draftsIn ss) ≡ sheetKeys ss
 drafts-keys ss =
     concat-concat keyOf draftsBy ss
-    ∙ concat-same (λ s. concat-map keyOf (draftsBy s)) (λ s. keys (definedIn s)) (λ s. defined-keys (s .line) (s .says)) ss
+    ∙ concat-same (λ s. concat-map keyOf (draftsBy s)) (λ s. keys (definedIn s))
+    (λ s. defined-keys (s .line) (s .says)) ss
     ∙ sym (map-concat (λ (d : Def). d .key) definedIn ss)
 
 -- the keys with those of one more statement
-keys-snoc : (a : List Numbered) (s : Numbered) → keys (definitions (a ++ (s ∷ []))) ≡ keys (definitions a) ++ keys (definedIn s)
+keys-snoc : (a : List Numbered) (s : Numbered)
+    → keys (definitions (a ++ (s ∷ []))) ≡ keys (definitions a) ++ keys (definedIn s)
 unfolding concat-map
 keys-snoc a s =
     let e : definitions (a ++ (s ∷ [])) ≡ definitions a ++ definedIn s =
@@ -61,7 +65,12 @@ module _ (ss : List Numbered) where
 
   homes-at : (i : ℕ) → map homeAt (onlyIf (defines (getD (sheetKinds ss) i 0)) i) ≡ homesAt (drop i (draftsIn ss ++ []))
   homes-at i =
-      rw (append-nil (draftsIn ss), getD-drop i (draftsIn ss) 0 noDraft, getD-drop i (draftsIn ss) 1 noDraft, add-zero i)
+      rw (
+        append-nil (draftsIn ss),
+        getD-drop i (draftsIn ss) 0 noDraft,
+        getD-drop i (draftsIn ss) 1 noDraft,
+        add-zero i,
+      )
       (rw (kind-at (draftsIn ss) i) (map-only homeAt (defines (getD (draftsIn ss) i noDraft .kind)) i))
 
   -- THE PLACES: at each stands what the definition has there
@@ -70,8 +79,10 @@ module _ (ss : List Numbered) where
   homes-of =
       rw (length-map (draftsIn ss) (λ (d : Draft). d .kind))
       (map-gather homeAt (λ i. onlyIf (defines (getD (sheetKinds ss) i 0)) i) (length (draftsIn ss)) 0
-      ∙ gather-along homesAt (λ i. map homeAt (onlyIf (defines (getD (sheetKinds ss) i 0)) i)) [] (draftsIn ss) [] homes-at
-      ∙ along-parts homesAt draftsBy (λ s. map homeOfDef (definedIn s)) (λ s q. defined-homes (s .line) (s .says) q) ss []
+      ∙ gather-along homesAt (λ i. map homeAt (onlyIf (defines (getD (sheetKinds ss) i 0)) i)) []
+      (draftsIn ss) [] homes-at
+      ∙ along-parts homesAt draftsBy (λ s. map homeOfDef (definedIn s))
+      (λ s q. defined-homes (s .line) (s .says) q) ss []
       ∙ sym (map-concat homeOfDef definedIn ss))
 
   -- so there are as many
@@ -92,5 +103,6 @@ module _ (ss : List Numbered) where
   unfolding doubles faults21 concat-map
   doubles-of =
       rw (length-map ss (λ (s : Numbered). s .line))
-      (gather-fronts (doubleAt (sheetLines ss) (sheetBounds ss) (sheetKinds ss) (sheetArgs ss)) (λ a b. faults21 (keys (definitions a)) b) ss (λ a. refl)
+      (gather-fronts (doubleAt (sheetLines ss) (sheetBounds ss) (sheetKinds ss) (sheetArgs ss))
+      (λ a b. faults21 (keys (definitions a)) b) ss (λ a. refl)
       (λ a s b p. ap₂ (λ x y. x ++ faults21 y b) (sym (double-at a s b p)) (sym (keys-snoc a s))) [] ss refl)

@@ -1,4 +1,5 @@
--- The table of uses says what equations use of one another; so the order of the table is the order of the definitions. Fault 24.
+-- The table of uses says what equations use of one another; so the order of the table is the order of the definitions.
+-- Fault 24.
 use Prim.Native.Nat.{ℕ, suc, _+_, _≤_, _<_}
 use mathlib.Core.Path.{_≡_, refl, sym, ap, ap₂, _∙_}
 use mathlib.Core.Bool.{Bool, true, false, not, _&&_, _||_, and-false}
@@ -17,23 +18,27 @@ use Rattle.laws.proofs.Along.{gather-numbers}
 use Rattle.laws.proofs.Gathers.{gather-same}
 use Rattle.laws.proofs.Members.{has-append, has-one, has-cons, at-in}
 use Rattle.drafts.specs.Tree.{names}
-use Rattle.sheet.specs.Sheet.{Numbered, Fault}
+use Rattle.sheet.specs.Sheet.{Numbered}
 use Rattle.order.specs.Greedy.{order}
 use Rattle.order.proofs.Sorting.{order-same}
 use Rattle.order.proofs.Chains.{left-over-unsortable}
-use Rattle.model.specs.Definitions.{Def, definitions, keys, placeIn, Equation, equations, noEquation, equationAt, equationCount}
+use Rattle.model.specs.Definitions.{Def, definitions, keys, placeIn, Equation, equations, noEquation, equationAt}
+use Rattle.model.specs.Definitions.{equationCount}
 use Rattle.model.specs.Faults.{faultIf, usesIn, fault24, faults24, orderOf}
 use Rattle.model.specs.Places.{usedBy, loopAt, loops}
 use Rattle.model.proofs.SheetWalk.{sheetKinds, sheetLines, sheetBounds, sheetSlots, sheetRows}
-use Rattle.model.proofs.KeyPlaces.{Once, place-in, place-at, place-same, at-same, equationKeys, count-keys, key-at, equations-once}
+use Rattle.model.proofs.KeyPlaces.{Once, place-in, place-at, place-same, at-same, equationKeys, count-keys}
+use Rattle.model.proofs.KeyPlaces.{key-at, equations-once}
 use Rattle.model.proofs.UsesFit.{assignedOf, usesOf, usedOf, table-row}
-use Rattle.model.proofs.SheetEquations.{slotFor, usedByNames, row-lines, rows-length, row-at, row-slots, row-uses}
+use Rattle.model.proofs.SheetEquations.{slotFor, usedByNames, row-lines, rows-length, row-at, row-slots}
+use Rattle.model.proofs.SheetEquations.{row-uses}
 
 -- a number below m that may be taken is the one taken
 has-only : (j p m : ℕ) → j < m → has j (onlyIf (ltb p m) p) ≡ eqb j p
 unfolding count
 has-only j p m h =
-    ⊎-elim (λ t. rw t (has-one j p)) (λ t. rw t (sym (ne-eqb j p (λ e. omega (arith, ltb-false p m t))))) (bool-cases (ltb p m))
+    ⊎-elim (λ t. rw t (has-one j p)) (λ t. rw t (sym (ne-eqb j p (λ e. omega (arith, ltb-false p m t)))))
+    (bool-cases (ltb p m))
 
 -- a test with either of two others
 and-either : (b u v : Bool) → (b && u || b && v) ≡ (b && (u || v))
@@ -65,7 +70,8 @@ module _ (ds : List Def) (distinct : Once (keys ds)) where
       omega (arith, rw (key-at ds i) at (at-in (equationKeys ds) i l), count-keys (equationAt ds i .key) ds)
 
   -- the slot of k is assigned by the equation of k alone
-  found : (i k : ℕ) → i < n → getD assigned i 0 ≡ suc (placeIn k ks) → (equationAt ds i .held ≡ false) × (k ≡ equationAt ds i .key)
+  found : (i k : ℕ) → i < n → getD assigned i 0 ≡ suc (placeIn k ks)
+      → (equationAt ds i .held ≡ false) × (k ≡ equationAt ds i .key)
   found i k h e = go (equationAt ds i .held) refl
     where
       go : (b : Bool) → equationAt ds i .held ≡ b → (equationAt ds i .held ≡ false) × (k ≡ equationAt ds i .key)
@@ -94,7 +100,8 @@ module _ (ds : List Def) (distinct : Once (keys ds)) where
     fits-first : (k : ℕ) → fits k ≡ true → j ≡ first k
     fits-first k t =
         let u = and-true (not held) (eqb key k) t in
-        let e : getD assigned j 0 ≡ suc (placeIn k ks) = assigned-at j h ∙ rw (not-true held (u .0), eqb-true key k (u .1)) in
+        let e : getD assigned j 0 ≡ suc (placeIn k ks) =
+        assigned-at j h ∙ rw (not-true held (u .0), eqb-true key k (u .1)) in
         let m : suc (placeIn k ks) ∈ assigned = rw e at (at-in assigned j (omega (arith, many))) in
         let l = place-in (suc (placeIn k ks)) assigned m in
         let f = found (first k) k (omega (arith, many)) (place-at (suc (placeIn k ks)) assigned l) in
@@ -105,14 +112,16 @@ module _ (ds : List Def) (distinct : Once (keys ds)) where
     -- and assigns it, if it is the first
     first-fits : (k : ℕ) → j ≡ first k → fits k ≡ true
     first-fits k e =
-        let f = found j k h (ap (λ i. getD assigned i 0) e ∙ place-at (suc (placeIn k ks)) assigned (omega (arith, many))) in
+        let f = found j k h (ap (λ i. getD assigned i 0) e
+        ∙ place-at (suc (placeIn k ks)) assigned (omega (arith, many))) in
         and-both (not held) (eqb key k) (rw (f .0)) (eq-eqb key k (sym (f .1)))
 
     -- so a name uses it exactly if it assigns that name
     uses-one : (k : ℕ) → has j (usedBy assigned (suc (placeIn k ks))) ≡ fits k
     uses-one k =
         has-only j (first k) (length assigned) (omega (arith, many))
-        ∙ ⊎-elim (λ t. eq-eqb j (first k) (fits-first k t) ∙ sym t) (λ t. ne-eqb j (first k) (λ e. not-both (first-fits k e) t) ∙ sym t)
+        ∙ ⊎-elim (λ t. eq-eqb j (first k) (fits-first k t) ∙ sym t)
+        (λ t. ne-eqb j (first k) (λ e. not-both (first-fits k e) t) ∙ sym t)
         (bool-cases (fits k))
 
     -- and so does a row of names
@@ -120,7 +129,8 @@ module _ (ds : List Def) (distinct : Once (keys ds)) where
     unfolding concat-map count
     uses-names [] = sym (and-false (not held))
     uses-names (k ∷ ns) =
-        has-append j (usedBy assigned (suc (placeIn k ks))) (usedByNames assigned ks ns) ∙ ap₂ _||_ (uses-one k) (uses-names ns)
+        has-append j (usedBy assigned (suc (placeIn k ks))) (usedByNames assigned ks ns)
+        ∙ ap₂ _||_ (uses-one k) (uses-names ns)
         ∙ and-either (not held) (eqb key k) (has key ns) ∙ ap (λ b. not held && b) (sym (has-cons key k ns))
 
 -- ---- of a sheet
@@ -134,7 +144,8 @@ module _ (ss : List Numbered) where
 
   module _ (distinct : Once (keys defs)) where
     -- THE TABLE
-    pub uses-of : (i j : ℕ) → i < length (sheetRows ss) → j < length (sheetRows ss) → has j (sheetUsed i) ≡ usesIn defs i j
+    pub uses-of : (i j : ℕ) → i < length (sheetRows ss) → j < length (sheetRows ss)
+        → has j (sheetUsed i) ≡ usesIn defs i j
     uses-of i j h l =
         let ks = keys defs in
         let f = usesOf (sheetBounds ss) (sheetKinds ss) (sheetSlots ss) (sheetRows ss) in
@@ -148,7 +159,8 @@ module _ (ss : List Numbered) where
     -- THE ORDER
     pub order-of : order (length (sheetRows ss)) (λ i j. has j (sheetUsed i)) ≡ orderOf defs
     order-of =
-        order-same (length (sheetRows ss)) (λ i j. has j (sheetUsed i)) (usesIn defs) uses-of ∙ ap (λ n. order n (usesIn defs)) (rows-length ss)
+        order-same (length (sheetRows ss)) (λ i j. has j (sheetUsed i)) (usesIn defs) uses-of
+        ∙ ap (λ n. order n (usesIn defs)) (rows-length ss)
 
   -- 24
   pub loops-of : loops (orderOf defs) (sheetRows ss) (sheetLines ss) ≡ faults24 defs
@@ -156,9 +168,12 @@ module _ (ss : List Numbered) where
   loops-of =
       let n = equationCount defs in
       rw (rows-length ss)
-      (gather-same (loopAt (orderOf defs) (sheetRows ss) (sheetLines ss)) (fault24 defs) n 0 one ∙ gather-numbers (fault24 defs) n 0)
+      (gather-same (loopAt (orderOf defs) (sheetRows ss) (sheetLines ss)) (fault24 defs) n 0 one
+      ∙ gather-numbers (fault24 defs) n 0)
     where
-      one : (r : ℕ) → 0 ≤ r → r < 0 + equationCount defs → loopAt (orderOf defs) (sheetRows ss) (sheetLines ss) r ≡ fault24 defs r
+      one : (r : ℕ) → 0 ≤ r → r < 0 + equationCount defs
+          → loopAt (orderOf defs) (sheetRows ss) (sheetLines ss) r ≡ fault24 defs r
       one r _ h =
-          let l = row-at ss (λ j. getD (sheetLines ss) j 0) (λ (e : Equation). e .line) (row-lines ss) r (omega (arith, rows-length ss)) in
+          let l = row-at ss (λ j. getD (sheetLines ss) j 0) (λ (e : Equation). e .line) (row-lines ss) r
+          (omega (arith, rows-length ss)) in
           ap₂ (λ b n. faultIf b n 24) (left-over-unsortable (equationCount defs) (usesIn defs) r (omega arith)) l

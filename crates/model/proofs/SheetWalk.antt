@@ -47,7 +47,8 @@ sheetLines ss = map (λ (s : Numbered). s .line) ss
 abbrev pub sheetBounds : List Numbered → List ℕ
 sheetBounds ss = boundsFrom 0 ss
 
--- the keys of their definitions, and what is worked out from the arrays: slots, places of definitions, rows of equations
+-- the keys of their definitions, and what is worked out from the arrays: slots, places of definitions, rows of
+-- equations
 abbrev pub sheetKeys : List Numbered → List ℕ
 sheetKeys ss = keys (definitions ss)
 
@@ -107,36 +108,47 @@ module _ (ss a : List Numbered) (s : Numbered) (b : List Numbered) (p : ss ≡ a
   drafts-split = rw p (concat-append draftsBy a (s ∷ b))
 
   -- the kind of its first draft
-  pub first-kind : getD (sheetKinds ss) (begins (sheetBounds ss) (length a)) 0 ≡ getD (draftsBy s ++ draftsIn b) 0 noDraft .kind
+  pub first-kind : getD (sheetKinds ss) (begins (sheetBounds ss) (length a)) 0
+      ≡ getD (draftsBy s ++ draftsIn b) 0 noDraft .kind
   first-kind =
       rw (kind-at (draftsIn ss) (begins (sheetBounds ss) (length a)), begins-at, drafts-split)
-      (ap (λ (d : Draft). d .kind) (rw (add-zero (length (draftsIn a))) at (getD-append-add (draftsIn a) (draftsBy s ++ draftsIn b) 0 noDraft)))
+      (ap (λ (d : Draft). d .kind)
+      (rw (add-zero (length (draftsIn a))) at (getD-append-add (draftsIn a) (draftsBy s ++ draftsIn b) 0 noDraft)))
 
   -- so many are its own
   pub span : ends (sheetBounds ss) (length a) - begins (sheetBounds ss) (length a) ≡ length (draftsBy s)
   span = omega (arith, begins-at, ends-at)
 
   -- THE WALK: gathering over the places of the statement is gathering over its drafts
-  pub in-statement : {B : Type 0} (f : ℕ → List B) (G : Draft → List B) → ((i : ℕ) → f i ≡ G (getD (draftsIn ss) i noDraft))
+  pub in-statement : {B : Type 0} (f : ℕ → List B) (G : Draft → List B)
+      → ((i : ℕ) → f i ≡ G (getD (draftsIn ss) i noDraft))
       → inStatement (sheetBounds ss) f (length a) ≡ concat-map G (draftsBy s)
-  in-statement f G e = rw (span, begins-at) (gather-part f G noDraft (draftsIn a) (draftsBy s) (draftsIn b) (rw drafts-split at e))
+  in-statement f G e =
+      rw (span, begins-at) (gather-part f G noDraft (draftsIn a) (draftsBy s) (draftsIn b) (rw drafts-split at e))
 
   -- a test at some place of the statement
   pub any-statement : (f : ℕ → Bool) (G : Draft → Bool) → ((i : ℕ) → f i ≡ G (getD (draftsIn ss) i noDraft))
       → anyOf (sheetBounds ss) f (length a) ≡ filled (concat-map (λ d. onlyIf (G d) (tt {0})) (draftsBy s))
   any-statement f G e =
-      any-filled f _ _ ∙ ap filled (in-statement (λ i. onlyIf (f i) (tt {0})) (λ d. onlyIf (G d) (tt {0})) (λ i. rw (e i)))
+      any-filled f _ _
+      ∙ ap filled (in-statement (λ i. onlyIf (f i) (tt {0})) (λ d. onlyIf (G d) (tt {0})) (λ i. rw (e i)))
 
   -- gathering over all places before the statement
-  pub before-statement : {B : Type 0} (f : ℕ → List B) (G : Draft → List B) → ((i : ℕ) → f i ≡ G (getD (draftsIn ss) i noDraft))
+  pub before-statement : {B : Type 0} (f : ℕ → List B) (G : Draft → List B)
+      → ((i : ℕ) → f i ≡ G (getD (draftsIn ss) i noDraft))
       → gather f (begins (sheetBounds ss) (length a)) 0 ≡ concat-map G (draftsIn a)
-  before-statement f G e = rw begins-at (gather-part f G noDraft [] (draftsIn a) (draftsBy s ++ draftsIn b) (rw drafts-split at e))
+  before-statement f G e =
+      rw begins-at (gather-part f G noDraft [] (draftsIn a) (draftsBy s ++ draftsIn b) (rw drafts-split at e))
 
   -- the last draft of the statement
-  pub last-at : (m : List Draft) (z : Draft) → draftsBy s ≡ m ++ (z ∷ []) → getD (draftsIn ss) (ends (sheetBounds ss) (length a) - 1) noDraft ≡ z
+  pub last-at : (m : List Draft) (z : Draft) → draftsBy s ≡ m ++ (z ∷ [])
+      → getD (draftsIn ss) (ends (sheetBounds ss) (length a) - 1) noDraft ≡ z
   last-at m z e =
       let x = draftsIn a ++ m in
       let w : draftsIn ss ≡ x ++ z ∷ draftsIn b =
-      drafts-split ∙ ap (λ r. draftsIn a ++ (r ++ draftsIn b)) e ∙ ap (λ r. draftsIn a ++ r) (append-assoc m (z ∷ []) (draftsIn b))
+      drafts-split ∙ ap (λ r. draftsIn a ++ (r ++ draftsIn b)) e
+      ∙ ap (λ r. draftsIn a ++ r) (append-assoc m (z ∷ []) (draftsIn b))
       ∙ sym (append-assoc (draftsIn a) m (z ∷ draftsIn b)) in
-      rw w (getD-at x z (draftsIn b) noDraft _ (omega (arith, length-append (draftsIn a) m, ends-at, ap length e, length-append m (z ∷ []))))
+      rw w
+      (getD-at x z (draftsIn b) noDraft _
+      (omega (arith, length-append (draftsIn a) m, ends-at, ap length e, length-append m (z ∷ []))))

@@ -8,7 +8,8 @@ use native.Mathlib.Omega.{arith}
 use Rattle.drafts.specs.Kinds.{kindFetch}
 use borrow.Author.Tests.{eq-eqb, ne-eqb, lt-ltb}
 use lib.Dec.{ltb, leb·suc-suc}
-use lib.ListN.{length, getD, set, drop, replicate, length-set, length-map, length-replicate, getD-replicate, drop-of-length-le}
+use lib.ListN.{length, getD, set, drop, replicate, length-set, length-map, length-replicate, getD-replicate}
+use lib.ListN.{drop-of-length-le}
 use lib.Seq.{drop-cons, getD-set-same, getD-set-other}
 use Rattle.limits.specs.Limits.{mostStatements}
 use Rattle.laws.specs.Places.{onlyIf}
@@ -23,7 +24,8 @@ map-at f (a ∷ l) zero h = refl
 map-at f (a ∷ l) (suc i) h = map-at f l i (omega arith)
 
 -- the slot that equation r assigns, as it was read
-pub assigned-at : (rows bounds kinds slots : List ℕ) (r : ℕ) {s j : ℕ} → r < length rows → s ≡ assignedSlot bounds kinds slots j → j ≡ getD rows r 0
+pub assigned-at : (rows bounds kinds slots : List ℕ) (r : ℕ) {s j : ℕ} → r < length rows
+    → s ≡ assignedSlot bounds kinds slots j → j ≡ getD rows r 0
     → s ≡ getD (assignedSlots rows bounds kinds slots) r 0
 assigned-at rows bounds kinds slots r h p q =
     p ∙ ap (assignedSlot bounds kinds slots) q ∙ sym (map-at (assignedSlot bounds kinds slots) rows r h)
@@ -52,7 +54,8 @@ pub record Owning (assigned : List ℕ) (r : ℕ) (owners : List ℕ) : Type 0 w
   pub long : length owners ≡ mostStatements + 1
   pub owner : (s : ℕ) → s < length owners → getD owners s 0 ≡ ownerFrom r (drop r assigned) s
 
-pub owning-first : (assigned : List ℕ) {owners : List ℕ} → owners ≡ replicate (mostStatements + 1) 0 → Owning assigned (length assigned) owners
+pub owning-first : (assigned : List ℕ) {owners : List ℕ} → owners ≡ replicate (mostStatements + 1) 0
+    → Owning assigned (length assigned) owners
 owning-first assigned {owners} e =
     let long : length owners ≡ mostStatements + 1 = ap length e ∙ length-replicate {A = ℕ} (mostStatements + 1) 0 in
     record {
@@ -71,7 +74,8 @@ owning-start rows bounds kinds slots {owners} e =
     rw (length-map rows (assignedSlot bounds kinds slots)) at (owning-first assigned {owners = owners} e)
 
 module _ {assigned owners : List ℕ} {r : ℕ} (v : Owning assigned r owners) where
-  pub owning-next : {a : ℕ} {owners′ : List ℕ} → 0 < r → a ≡ getD assigned (r - 1) 0 → owners′ ≡ set owners a r → Owning assigned (r - 1) owners′
+  pub owning-next : {a : ℕ} {owners′ : List ℕ} → 0 < r → a ≡ getD assigned (r - 1) 0 → owners′ ≡ set owners a r
+      → Owning assigned (r - 1) owners′
   owning-next {a} {owners′} h p e =
       record { within = omega (arith, v .within); long = ap length e ∙ length-set owners a r ∙ v .long; owner = at }
     where
@@ -97,7 +101,8 @@ module _ {assigned owners : List ℕ} {r : ℕ} (v : Owning assigned r owners) w
           later : (s ≡ a → ⊥) → getD owners′ s 0 ≡ ownerFrom (r - 1) (a ∷ drop r assigned) s
           later z =
               ap (λ (l : List ℕ). getD l s 0) e ∙ getD-set-other owners a s r 0 z ∙ v .owner s inside
-              ∙ ap (λ (i : ℕ). ownerFrom i (drop r assigned) s) (sym back) ∙ sym (owner-later (r - 1) a (drop r assigned) s z)
+              ∙ ap (λ (i : ℕ). ownerFrom i (drop r assigned) s) (sym back)
+              ∙ sym (owner-later (r - 1) a (drop r assigned) s z)
 
   pub owning-last : r ≤ 0 → Owned assigned owners
   owning-last h = record { long = v .long; owner = λ s l. v .owner s l ∙ whole s }
@@ -110,10 +115,12 @@ module _ {assigned owners : List ℕ} {r : ℕ} (v : Owning assigned r owners) w
           ∙ ap (λ (n : ℕ). cond (ltb (placeIn s assigned) (length assigned)) n 0) p
 
 -- what is used, by the owner
-owner-used : (assigned owners : List ℕ) (s : ℕ) → getD owners s 0 ≡ ownerIn assigned s → usedOwner owners s ≡ usedBy assigned s
+owner-used : (assigned owners : List ℕ) (s : ℕ) → getD owners s 0 ≡ ownerIn assigned s
+    → usedOwner owners s ≡ usedBy assigned s
 owner-used assigned owners s e = rw e (go (ltb (placeIn s assigned) (length assigned)))
   where
-    go : (b : Bool) → onlyIf (ltb 0 (cond b (placeIn s assigned + 1) 0)) (cond b (placeIn s assigned + 1) 0 - 1) ≡ onlyIf b (placeIn s assigned)
+    go : (b : Bool) → onlyIf (ltb 0 (cond b (placeIn s assigned + 1) 0)) (cond b (placeIn s assigned + 1) 0 - 1)
+        ≡ onlyIf b (placeIn s assigned)
     go true =
         let p : placeIn s assigned + 1 - 1 ≡ placeIn s assigned = omega arith in
         rw (lt-ltb 0 (placeIn s assigned + 1) (omega arith), p)
@@ -123,7 +130,8 @@ owner-used assigned owners s e = rw e (go (ltb (placeIn s assigned) (length assi
 pub used-same : {assigned owners kinds slots : List ℕ} → Owned assigned owners → Slotted kinds slots → (i : ℕ)
     → usedFrom owners kinds slots i ≡ usedAt assigned kinds slots i
 used-same {assigned} {owners} {kinds} {slots} o s i =
-    ⊎-elim (λ (e : getD kinds i 0 ≡ kindFetch). named e) (λ (n : getD kinds i 0 ≡ kindFetch → ⊥). rw (ne-eqb (getD kinds i 0) kindFetch n)) (eq-or-ne (getD kinds i 0) 4)
+    ⊎-elim (λ (e : getD kinds i 0 ≡ kindFetch). named e)
+    (λ (n : getD kinds i 0 ≡ kindFetch → ⊥). rw (ne-eqb (getD kinds i 0) kindFetch n)) (eq-or-ne (getD kinds i 0) 4)
   where
     named : getD kinds i 0 ≡ kindFetch → usedFrom owners kinds slots i ≡ usedAt assigned kinds slots i
     named e =

@@ -11,7 +11,8 @@ use Rattle.laws.specs.Places.{onlyIf}
 use Rattle.laws.proofs.Lists.{concat-append}
 use Rattle.laws.proofs.Concats.{concat-concat, concat-mapped, concat-same}
 use Rattle.laws.proofs.Along.{along, along-append, along-one}
-use Rattle.drafts.specs.Tree.{plus, minus, times, over, compar, insw, limit, Tree, value, named, time, negated, two, three, names, plain, from, Says}
+use Rattle.drafts.specs.Tree.{plus, minus, times, over, compar, insw, limit, Tree, value, named, time, negated, two}
+use Rattle.drafts.specs.Tree.{three, names, plain, from, Says}
 use Rattle.drafts.specs.Tree.{constants, assignment, state}
 use Rattle.drafts.specs.Items.{Item, push, fetch, clock, negate, apply-two, apply-three, postfix}
 use Rattle.drafts.specs.Drafts.{Draft, draft, draftItem, draftsOf}
@@ -39,7 +40,8 @@ fetched (apply-three o) = []
 
 -- what is given for a name's draft and for every other plain one is given for each item
 by-item : (P : Item → Draft → Type 0) → ((k : ℕ) → Plain kindFetch → P (fetch k) (draft kindFetch k))
-    → ((x : Item) (k a : ℕ) → Plain k → eqb k kindFetch ≡ false → fetched x ≡ [] → P x (draft k a)) → (x : Item) → P x (draftItem x)
+    → ((x : Item) (k a : ℕ) → Plain k → eqb k kindFetch ≡ false → fetched x ≡ [] → P x (draft k a)) → (x : Item)
+    → P x (draftItem x)
 by-item P four rest (push x) = rest (push x) 3 (toBits binary64 x) (refl, refl, refl, refl) refl refl
 by-item P four rest (fetch k) = four k (refl, refl, refl, refl)
 by-item P four rest clock = rest clock 17 0 (refl, refl, refl, refl) refl refl
@@ -58,17 +60,20 @@ unfolding concat-map postfix names
 fetched-names (value x) = refl
 fetched-names (named k) = refl
 fetched-names time = refl
-fetched-names (negated a) = concat-append fetched (postfix a) (negate ∷ []) ∙ append-nil (concat-map fetched (postfix a)) ∙ fetched-names a
+fetched-names (negated a) =
+    concat-append fetched (postfix a) (negate ∷ []) ∙ append-nil (concat-map fetched (postfix a)) ∙ fetched-names a
 fetched-names (two o a b) =
     concat-append fetched (postfix a) (postfix b ++ (apply-two o ∷ []))
     ∙ ap₂ _++_ (fetched-names a)
-    (concat-append fetched (postfix b) (apply-two o ∷ []) ∙ append-nil (concat-map fetched (postfix b)) ∙ fetched-names b)
+    (concat-append fetched (postfix b) (apply-two o ∷ []) ∙ append-nil (concat-map fetched (postfix b))
+    ∙ fetched-names b)
 fetched-names (three o a b c) =
     concat-append fetched (postfix a) (postfix b ++ (postfix c ++ (apply-three o ∷ [])))
     ∙ ap₂ _++_ (fetched-names a)
     (concat-append fetched (postfix b) (postfix c ++ (apply-three o ∷ []))
     ∙ ap₂ _++_ (fetched-names b)
-    (concat-append fetched (postfix c) (apply-three o ∷ []) ∙ append-nil (concat-map fetched (postfix c)) ∙ fetched-names c))
+    (concat-append fetched (postfix c) (apply-three o ∷ []) ∙ append-nil (concat-map fetched (postfix c))
+    ∙ fetched-names c))
 
 -- the drafts of an expression
 abbrev pub expressionDrafts : Tree → List Draft
@@ -80,20 +85,26 @@ along-items : {B : Type 0} (G : List Draft → List B) → ((k a : ℕ) (l : Lis
 unfolding along
 along-items G none [] q = refl
 along-items G none (x ∷ xs) q =
-    ap₂ _++_ (by-item (λ x d. G (d ∷ (map draftItem xs ++ q)) ≡ []) (λ k p. none 4 k _ p) (λ x k a p _ _. none k a _ p) x) (along-items G none xs q)
+    ap₂ _++_
+    (by-item (λ x d. G (d ∷ (map draftItem xs ++ q)) ≡ []) (λ k p. none 4 k _ p) (λ x k a p _ _. none k a _ p) x)
+    (along-items G none xs q)
 
 -- so of an expression with one draft behind it only that one counts
-pub along-expression : {B : Type 0} (G : List Draft → List B) → ((k a : ℕ) (l : List Draft) → Plain k → G (draft k a ∷ l) ≡ [])
+pub along-expression : {B : Type 0} (G : List Draft → List B)
+    → ((k a : ℕ) (l : List Draft) → Plain k → G (draft k a ∷ l) ≡ [])
     → (e : Tree) (z : Draft) (q : List Draft) → along G (expressionDrafts e ++ (z ∷ [])) q ≡ G (z ∷ q) ++ []
 unfolding along
 along-expression G none e z q =
-    along-append G (expressionDrafts e) (z ∷ []) q ∙ ap (λ r. r ++ (G (z ∷ q) ++ [])) (along-items G none (postfix e) (z ∷ q))
+    along-append G (expressionDrafts e) (z ∷ []) q
+    ∙ ap (λ r. r ++ (G (z ∷ q) ++ [])) (along-items G none (postfix e) (z ∷ q))
 
 -- the same, draft by draft
-pub expression-none : {B : Type 0} (G : Draft → List B) → ((k a : ℕ) → Plain k → G (draft k a) ≡ []) → (e : Tree) (z : Draft)
+pub expression-none : {B : Type 0} (G : Draft → List B) → ((k a : ℕ) → Plain k → G (draft k a) ≡ [])
+    → (e : Tree) (z : Draft)
     → concat-map G (expressionDrafts e ++ (z ∷ [])) ≡ G z ++ []
 expression-none G none e z =
-    sym (along-one G noDraft (expressionDrafts e ++ (z ∷ [])) []) ∙ along-expression (λ l. G (getD l 0 noDraft)) (λ k a l p. none k a p) e z []
+    sym (along-one G noDraft (expressionDrafts e ++ (z ∷ [])) [])
+    ∙ along-expression (λ l. G (getD l 0 noDraft)) (λ k a l p. none k a p) e z []
 
 -- what gives something for names alone gives it for the names of the expression, and then for the draft behind it
 pub expression-names : {B : Type 0} (G : Draft → List B) (F : ℕ → List B) → ((a : ℕ) → G (draft kindFetch a) ≡ F a)
@@ -109,7 +120,8 @@ expression-names G F four rest e z =
     ∙ ap (concat-map F) (fetched-names e))
   where
     one : (x : Item) → G (draftItem x) ≡ concat-map F (fetched x)
-    one = by-item (λ x d. G d ≡ concat-map F (fetched x)) (λ k p. four k ∙ sym (append-nil (F k))) (λ x k a p q r. rest k a p q ∙ sym (ap (concat-map F) r))
+    one = by-item (λ x d. G d ≡ concat-map F (fetched x)) (λ k p. four k ∙ sym (append-nil (F k)))
+        (λ x k a p q r. rest k a p q ∙ sym (ap (concat-map F) r))
 
 -- ---- what a statement defines
 
@@ -170,7 +182,11 @@ homes-none k a l p = rw (p .0)
 pub defined-homes : (l : ℕ) (x : Says) (q : List Draft) → along homesAt (draftsOf x) q ≡ map homeOfDef (definedBy l x)
 unfolding along concat-map
 defined-homes l (constants []) q = refl
-defined-homes l (constants (c ∷ cs)) q = ap (_∷_ (home (draft kindConstant (c .key)) (draft kindNumber (toBits binary64 (c .worth))))) (defined-homes l (constants cs) q)
+defined-homes l (constants (c ∷ cs)) q =
+    ap (_∷_ (home (draft kindConstant (c .key)) (draft kindNumber (toBits binary64 (c .worth)))))
+    (defined-homes l (constants cs) q)
 defined-homes l (assignment k e) q = along-expression homesAt homes-none e (draft kindStore k) q
-defined-homes l (state k (plain x) e) q = ap (_∷_ (home (draft kindInitial k) noDraft)) (along-expression homesAt homes-none e (draft kindRate k) q)
-defined-homes l (state k (from c) e) q = ap (_∷_ (home (draft kindInitial k) noDraft)) (along-expression homesAt homes-none e (draft kindRate k) q)
+defined-homes l (state k (plain x) e) q =
+    ap (_∷_ (home (draft kindInitial k) noDraft)) (along-expression homesAt homes-none e (draft kindRate k) q)
+defined-homes l (state k (from c) e) q =
+    ap (_∷_ (home (draft kindInitial k) noDraft)) (along-expression homesAt homes-none e (draft kindRate k) q)

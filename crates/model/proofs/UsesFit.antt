@@ -1,18 +1,16 @@
 -- The table of uses, of any arrays: one that can be ordered.
-use Prim.Native.Nat.{ℕ, suc, _+_, _≤_, _<_}
-use mathlib.Core.Path.{_≡_, refl, ap, _∙_}
+use Prim.Native.Nat.{ℕ, suc, _+_, _<_}
+use mathlib.Core.Path.{_≡_, refl, ap}
 use mathlib.Core.List.{List, [], _∷_, _++_}
-use native.Mathlib.Nat.{zero-add}
 use native.Mathlib.Omega.{arith}
 use lib.Dec.{eqb}
-use lib.ListN.{length, getD, take, drop, length-append, length-map, take-append-drop}
-use lib.Seq.{slice, split-at, length-take-le, take-length}
+use lib.ListN.{length, getD, take, drop, length-map}
+use lib.Seq.{slice, split-at, length-take-le}
 use Rattle.laws.specs.Lists.{concat-map}
 use Rattle.laws.specs.Counts.{count}
 use Rattle.laws.proofs.Tests.{cond-ind}
-use Rattle.laws.proofs.Lists.{concat-append}
-use Rattle.laws.proofs.Along.{startsAt, length-starts, start-at, end-at, part-at}
-use Rattle.laws.proofs.Members.{at-in, Below, below-concat, below-gather, below-only}
+use Rattle.laws.proofs.Along.{startsAt, part-at}
+use Rattle.laws.proofs.Members.{Below, below-concat, below-gather, below-only}
 use Rattle.drafts.specs.Kinds.{kindFetch}
 use Rattle.model.specs.Definitions.{placeIn}
 use Rattle.model.specs.Places.{assignedSlot, assignedSlots, usedBy, usedAt, usedOfRow, usedIn, startsFrom}
@@ -30,7 +28,8 @@ used-at : (assigned bounds kinds slots rows : List ℕ)
     → usedIn assigned bounds kinds slots rows ≡ concat-map (usedOfRow assigned bounds kinds slots) rows
 unfolding usedIn concat-map
 used-at assigned bounds kinds slots [] = refl
-used-at assigned bounds kinds slots (j ∷ rows) = ap (λ r. usedOfRow assigned bounds kinds slots j ++ r) (used-at assigned bounds kinds slots rows)
+used-at assigned bounds kinds slots (j ∷ rows) =
+    ap (λ r. usedOfRow assigned bounds kinds slots j ++ r) (used-at assigned bounds kinds slots rows)
 
 module _ (bounds kinds slots rows : List ℕ) where
   abbrev pub assignedOf : List ℕ
@@ -70,33 +69,6 @@ module _ (bounds kinds slots rows : List ℕ) where
           cond-ind (Below (length assignedOf)) (eqb (getD kinds i 0) kindFetch) (usedBy assignedOf (getD slots i 0)) []
           (λ t. below-only (length assignedOf) (placeIn (getD slots i 0) assignedOf)) (λ t j h. absurd (omega arith))
 
-  -- the same by place
-  pub used-few-at : (k : ℕ) → k < length tableOf → getD tableOf k 0 < length rows
-  used-few-at k h = used-few (getD tableOf k 0) (at-in tableOf k h)
-
-  -- one start for each equation, and one more
-  pub starts-many : length startsOf ≡ suc (length rows)
-  starts-many = rw starts-eq (length-starts usesOf 0 rows)
-
-  -- where the uses of a row begin: behind all before it
-  start-of : (i : ℕ) → i ≤ length rows → getD startsOf i 0 ≡ length (concat-map usesOf (take i rows))
-  start-of i h =
-      let l : length (take i rows) ≡ i = length-take-le i rows h in
-      let s = start-at usesOf 0 (take i rows) (drop i rows) in
-      rw starts-eq (rw (take-append-drop i rows, l) at s ∙ zero-add _)
-
-  -- the starts end at the table's length
-  pub starts-last : getD startsOf (length rows) 0 ≡ length tableOf
-  starts-last = rw table-eq (start-of (length rows) (omega arith) ∙ ap (λ l. length (concat-map usesOf l)) (take-length rows))
-
-  -- none is past it
-  pub starts-inside : (i : ℕ) → i ≤ length rows → getD startsOf i 0 ≤ length tableOf
-  starts-inside i h =
-      let x = concat-map usesOf (take i rows) in
-      let y = concat-map usesOf (drop i rows) in
-      let d : concat-map usesOf rows ≡ x ++ y = rw (take-append-drop i rows) at (concat-append usesOf (take i rows) (drop i rows)) in
-      rw (table-eq, start-of i h, d) (omega (arith, length-append x y))
-
   module _ (i : ℕ) (h : i < length rows) where
     row-split : rows ≡ take i rows ++ getD rows i 0 ∷ drop (suc i) rows
     row-split = split-at rows i 0 h
@@ -104,14 +76,8 @@ module _ (bounds kinds slots rows : List ℕ) where
     front : length (take i rows) ≡ i
     front = length-take-le i rows (omega arith)
 
-    -- the starts ascend
-    pub starts-ascend : getD startsOf i 0 ≤ getD startsOf (i + 1) 0
-    starts-ascend =
-        let x = length (concat-map usesOf (take i rows)) in
-        let e : getD (startsAt usesOf 0 rows) (i + 1) 0 ≡ 0 + x + length (usesOf (getD rows i 0)) =
-        rw (← row-split, front) at (end-at usesOf 0 (take i rows) (getD rows i 0) (drop (suc i) rows)) in
-        omega (arith, start-of i (omega arith), ap (λ l. getD l (i + 1) 0) starts-eq, e)
-
     -- what the table says of a row is what its statement uses
     pub table-row : usedOf i ≡ usesOf (getD rows i 0)
-    table-row = rw (starts-eq, table-eq) (rw (← row-split, front) at (part-at usesOf (take i rows) (getD rows i 0) (drop (suc i) rows)))
+    table-row =
+        rw (starts-eq, table-eq)
+        (rw (← row-split, front) at (part-at usesOf (take i rows) (getD rows i 0) (drop (suc i) rows)))

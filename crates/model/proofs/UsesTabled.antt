@@ -1,4 +1,5 @@
--- The table of uses: how long it is, that it fits the order, and that it is what the statements that are equations use, one after the other.
+-- The table of uses: how long it is, that it fits the order, and that it is what the statements that are equations use,
+-- one after the other.
 use Prim.Native.Nat.{ℕ, zero, suc, _+_, _-_, _≤_, _<_}
 use mathlib.Core.Path.{_≡_, refl, ap, subst, _∙_}
 use mathlib.Core.Bool.{Bool, true, false, cond}
@@ -18,7 +19,8 @@ use Rattle.order.specs.Table.{Fit}
 use Rattle.drafts.specs.Kinds.{kindFetch}
 use Rattle.model.specs.Definitions.{placeIn}
 use Rattle.drafts.specs.Places.{begins, ends}
-use Rattle.model.specs.Places.{isEquation, equationRows, assignedSlot, assignedSlots, usedBy, usedAt, usedOfRow, usedIn, startsFrom}
+use Rattle.model.specs.Places.{isEquation, equationRows, assignedSlot, assignedSlots, usedBy, usedAt, usedOfRow}
+use Rattle.model.specs.Places.{usedIn, startsFrom}
 use Rattle.model.specs.Working.{Rises, Sound}
 use Rattle.model.proofs.DefinitionsCollected.{only-length}
 
@@ -28,7 +30,8 @@ unfolding gather
 gather-next f i =
     let e : suc i ≡ i + 1 = omega arith in
     let z : 0 + i ≡ i = omega arith in
-    ap (λ (k : ℕ). gather f k 0) e ∙ gather-add f i 1 0 ∙ ap (λ (r : _). gather f i 0 ++ r) (append-nil (f (0 + i)) ∙ ap f z)
+    ap (λ (k : ℕ). gather f k 0) e ∙ gather-add f i 1 0
+    ∙ ap (λ (r : _). gather f i 0 ++ r) (append-nil (f (0 + i)) ∙ ap f z)
 
 -- no statement begins behind the last of n
 pub rises-to : (bounds : List ℕ) (n : ℕ) → Rises bounds n → (j : ℕ) → j ≤ n → begins bounds j ≤ begins bounds n
@@ -44,8 +47,10 @@ rises-to bounds (suc n) r j h =
     )) (eq-or-ne j (suc n))
 
 -- a statement ends within the drafts
-pub ends-within : {lines bounds kinds used : List ℕ} → Sound lines bounds kinds used → (j : ℕ) → j < length lines → ends bounds j ≤ length kinds
-ends-within {lines} {bounds} s j h = omega (arith, rises-to bounds (length lines) (s .rises) (j + 1) (omega arith), s .whole)
+pub ends-within : {lines bounds kinds used : List ℕ} → Sound lines bounds kinds used → (j : ℕ) → j < length lines
+    → ends bounds j ≤ length kinds
+ends-within {lines} {bounds} s j h =
+    omega (arith, rises-to bounds (length lines) (s .rises) (j + 1) (omega arith), s .whole)
 
 module _ (assigned bounds kinds slots : List ℕ) where
   -- a draft uses at most one equation, and one of those that there are
@@ -66,10 +71,12 @@ module _ (assigned bounds kinds slots : List ℕ) where
   used-below [] = λ j h. absurd (omega arith)
   used-below (j ∷ rows) =
       below-append (length assigned) (usedOfRow assigned bounds kinds slots j) (usedIn assigned bounds kinds slots rows)
-      (below-gather (length assigned) (usedAt assigned kinds slots) used-at-below (ends bounds j - begins bounds j) (begins bounds j)) (used-below rows)
+      (below-gather (length assigned) (usedAt assigned kinds slots) used-at-below (ends bounds j - begins bounds j)
+      (begins bounds j)) (used-below rows)
 
   -- a row begins within what is used
-  pub starts-length : (o : ℕ) (rows : List ℕ) → length (startsFrom o assigned bounds kinds slots rows) ≡ suc (length rows)
+  pub starts-length : (o : ℕ) (rows : List ℕ)
+      → length (startsFrom o assigned bounds kinds slots rows) ≡ suc (length rows)
   unfolding startsFrom
   starts-length o [] = refl
   starts-length o (j ∷ rows) = ap suc (starts-length (o + length (usedOfRow assigned bounds kinds slots j)) rows)
@@ -86,7 +93,9 @@ module _ (assigned bounds kinds slots : List ℕ) where
 
   -- the equations among k statements from i on use no more than these have drafts
   few-from : (k i : ℕ) → ((j : ℕ) → i ≤ j → j < i + k → begins bounds j ≤ ends bounds j)
-      → begins bounds i + length (usedIn assigned bounds kinds slots (gather (λ j. onlyIf (isEquation bounds kinds j) j) k i)) ≤ begins bounds (i + k)
+      → begins bounds i + length
+      (usedIn assigned bounds kinds slots (gather (λ j. onlyIf (isEquation bounds kinds j) j) k i)) ≤ begins bounds
+      (i + k)
   unfolding gather usedIn
   few-from zero i h = let e : i + 0 ≡ i = omega arith in rw e (omega arith)
   few-from (suc k) i h = go (isEquation bounds kinds i) (few-from k (suc i) (λ j a b. h j (omega arith) (omega arith)))
@@ -107,12 +116,15 @@ module _ (assigned bounds kinds slots : List ℕ) where
       short = gather-short (usedAt assigned kinds slots) used-single (ends bounds i - begins bounds i) (begins bounds i)
 
       go : (b : Bool) → begins bounds (suc i) + length rest ≤ begins bounds (suc i + k)
-          → begins bounds i + length (usedIn assigned bounds kinds slots (onlyIf b i ++ gather (λ j. onlyIf (isEquation bounds kinds j) j) k (suc i)))
+          → begins bounds i + length
+          (usedIn assigned bounds kinds slots
+          (onlyIf b i ++ gather (λ j. onlyIf (isEquation bounds kinds j) j) k (suc i)))
           ≤ begins bounds (i + suc k)
       go true r = omega (arith, next, last, short, h i (omega arith) (omega arith), length-append row rest, r)
       go false r = omega (arith, next, last, h i (omega arith) (omega arith), r)
 
-  pub used-few : (n : ℕ) → Rises bounds n → length (usedIn assigned bounds kinds slots (equationRows n bounds kinds)) ≤ begins bounds n
+  pub used-few : (n : ℕ) → Rises bounds n
+      → length (usedIn assigned bounds kinds slots (equationRows n bounds kinds)) ≤ begins bounds n
   unfolding equationRows
   used-few n r =
       let e : begins bounds (0 + n) ≡ begins bounds n = let z : 0 + n ≡ n = omega arith in ap (begins bounds) z in
@@ -141,13 +153,15 @@ module _ (assigned bounds kinds slots : List ℕ) where
       row = usedOfRow assigned bounds kinds slots j
 
       go : (b : Bool) → gather usesOf k (suc j) ≡ usedIn assigned bounds kinds slots (rowsFrom k (suc j))
-          → cond b row [] ++ gather usesOf k (suc j) ≡ usedIn assigned bounds kinds slots (onlyIf b j ++ rowsFrom k (suc j))
+          → cond b row [] ++ gather usesOf k (suc j)
+          ≡ usedIn assigned bounds kinds slots (onlyIf b j ++ rowsFrom k (suc j))
       go true r = ap (λ (x : List ℕ). row ++ x) r
       go false r = r
 
   -- and where each of these begins
   rows-begin : (k j : ℕ)
-      → gather beginAt k j ++ (length (usesTo (j + k)) ∷ []) ≡ startsFrom (length (usesTo j)) assigned bounds kinds slots (rowsFrom k j)
+      → gather beginAt k j ++ (length (usesTo (j + k)) ∷ [])
+      ≡ startsFrom (length (usesTo j)) assigned bounds kinds slots (rowsFrom k j)
   unfolding rowsFrom gather startsFrom
   rows-begin zero j = let e : j + 0 ≡ j = omega arith in ap (λ (i : ℕ). length (usesTo i) ∷ []) e
   rows-begin (suc k) j = go (isEquation bounds kinds j) count (rows-begin k (suc j))
@@ -188,7 +202,8 @@ module _ (assigned bounds kinds slots : List ℕ) where
   whole-uses n = rows-uses n 0
 
   pub whole-begin : (n : ℕ)
-      → gather beginAt n 0 ++ (length (usesTo n) ∷ []) ≡ startsFrom 0 assigned bounds kinds slots (equationRows n bounds kinds)
+      → gather beginAt n 0 ++ (length (usesTo n) ∷ []) ≡ startsFrom 0 assigned bounds kinds slots
+      (equationRows n bounds kinds)
   unfolding rowsFrom equationRows gather
   whole-begin n = let e : 0 + n ≡ n = omega arith in rw e at (rows-begin n 0)
 
@@ -205,5 +220,9 @@ table-fit rows bounds kinds slots h =
       below =
           λ k l.
           let table = usedIn assigned bounds kinds slots rows in
-          omega (arith, used-below assigned bounds kinds slots rows (getD table k 0) (at-in table k l), length-map rows (assignedSlot bounds kinds slots));
+          omega (
+            arith,
+            used-below assigned bounds kinds slots rows (getD table k 0) (at-in table k l),
+            length-map rows (assignedSlot bounds kinds slots),
+          );
     }

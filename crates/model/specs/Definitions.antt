@@ -9,7 +9,8 @@ use Rattle.laws.specs.Lists.{concat-map}
 use Rattle.drafts.specs.Tree.{Tree, value, Constant, Initial, Says, constants, assignment, state}
 use Rattle.sheet.specs.Sheet.{Numbered}
 
--- what a name is: a constant with its value, assigned by an expression, or a state with its initial and the expression of its rate
+-- what a name is: a constant with its value, assigned by an expression, or a state with its initial and the expression
+-- of its rate
 pub data What : Type 0 where
   constant : Float → What
   assigned : Tree → What

@@ -9,7 +9,8 @@ use Rattle.drafts.specs.Tree.{names, Initial, plain, from}
 use Rattle.sheet.specs.Sheet.{Numbered, Fault}
 use Rattle.order.specs.Order.{Good, unsortable}
 use Rattle.order.specs.Greedy.{order}
-use Rattle.model.specs.Definitions.{What, constant, assigned, integral, Def, definedBy, definitions, keys, equationAt, equationCount}
+use Rattle.model.specs.Definitions.{What, constant, assigned, integral, Def, definedBy, definitions, keys}
+use Rattle.model.specs.Definitions.{equationAt, equationCount}
 
 -- the fault, if the test holds
 abbrev pub faultIf : Bool → ℕ → ℕ → List Fault
@@ -29,7 +30,8 @@ faults21 seen (s ∷ ss) =
     let ks = keys (definedBy (s .line) (s .says)) in
     faultIf (again seen ks) (s .line) 21 ++ faults21 (seen ++ ks) ss
 
--- ---- 22: its expression or its initial names what nothing defines. 23: its initial name is defined, but isn't a constant. 22 comes
+-- ---- 22: its expression or its initial names what nothing defines. 23: its initial name is defined, but isn't a
+-- constant. 22 comes
 -- before 23. An assignment or a state statement has one definition, so these two go by definitions
 
 abbrev pub initialNames : Initial → List ℕ
@@ -68,7 +70,8 @@ nameFault true false l = faultIf true l 23
 nameFault true true l = []
 
 abbrev pub nameFaultOf : List Def → Def → List Fault
-nameFaultOf ds d = nameFault (within (namedBy (d .what)) (keys ds)) (within (initialOf (d .what)) (constantKeys ds)) (d .line)
+nameFaultOf ds d =
+    nameFault (within (namedBy (d .what)) (keys ds)) (within (initialOf (d .what)) (constantKeys ds)) (d .line)
 
 abbrev pub nameFaults : List Def → List Def → List Fault
 nameFaults ds es = concat-map (nameFaultOf ds) es
@@ -92,7 +95,8 @@ orElse [] g = g
 orElse (f ∷ fs) g = f ∷ fs
 
 unfoldable pub modelFaults : List Numbered → List Fault
-modelFaults ss = orElse (faults21 [] ss) (orElse (nameFaults (definitions ss) (definitions ss)) (faults24 (definitions ss)))
+modelFaults ss =
+    orElse (faults21 [] ss) (orElse (nameFaults (definitions ss) (definitions ss)) (faults24 (definitions ss)))
 
 -- ---- the order of assignments and state statements. Constants take no part in it
 

@@ -1,12 +1,12 @@
--- The model as code works it out: by place, over the arrays of a sheet. kinds and args are its drafts (specs/Drafts of crate grammar),
--- lines and bounds those of its statements. Every read past an end gives 0, so that each of these says something of every array. What
--- they mean for a sheet that is laid out is said by the laws of proofs/ArraysMean.
-use Prim.Native.Nat.{ℕ, zero, suc, _+_, _-_}
-use mathlib.Core.Bool.{Bool, true, false, not, cond, _&&_, _||_}
+-- The model as code works it out: by place, over the arrays of a sheet. kinds and args are its drafts (specs/Drafts of
+-- crate grammar), lines and bounds those of its statements. Every read past an end gives 0, so that each of these says
+-- something of every array. What they mean for a sheet that is laid out is said by the laws of proofs/ArraysMean.
+use Prim.Native.Nat.{ℕ, suc, _+_, _-_}
+use mathlib.Core.Bool.{Bool, not, cond, _&&_}
 use mathlib.Core.List.{List, [], _∷_, _++_, map}
 use lib.Dec.{eqb, ltb}
 use lib.ListN.{length, getD}
-use Rattle.laws.specs.Places.{gather, anyIn, onlyIf}
+use Rattle.laws.specs.Places.{gather, onlyIf}
 use Rattle.laws.specs.Counts.{has}
 use Rattle.drafts.specs.Kinds.{kindConstant, kindFrom, kindFetch, kindStore, defines, asks, isNamed, closes}
 use Rattle.drafts.specs.Places.{begins, ends, inStatement, anyOf, lastKind, homeOf}
@@ -30,12 +30,14 @@ placesIn kinds = gather (λ i. onlyIf (defines (getD kinds i 0)) i) (length kind
 -- 21 at statement j: one of its definitions is of a name that is defined before it
 abbrev pub doubleAt : List ℕ → List ℕ → List ℕ → List ℕ → ℕ → List Fault
 doubleAt lines bounds kinds args j =
-    faultIf (again (gather (definedAt kinds args) (begins bounds j) 0) (inStatement bounds (definedAt kinds args) j)) (getD lines j 0) 21
+    faultIf (again (gather (definedAt kinds args) (begins bounds j) 0) (inStatement bounds (definedAt kinds args) j))
+    (getD lines j 0) 21
 
 unfoldable pub doubles : List ℕ → List ℕ → List ℕ → List ℕ → List Fault
 doubles lines bounds kinds args = gather (doubleAt lines bounds kinds args) (length lines) 0
 
--- ---- names resolved: in the place of a key its slot, one more than the place among the keys; the count of keys and one more where
+-- ---- names resolved: in the place of a key its slot, one more than the place among the keys; the count of keys and
+-- one more where
 -- nothing defines it
 abbrev pub resolvedAt : List ℕ → ℕ → ℕ → ℕ
 resolvedAt keys k a = cond (isNamed k) (suc (placeIn a keys)) a
@@ -53,12 +55,14 @@ undefinedAt n kinds slots i = asks (getD kinds i 0) && ltb n (getD slots i 0)
 
 -- place i has an initial's name that is no constant
 abbrev pub unfitAt : List ℕ → List ℕ → List ℕ → ℕ → Bool
-unfitAt places kinds slots i = eqb (getD kinds i 0) kindFrom && not (eqb (getD kinds (homeOf places (getD slots i 0)) 0) kindConstant)
+unfitAt places kinds slots i =
+    eqb (getD kinds i 0) kindFrom && not (eqb (getD kinds (homeOf places (getD slots i 0)) 0) kindConstant)
 
 -- 22 or 23 at statement j
 abbrev pub namesAt : List ℕ → List ℕ → List ℕ → List ℕ → List ℕ → ℕ → List Fault
 namesAt places lines bounds kinds slots j =
-    nameFault (not (anyOf bounds (undefinedAt (length places) kinds slots) j)) (not (anyOf bounds (unfitAt places kinds slots) j)) (getD lines j 0)
+    nameFault (not (anyOf bounds (undefinedAt (length places) kinds slots) j))
+    (not (anyOf bounds (unfitAt places kinds slots) j)) (getD lines j 0)
 
 unfoldable pub nameless : List ℕ → List ℕ → List ℕ → List ℕ → List ℕ → List Fault
 nameless places lines bounds kinds slots = gather (namesAt places lines bounds kinds slots) (length lines) 0
@@ -93,7 +97,8 @@ usedOfRow assigned bounds kinds slots j = inStatement bounds (usedAt assigned ki
 -- the table of uses: what all equations use, one after the other, and where each begins
 unfoldable pub usedIn : List ℕ → List ℕ → List ℕ → List ℕ → List ℕ → List ℕ
 usedIn assigned bounds kinds slots [] = []
-usedIn assigned bounds kinds slots (j ∷ rows) = usedOfRow assigned bounds kinds slots j ++ usedIn assigned bounds kinds slots rows
+usedIn assigned bounds kinds slots (j ∷ rows) =
+    usedOfRow assigned bounds kinds slots j ++ usedIn assigned bounds kinds slots rows
 
 unfoldable pub startsFrom : ℕ → List ℕ → List ℕ → List ℕ → List ℕ → List ℕ → List ℕ
 startsFrom o assigned bounds kinds slots [] = o ∷ []

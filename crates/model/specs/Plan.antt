@@ -1,6 +1,7 @@
--- What `plan` answers for the arrays of a sheet, and what it leaves in those that are lent to it. The tests stand in the order of the
--- paper's verdict: 6; then 7 by the faults 21, by 22 and 23, by 24; else 0, and with it all that the program is written from: the count of
--- definitions, with their places at the front of an array, and of equations, with these and their order.
+-- What `plan` answers for the arrays of a sheet, and what it leaves in those that are lent to it. The tests stand in
+-- the order of the paper's verdict: 6; then 7 by the faults 21, by 22 and 23, by 24; else 0, and with it all that the
+-- program is written from: the count of definitions, with their places at the front of an array, and of equations, with
+-- these and their order.
 use Prim.Native.Nat.{ℕ, _+_, _*_}
 use mathlib.Core.Path.{_≡_}
 use mathlib.Core.Bool.{Bool, not, cond, _&&_}
@@ -14,11 +15,12 @@ use Rattle.sheet.specs.Sheet.{Fault, faultList}
 use Rattle.order.specs.Greedy.{order}
 use Rattle.order.specs.Table.{usesIn}
 use Rattle.drafts.specs.Places.{begins, ends}
-use Rattle.model.specs.Places.{keysIn, placesIn, doubles, resolved, nameless, equationRows, assignedSlots, usedIn, startsFrom, loops}
+use Rattle.model.specs.Places.{keysIn, placesIn, doubles, resolved, nameless, equationRows, assignedSlots, usedIn}
+use Rattle.model.specs.Places.{startsFrom, loops}
 use Rattle.model.specs.declared.answer.Plan.{Plan}
 
--- the three arrays that are lent for what the program is written from: the places of the definitions, the statements that are equations,
--- and the order of these
+-- the three arrays that are lent for what the program is written from: the places of the definitions, the statements
+-- that are equations, and the order of these
 pub record Lent : Type 0 where
   pub places : List ℕ
   pub rows : List ℕ
@@ -80,7 +82,9 @@ fit lines bounds kinds args used faults places rows order =
     && (leb (length kinds) textBytes
     && (leb (length kinds) args
     && (leb (length kinds) used
-    && (leb (faultBytes * length lines) faults && (roomy places rows order && inTurn bounds (length lines) (length kinds)))))))
+    &&
+    (leb (faultBytes * length lines) faults
+    && (roomy places rows order && inTurn bounds (length lines) (length kinds)))))))
 
 -- ---- the table, from its end to its beginning
 
@@ -88,7 +92,8 @@ fit lines bounds kinds args used faults places rows order =
 unfoldable pub orderedPlan : List ℕ → ℕ → List ℕ → List ℕ → List ℕ → List ℕ → List ℕ → Lent → PlanOutcome
 orderedPlan placed n rows lines slots used faults l =
     cond (ltb (length placed) (length rows)) (faulted (loops placed rows lines) slots used faults (withOrder placed l))
-    (planOutcome (record { number = 0; count = 0; definitions = n; equations = length rows }) slots used faults (withOrder placed l))
+    (planOutcome (record { number = 0; count = 0; definitions = n; equations = length rows }) slots used faults
+    (withOrder placed l))
 
 -- the equations of these rows, placed by what they use
 unfoldable pub weighed : List ℕ → ℕ → List ℕ → List ℕ → List ℕ → List ℕ → List ℕ → List ℕ → Lent → PlanOutcome
@@ -129,14 +134,18 @@ distinct lines bounds kinds args used faults l =
 unfoldable pub sheeted : List ℕ → List ℕ → List ℕ → List ℕ → List ℕ → List ℕ → Lent → PlanOutcome
 sheeted lines bounds kinds args used faults l =
     let m = withPlaces (placesIn kinds) l in
-    cond (ltb mostDefinitions (length (keysIn kinds args))) (planOutcome (refused 6 0) args used faults m) (distinct lines bounds kinds args used faults m)
+    cond (ltb mostDefinitions (length (keysIn kinds args))) (planOutcome (refused 6 0) args used faults m)
+    (distinct lines bounds kinds args used faults m)
 
 unfoldable pub planned : List ℕ → List ℕ → List ℕ → List ℕ → List ℕ → List ℕ → Lent → PlanOutcome
 planned lines bounds kinds args used faults l =
-    cond (fit lines bounds kinds (length args) (length used) (length faults) (length (l .places)) (length (l .rows)) (length (l .order)))
+    cond
+    (fit lines bounds kinds (length args) (length used) (length faults) (length (l .places)) (length (l .rows))
+    (length (l .order)))
     (sheeted lines bounds kinds args used faults l) (planOutcome (refused 9 0) args used faults l)
 
 -- THE CONTRACT of `plan`: answer and contents are what is planned. Two outcomes that it allows are equal
-abbrev pub Plans : List ℕ → List ℕ → List ℕ → List ℕ → List ℕ → List ℕ → Lent → Plan → List ℕ → List ℕ → List ℕ → Lent → Type 0
+abbrev pub Plans : List ℕ → List ℕ → List ℕ → List ℕ → List ℕ → List ℕ → Lent → Plan → List ℕ → List ℕ → List ℕ → Lent
+    → Type 0
 Plans lines bounds kinds args used faults l p args′ used′ faults′ l′ =
     planOutcome p args′ used′ faults′ l′ ≡ planned lines bounds kinds args used faults l

@@ -1,10 +1,10 @@
--- What the passes of the code keep and leave: tables by which a name's definition and a slot's equation are found without a search, and
--- rows that are written to the front of an array.
+-- What the passes of the code keep and leave: tables by which a name's definition and a slot's equation are found
+-- without a search, and rows that are written to the front of an array.
 use Prim.Native.Nat.{ℕ, zero, suc, _+_, _-_, _*_, _%_, _≤_, _<_}
 use mathlib.Core.Path.{_≡_}
 use mathlib.Core.Bool.{Bool, not, cond, _&&_, _||_}
 use mathlib.Core.List.{List, [], _∷_, _++_}
-use lib.Dec.{eqb, leb, ltb}
+use lib.Dec.{eqb, ltb}
 use lib.ListN.{length, getD, take, drop, replicate}
 use lib.Seq.{sets, slice}
 use Rattle.limits.specs.Limits.{mostStatements, mostDefinitions, textBytes, faultBytes, slots}
@@ -18,8 +18,8 @@ use Rattle.model.specs.Plan.{ownSlots, ownUses}
 use Rattle.model.specs.declared.names.Walk.{Walk}
 use Rattle.model.specs.declared.stages.Link.{Link}
 use Rattle.drafts.specs.Kinds.{kindConstant, kindFrom, kindFetch, defines, asks}
-use Rattle.drafts.specs.Places.{begins, ends, inStatement, homeOf}
-use Rattle.model.specs.Places.{definedAt, keysIn, placesIn, resolved}
+use Rattle.drafts.specs.Places.{begins, ends, homeOf}
+use Rattle.model.specs.Places.{keysIn, placesIn, resolved}
 use Rattle.model.specs.Places.{equationRows, assignedSlots, usedIn, startsFrom}
 
 -- ---- rows that are written
@@ -79,7 +79,8 @@ pub record Noted (kind key place d r : ℕ) (keys keys′ places places′ : Lis
 abbrev pub placeAt : List ℕ → ℕ → List ℕ
 placeAt kinds i = onlyIf (defines (getD kinds i 0)) i
 
--- ---- a name is found by hint and links: the hint of a remainder leads to the first key that has it, the link of a key to the next that
+-- ---- a name is found by hint and links: the hint of a remainder leads to the first key that has it, the link of a key
+-- to the next that
 -- has the same
 abbrev pub buckets : ℕ
 buckets = 1009
@@ -122,7 +123,8 @@ repeated lines bounds keys places = gather (repeatAt lines bounds keys places) (
 -- ---- names resolved, and whether one is undefined or, as an initial, unfit
 abbrev pub flawedBy : List ℕ → List ℕ → ℕ → ℕ → Bool
 flawedBy places kinds kind slot =
-    (asks kind && ltb (length places) slot) || (eqb kind kindFrom && not (eqb (getD kinds (homeOf places slot) 0) kindConstant))
+    (asks kind && ltb (length places) slot)
+    || (eqb kind kindFrom && not (eqb (getD kinds (homeOf places slot) 0) kindConstant))
 
 abbrev pub flawedAt : List ℕ → List ℕ → List ℕ → ℕ → Bool
 flawedAt places kinds slots i = flawedBy places kinds (getD kinds i 0) (getD slots i 0)
@@ -168,7 +170,8 @@ pub record Resolving (keys kinds places args₀ : List ℕ) (flawed : Bool) (i :
       ≡ anyIn (flawedAt places kinds (resolved keys kinds args₀)) (length kinds) 0
 
 -- and what those of them from a place on use is listed behind w numbers
-pub record Linking (keys kinds places owners args₀ used₀ : List ℕ) (from w i : ℕ) (n : Walk) (args used : List ℕ) : Type 0 where
+pub record Linking (keys kinds places owners args₀ used₀ : List ℕ) (from w i : ℕ) (n : Walk)
+    (args used : List ℕ) : Type 0 where
   pub resolving : Resolving keys kinds places args₀ (n .flawed) i args
   pub uses : Put (gather (usedFrom owners kinds (resolved keys kinds args₀)) (i - from) from) w (n .count) used₀ used
 
@@ -195,12 +198,15 @@ pub record Tabled (rows bounds kinds slots : List ℕ) (r : ℕ) (starts starts�
   pub begun : starts′ ≡ sets starts 0 (startsFrom 0 (assignedSlots rows bounds kinds slots) bounds kinds slots rows)
 
 -- what it gives
-pub record Linked (lines bounds kinds keys places : List ℕ) (n : Walk) (args args′ starts starts′ used used′ : List ℕ) : Type 0 where
+pub record Linked (lines bounds kinds keys places : List ℕ) (n : Walk)
+    (args args′ starts starts′ used used′ : List ℕ) : Type 0 where
   pub resolved-so : Resolved keys kinds places args args′ (n .flawed)
-  pub tabled-so : Tabled (equationRows (length lines) bounds kinds) bounds kinds args′ (n .count) starts starts′ used used′
+  pub tabled-so : Tabled (equationRows (length lines) bounds kinds) bounds kinds args′
+      (n .count) starts starts′ used used′
 
 -- what linking gives: the equations are at the front of rows, the names are resolved, and what is used is tabled
-pub record Links (lines bounds kinds keys places : List ℕ) (r : Link) (args args′ used used′ rows rows′ starts′ : List ℕ) : Type 0 where
+pub record Links (lines bounds kinds keys places : List ℕ) (r : Link)
+    (args args′ used used′ rows rows′ starts′ : List ℕ) : Type 0 where
   pub equations-put : Put (equationRows (length lines) bounds kinds) 0 (r .equations) rows rows′
   pub linked : Linked lines bounds kinds keys places (record { count = r .used; flawed = r .flawed }) args args′
       (replicate (mostStatements + 1) 0) starts′ used used′
@@ -218,7 +224,8 @@ pub record Weighs (lines bounds kinds slots : List ℕ) (m w : ℕ) (starts used
   pub rows-held : Holds rows m (equationRows (length lines) bounds kinds)
   pub starts-room : m + 1 ≤ length starts
   pub starts-held : take (m + 1) starts
-      ≡ startsFrom 0 (ownSlots (length lines) bounds kinds slots) bounds kinds slots (equationRows (length lines) bounds kinds)
+      ≡ startsFrom 0 (ownSlots (length lines) bounds kinds slots) bounds kinds slots
+      (equationRows (length lines) bounds kinds)
   pub used-room : w ≤ length used
   pub used-held : take w used ≡ ownUses (length lines) bounds kinds slots
 

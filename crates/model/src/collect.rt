@@ -1,5 +1,4 @@
 // The definitions of a sheet: the keys of their names, and their places.
-ghost use mathlib.Core.Path.{_≡_};
 ghost use Prim.Native.Nat.{_≤_, _<_};
 ghost use lib.ListN.{length};
 ghost use Rattle.limits.specs.Limits.{textBytes};
@@ -12,7 +11,8 @@ use drafts::is_defining;
 // Stores the key and the place of a draft behind the d definitions before it, if it is one; how many there are then.
 fn note(kind: u8, key: u64, place: usize, keys: &mut [u64], places: &mut [u16], d: usize) -> usize
     requires { ⌜ (place < 65536) × (d ≤ place) ⌝ }
-    ensures { λ r. ⌜ Noted kind key place d r (now (keys .entry)) (now (keys .exit)) (now (places .entry)) (now (places .exit)) ⌝ }
+    ensures { λ r. ⌜ Noted kind key place d r (now (keys .entry)) (now (keys .exit)) (now (places .entry))
+        (now (places .exit)) ⌝ }
 {
     if is_defining(kind) {
         put_word(keys, d, key);
@@ -25,7 +25,8 @@ fn note(kind: u8, key: u64, place: usize, keys: &mut [u64], places: &mut [u16], 
 // Stores the keys of all definitions and their places, as far as there is room; how many there are, doubles counted.
 pub(crate) fn collect(kinds: &[u8], args: &[u64], keys: &mut [u64], places: &mut [u16]) -> usize
     requires { ⌜ length (now kinds) ≤ textBytes ⌝ }
-    ensures { λ r. ⌜ Collected (now (kinds .entry)) (now (args .entry)) r (now (keys .entry)) (now (keys .exit)) (now (places .entry))
+    ensures { λ r. ⌜ Collected (now (kinds .entry)) (now (args .entry)) r (now (keys .entry)) (now (keys .exit))
+        (now (places .entry))
         (now (places .exit)) ⌝ }
 {
     let mut d: usize = 0;

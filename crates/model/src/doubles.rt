@@ -48,9 +48,11 @@ pub(crate) fn report_doubles(
     places: &[u16],
     faults: &mut [u8],
 ) -> usize
-    requires { ⌜ Hinted (now keys) (now hints) (now links) × (length (now places) ≤ length (now keys)) × Rises (now bounds) (length (now lines)) ×
+    requires { ⌜ Hinted (now keys) (now hints) (now links) × (length (now places) ≤ length (now keys))
+        × Rises (now bounds) (length (now lines)) ×
         (length (now lines) ≤ mostStatements) ⌝ }
-    ensures { λ r. ⌜ Reported (repeated (now (lines .entry)) (now (bounds .entry)) (now (keys .entry)) (now (places .entry))) 0 r
+    ensures { λ r. ⌜ Reported (repeated (now (lines .entry)) (now (bounds .entry)) (now (keys .entry))
+        (now (places .entry))) 0 r
         (now (faults .entry)) (now (faults .exit)) ⌝ }
 {
     if !is_repeated(keys, hints, links, 0, places.len()) {

@@ -55,7 +55,8 @@ pub(crate) fn put_if(stands: bool, v: usize, buf: &mut [u16], w: usize) -> usize
 // Stores the numbers of the equations among n statements; how many there are.
 pub(crate) fn collect_rows(n: usize, bounds: &[u16], kinds: &[u8], rows: &mut [u16]) -> usize
     requires { ⌜ n ≤ mostStatements ⌝ }
-    ensures { λ r. ⌜ Put (equationRows n (now (bounds .entry)) (now (kinds .entry))) 0 r (now (rows .entry)) (now (rows .exit)) ⌝ }
+    ensures { λ r. ⌜ Put (equationRows n (now (bounds .entry)) (now (kinds .entry))) 0 r (now (rows .entry))
+        (now (rows .exit)) ⌝ }
 {
     let mut count: usize = 0;
     let mut j = 0;
@@ -76,8 +77,10 @@ fn assigned_slot(
     args: &[u64],
     j: usize,
 ) -> usize
-    requires { ⌜ (j < 65536) × Hinted (now keys) (now hints) (now links) × (length (now keys) ≤ mostDefinitions) × (length (now kinds) ≤ length (now args)) ⌝ }
-    ensures { λ r. ⌜ r ≡ assignedSlot (now (bounds .entry)) (now (kinds .entry)) (resolved (now (keys .entry)) (now (kinds .entry)) (now (args .entry))) j ⌝ }
+    requires { ⌜ (j < 65536) × Hinted (now keys) (now hints) (now links) × (length (now keys) ≤ mostDefinitions)
+        × (length (now kinds) ≤ length (now args)) ⌝ }
+    ensures { λ r. ⌜ r ≡ assignedSlot (now (bounds .entry)) (now (kinds .entry))
+        (resolved (now (keys .entry)) (now (kinds .entry)) (now (args .entry))) j ⌝ }
 {
     let last = last_of(bounds, j);
     if byte_at(kinds, last) == STORE {
@@ -97,7 +100,8 @@ pub(crate) fn note_owners(
     args: &[u64],
     owners: &mut [u16],
 )
-    requires { ⌜ (length (now rows) ≤ mostStatements) × (now owners ≡ replicate (slots + 1) 0) × Hinted (now keys) (now hints) (now links) ×
+    requires { ⌜ (length (now rows) ≤ mostStatements) × (now owners ≡ replicate (slots + 1) 0)
+        × Hinted (now keys) (now hints) (now links) ×
         (length (now keys) ≤ mostDefinitions) × (length (now kinds) ≤ length (now args)) ⌝ }
     ensures { λ _. ⌜ Owned (assignedSlots (now (rows .entry)) (now (bounds .entry)) (now (kinds .entry))
         (resolved (now (keys .entry)) (now (kinds .entry)) (now (args .entry)))) (now (owners .exit)) ⌝ }

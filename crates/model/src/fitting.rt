@@ -53,8 +53,8 @@ fn has_room(places: usize, rows: usize, order: usize) -> bool
     STATEMENTS <= order
 }
 
-// Whether the arrays fit; the last six are the lengths of the arguments, the table of uses, the fault list, and the arrays for places,
-// equations and order.
+// Whether the arrays fit; the last six are the lengths of the arguments, the table of uses, the fault list, and the
+// arrays for places, equations and order.
 pub(crate) fn fits(
     lines: &[u16],
     bounds: &[u16],
@@ -66,7 +66,8 @@ pub(crate) fn fits(
     rows: usize,
     order: usize,
 ) -> bool
-    ensures { λ r. ⌜ r ≡ fit (now (lines .entry)) (now (bounds .entry)) (now (kinds .entry)) args used faults places rows order ⌝ }
+    ensures { λ r. ⌜ r ≡ fit (now (lines .entry)) (now (bounds .entry))
+        (now (kinds .entry)) args used faults places rows order ⌝ }
 {
     if STATEMENTS < lines.len() {
         return false;

@@ -1,4 +1,5 @@
-// The table by which a name's definition is found: a hint for each remainder, and a link from each key to the next with the same.
+// The table by which a name's definition is found: a hint for each remainder, and a link from each key to the next with
+// the same.
 ghost use mathlib.Core.Path.{_≡_};
 ghost use Prim.Native.Nat.{_%_, _≤_, _<_};
 ghost use lib.ListN.{length, replicate};
@@ -20,7 +21,8 @@ fn bucket(key: u64) -> usize
 
 // Notes hint and link for each key, from the last to the first, so that each leads to the first behind it.
 pub(crate) fn note_hints(keys: &[u64], hints: &mut [u16], links: &mut [u16])
-    requires { ⌜ (length (now keys) ≤ mostDefinitions) × (now hints ≡ replicate buckets 0) × (length (now keys) ≤ length (now links)) ⌝ }
+    requires { ⌜ (length (now keys) ≤ mostDefinitions) × (now hints ≡ replicate buckets 0)
+        × (length (now keys) ≤ length (now links)) ⌝ }
     ensures { λ _. ⌜ Hinted (now (keys .entry)) (now (hints .exit)) (now (links .exit)) ⌝ }
 {
     let mut d = keys.len();

@@ -15,9 +15,10 @@ mod stages;
 
 use answer::Plan;
 
-// Plans a sheet of which lines and bounds are the statements, kinds and args the drafts. The table of uses is written to used, model
-// faults to the list, the places of the definitions, the equations and their order to the front of the last three, which have room for
-// every definition and every statement; the names of args are resolved, unless one is defined twice.
+// Plans a sheet of which lines and bounds are the statements, kinds and args the drafts. The table of uses is written
+// to used, model faults to the list, the places of the definitions, the equations and their order to the front of the
+// last three, which have room for every definition and every statement; the names of args are resolved, unless one is
+// defined twice.
 pub fn plan(
     lines: &[u16],
     bounds: &[u16],
@@ -29,8 +30,10 @@ pub fn plan(
     rows: &mut [u16],
     order: &mut [u16],
 ) -> Plan
-    ensures { λ r. ⌜ Plans (now (lines .entry)) (now (bounds .entry)) (now (kinds .entry)) (now (args .entry)) (now (used .entry))
-        (now (faults .entry)) (lent (now (places .entry)) (now (rows .entry)) (now (order .entry))) r (now (args .exit)) (now (used .exit))
+    ensures { λ r. ⌜ Plans (now (lines .entry)) (now (bounds .entry)) (now (kinds .entry)) (now (args .entry))
+        (now (used .entry))
+        (now (faults .entry)) (lent (now (places .entry)) (now (rows .entry)) (now (order .entry))) r (now (args .exit))
+        (now (used .exit))
         (now (faults .exit)) (lent (now (places .exit)) (now (rows .exit)) (now (order .exit))) ⌝ }
 {
     if fitting::fits(

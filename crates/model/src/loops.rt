@@ -26,7 +26,8 @@ fn mark(placed: &[u16], marks: &mut [u8])
 // Writes a fault 24 for each equation that is not marked; how many there are.
 fn report_unmarked(marks: &[u8], rows: &[u16], lines: &[u16], faults: &mut [u8]) -> usize
     requires { ⌜ length (now rows) ≤ mostStatements ⌝ }
-    ensures { λ r. ⌜ Reported (unmarked (now (marks .entry)) (now (rows .entry)) (now (lines .entry))) 0 r (now (faults .entry)) (now (faults .exit)) ⌝ }
+    ensures { λ r. ⌜ Reported (unmarked (now (marks .entry)) (now (rows .entry)) (now (lines .entry))) 0 r
+        (now (faults .entry)) (now (faults .exit)) ⌝ }
 {
     let mut count: usize = 0;
     let mut r = 0;
@@ -41,7 +42,8 @@ fn report_unmarked(marks: &[u8], rows: &[u16], lines: &[u16], faults: &mut [u8])
 // Writes the faults 24 to the front of the list; how many there are.
 pub(crate) fn report_loops(placed: &[u16], rows: &[u16], lines: &[u16], faults: &mut [u8]) -> usize
     requires { ⌜ length (now rows) ≤ mostStatements ⌝ }
-    ensures { λ r. ⌜ Reported (loops (now (placed .entry)) (now (rows .entry)) (now (lines .entry))) 0 r (now (faults .entry)) (now (faults .exit)) ⌝ }
+    ensures { λ r. ⌜ Reported (loops (now (placed .entry)) (now (rows .entry)) (now (lines .entry))) 0 r
+        (now (faults .entry)) (now (faults .exit)) ⌝ }
 {
     let mut marks = [0u8; STATEMENTS];
     mark(placed, &mut marks);

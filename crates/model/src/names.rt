@@ -10,7 +10,8 @@ ghost use Rattle.laws.specs.Places.{anyIn};
 ghost use Rattle.drafts.specs.Kinds.{kindConstant, kindFrom, asks};
 ghost use Rattle.drafts.specs.Places.{homeOf};
 ghost use Rattle.model.specs.Places.{undefinedAt, unfitAt, nameless};
-ghost use Rattle.model.specs.Working.{Reported, Hinted, flawedBy, Walked, Resolving, Linking, Linkable, Linked, flawOf, Searched};
+ghost use Rattle.model.specs.Working.{Reported, Hinted, flawedBy, Walked, Resolving, Linking, Linkable, Linked};
+ghost use Rattle.model.specs.Working.{flawOf, Searched};
 use super::equations::is_equation;
 use super::equations::put_if;
 use super::equations::put_use;
@@ -38,7 +39,8 @@ fn is_undefined(n: usize, kind: u8, slot: u64) -> bool
 
 // Whether a draft is an initial's name that is no constant.
 fn is_unfit(places: &[u16], kinds: &[u8], kind: u8, slot: u64) -> bool
-    ensures { λ r. ⌜ r ≡ (eqb kind kindFrom && not (eqb (getD (now (kinds .entry)) (homeOf (now (places .entry)) slot) 0) kindConstant)) ⌝ }
+    ensures { λ r. ⌜ r ≡ (eqb kind kindFrom && not
+        (eqb (getD (now (kinds .entry)) (homeOf (now (places .entry)) slot) 0) kindConstant)) ⌝ }
 {
     if kind == FROM {
         return byte_at(kinds, home_of(places, slot)) != CONSTANT;
@@ -76,10 +78,13 @@ fn resolve_in(
     args: &mut [u64],
     used: &mut [u16],
 ) -> Walk
-    requires { ⌜ Hinted (now keys) (now hints) (now links) × Walked (now keys) (now kinds) (now args) from end (walk .count) ⌝ }
+    requires { ⌜ Hinted (now keys) (now hints) (now links) × Walked (now keys) (now kinds) (now args) from end
+        (walk .count) ⌝ }
     ensures { λ r. ⌜ (r .count ≤ end) × ((args₀ : List ℕ)
-        → Resolving (now (keys .entry)) (now (kinds .entry)) (now (places .entry)) args₀ (walk .flawed) from (now (args .entry))
-        → Linking (now (keys .entry)) (now (kinds .entry)) (now (places .entry)) (now (owners .entry)) args₀ (now (used .entry))
+        → Resolving (now (keys .entry)) (now (kinds .entry)) (now (places .entry)) args₀ (walk .flawed) from
+        (now (args .entry))
+        → Linking (now (keys .entry)) (now (kinds .entry)) (now (places .entry)) (now (owners .entry)) args₀
+        (now (used .entry))
         from (walk .count) end r (now (args .exit)) (now (used .exit))) ⌝ }
 {
     let mut w = walk.count;
@@ -107,8 +112,8 @@ fn all_or_none(equation: bool, n: usize) -> usize
     if equation { n } else { 0 }
 }
 
-// Resolves the names of all drafts. What all equations use is stored, one after the other, and where each begins; how much that is, and
-// whether a name is flawed.
+// Resolves the names of all drafts. What all equations use is stored, one after the other, and where each begins; how
+// much that is, and whether a name is flawed.
 pub(crate) fn resolve(
     lines: &[u16],
     bounds: &[u16],
@@ -124,8 +129,10 @@ pub(crate) fn resolve(
 ) -> Walk
     requires { ⌜ Hinted (now keys) (now hints) (now links) ×
         Linkable (now lines) (now bounds) (now kinds) (now keys) (now owners) (now args) (now used) ⌝ }
-    ensures { λ r. ⌜ Linked (now (lines .entry)) (now (bounds .entry)) (now (kinds .entry)) (now (keys .entry)) (now (places .entry)) r
-        (now (args .entry)) (now (args .exit)) (now (starts .entry)) (now (starts .exit)) (now (used .entry)) (now (used .exit)) ⌝ }
+    ensures { λ r. ⌜ Linked (now (lines .entry)) (now (bounds .entry)) (now (kinds .entry)) (now (keys .entry))
+        (now (places .entry)) r
+        (now (args .entry)) (now (args .exit)) (now (starts .entry)) (now (starts .exit)) (now (used .entry))
+        (now (used .exit)) ⌝ }
 {
     let mut walk = Walk {
         count: 0,
@@ -160,7 +167,8 @@ pub(crate) fn resolve(
 
 // 22 if a name of the drafts from a place on, before an end, is undefined, else 23 if an initial is unfit, else 0.
 fn flaw_in(places: &[u16], kinds: &[u8], slots: &[u64], from: usize, end: usize) -> u8
-    ensures { λ r. ⌜ r ≡ flawOf (anyIn (undefinedAt (length (now (places .entry))) (now (kinds .entry)) (now (slots .entry))) (end - from) from)
+    ensures { λ r. ⌜ r ≡ flawOf (anyIn (undefinedAt (length (now (places .entry))) (now (kinds .entry))
+        (now (slots .entry))) (end - from) from)
         (anyIn (unfitAt (now (places .entry)) (now (kinds .entry)) (now (slots .entry))) (end - from) from) ⌝ }
 {
     let mut flaw: u8 = 0;
@@ -189,7 +197,8 @@ fn report_nameless(
     faults: &mut [u8],
 ) -> usize
     requires { ⌜ length (now lines) ≤ mostStatements ⌝ }
-    ensures { λ r. ⌜ Reported (nameless (now (places .entry)) (now (lines .entry)) (now (bounds .entry)) (now (kinds .entry)) (now (slots .entry))) 0
+    ensures { λ r. ⌜ Reported (nameless (now (places .entry)) (now (lines .entry)) (now (bounds .entry))
+        (now (kinds .entry)) (now (slots .entry))) 0
         r (now (faults .entry)) (now (faults .exit)) ⌝ }
 {
     let mut count: usize = 0;
@@ -219,7 +228,8 @@ pub(crate) fn report_names(
     faults: &mut [u8],
 ) -> usize
     requires { ⌜ Searched (now lines) (now bounds) (now kinds) (now slots) (now places) flawed ⌝ }
-    ensures { λ r. ⌜ Reported (nameless (now (places .entry)) (now (lines .entry)) (now (bounds .entry)) (now (kinds .entry)) (now (slots .entry))) 0
+    ensures { λ r. ⌜ Reported (nameless (now (places .entry)) (now (lines .entry)) (now (bounds .entry))
+        (now (kinds .entry)) (now (slots .entry))) 0
         r (now (faults .entry)) (now (faults .exit)) ⌝ }
 {
     if flawed {

@@ -56,10 +56,13 @@ fn connect(
     rows: &mut [u16],
     starts: &mut [u16],
 ) -> Link
-    requires { ⌜ Keyed (now lines) (now bounds) (now kinds) (now args) (now used) (now keys) (now places) × Hinted (now keys) (now hints) (now links)
+    requires { ⌜ Keyed (now lines) (now bounds) (now kinds) (now args) (now used) (now keys) (now places)
+        × Hinted (now keys) (now hints) (now links)
         × (mostStatements ≤ length (now rows)) × (now starts ≡ replicate (mostStatements + 1) 0) ⌝ }
-    ensures { λ r. ⌜ Links (now (lines .entry)) (now (bounds .entry)) (now (kinds .entry)) (now (keys .entry)) (now (places .entry)) r
-        (now (args .entry)) (now (args .exit)) (now (used .entry)) (now (used .exit)) (now (rows .entry)) (now (rows .exit)) (now (starts .exit)) ⌝ }
+    ensures { λ r. ⌜ Links (now (lines .entry)) (now (bounds .entry)) (now (kinds .entry)) (now (keys .entry))
+        (now (places .entry)) r
+        (now (args .entry)) (now (args .exit)) (now (used .entry)) (now (used .exit)) (now (rows .entry))
+        (now (rows .exit)) (now (starts .exit)) ⌝ }
 {
     let m = collect_rows(lines.len(), bounds, kinds, &mut *rows);
     let mut owners = [0u16; SLOTS + 1];
@@ -104,9 +107,12 @@ fn place(
     lines: &[u16],
     faults: &mut [u8],
 ) -> Plan
-    requires { ⌜ Fit m (now starts) (now used) × Holds (now rows) m (take m (now rows)) × (mostStatements ≤ length (now placed)) ⌝ }
-    ensures { λ r. ⌜ ((slots filled p : List ℕ) → planOutcome r slots filled (now (faults .exit)) (lent p (now (rows .entry)) (now (placed .exit))) ≡
-        orderedPlan (order m (usesIn (now (starts .entry)) (now (used .entry)))) n (take m (now (rows .entry))) (now (lines .entry)) slots filled
+    requires { ⌜ Fit m (now starts) (now used) × Holds (now rows) m (take m (now rows))
+        × (mostStatements ≤ length (now placed)) ⌝ }
+    ensures { λ r. ⌜ ((slots filled p : List ℕ) → planOutcome r slots filled (now (faults .exit))
+        (lent p (now (rows .entry)) (now (placed .exit))) ≡
+        orderedPlan (order m (usesIn (now (starts .entry)) (now (used .entry)))) n (take m (now (rows .entry)))
+        (now (lines .entry)) slots filled
         (now (faults .entry)) (lent p (now (rows .entry)) (now (placed .entry)))) ⌝ }
 {
     let sorted = order::sort(m, starts, used, &mut *placed);
@@ -139,8 +145,10 @@ pub(crate) fn run(
 ) -> Plan
     requires { ⌜ Sound (now lines) (now bounds) (now kinds) (now used) × (length (now kinds) ≤ length (now args)) ×
         (mostDefinitions ≤ length (now places)) × Wide (now rows) (now placed) ⌝ }
-    ensures { λ r. ⌜ planOutcome r (now (args .exit)) (now (used .exit)) (now (faults .exit)) (lent (now (places .exit)) (now (rows .exit))
-        (now (placed .exit))) ≡ sheeted (now (lines .entry)) (now (bounds .entry)) (now (kinds .entry)) (now (args .entry)) (now (used .entry))
+    ensures { λ r. ⌜ planOutcome r (now (args .exit)) (now (used .exit)) (now (faults .exit))
+        (lent (now (places .exit)) (now (rows .exit))
+        (now (placed .exit))) ≡ sheeted (now (lines .entry)) (now (bounds .entry)) (now (kinds .entry))
+        (now (args .entry)) (now (used .entry))
         (now (faults .entry)) (lent (now (places .entry)) (now (rows .entry)) (now (placed .entry))) ⌝ }
 {
     let mut keys = [0u64; DEFINITIONS];

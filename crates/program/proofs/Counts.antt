@@ -11,7 +11,8 @@ use Rattle.laws.proofs.Lists.{concat-append}
 use Rattle.laws.proofs.Concats.{map-append}
 use Rattle.laws.proofs.Along.{gather-all, gather-numbers}
 use Rattle.laws.proofs.Sums.{lengths-same, numbers-few, numbers-once}
-use Rattle.drafts.specs.Tree.{plus, minus, times, over, compar, insw, limit, Tree, plain, from, Says, constants, assignment, state}
+use Rattle.drafts.specs.Tree.{plus, minus, times, over, compar, insw, limit, Tree, plain, from, Says, constants}
+use Rattle.drafts.specs.Tree.{assignment, state}
 use Rattle.drafts.specs.Items.{Item, push, fetch, clock, negate, apply-two, apply-three, postfix}
 use Rattle.drafts.specs.Drafts.{Draft, draft, draftItem, draftsOf}
 use Rattle.sheet.specs.Sheet.{Numbered}
@@ -19,7 +20,8 @@ use Rattle.sheet.specs.Layout.{draftsIn}
 use Rattle.records.specs.Record.{Rec, rec}
 use Rattle.order.specs.Order.{Permutation}
 use Rattle.order.proofs.Sorting.{perm-below}
-use Rattle.model.specs.Definitions.{Def, definedBy, definitions, slotIn, Equation, equationOf, equations, noEquation, equationAt, equationCount}
+use Rattle.model.specs.Definitions.{Def, definedBy, definitions, slotIn, Equation, equationOf, equations, noEquation}
+use Rattle.model.specs.Definitions.{equationAt, equationCount}
 use Rattle.model.specs.Faults.{usesIn}
 use Rattle.model.proofs.StatementDrafts.{expressionDrafts}
 use Rattle.model.proofs.SheetWalk.{kindsOf, sheetKinds, draftsBy}
@@ -36,7 +38,8 @@ count-append [] y = sym (zero-add (recordCount y))
 count-append (k ∷ x) y = go (writes k) (count-append x y)
   where
     go : (b : Bool) → recordCount (x ++ y) ≡ recordCount x + recordCount y
-        → cond b (suc (recordCount (x ++ y))) (recordCount (x ++ y)) ≡ cond b (suc (recordCount x)) (recordCount x) + recordCount y
+        → cond b (suc (recordCount (x ++ y))) (recordCount (x ++ y))
+        ≡ cond b (suc (recordCount x)) (recordCount x) + recordCount y
     go true e = ap suc e ∙ sym (suc-add (recordCount x) (recordCount y))
     go false e = e
 
@@ -55,7 +58,8 @@ writes-item (apply-three insw) = refl
 writes-item (apply-three limit) = refl
 
 -- items and one more
-count-items : (xs : List Item) (z : ℕ) → writes z ≡ true → recordCount (kindsOf (map draftItem xs) ++ (z ∷ [])) ≡ length xs + 1
+count-items : (xs : List Item) (z : ℕ) → writes z ≡ true
+    → recordCount (kindsOf (map draftItem xs) ++ (z ∷ [])) ≡ length xs + 1
 unfolding recordCount
 count-items [] z e = rw e
 count-items (x ∷ xs) z e = rw (writes-item x) (ap suc (count-items xs z e) ∙ omega arith)
@@ -65,7 +69,9 @@ module _ (ds : List Def) where
   abbrev total : List Def → ℕ
   total es =
       length (concat-map (λ (d : Def). constantRecs ds d (d .what)) es)
-      + (length (concat-map (λ (d : Def). initialRecs ds d (d .what)) es) + length (concat-map (equationRecs ds) (equations es)))
+      +
+      (length (concat-map (λ (d : Def). initialRecs ds d (d .what)) es) + length
+      (concat-map (equationRecs ds) (equations es)))
 
   -- one row of definitions behind another
   total-append : (x y : List Def) → total (x ++ y) ≡ total x + total y
@@ -95,8 +101,10 @@ module _ (ds : List Def) where
       )
 
   -- an expression's drafts with one more
-  count-ending : (t : Tree) (z k : ℕ) → writes z ≡ true → recordCount (kindsOf (expressionDrafts t ++ (draft z k ∷ []))) ≡ length (postfix t) + 1
-  count-ending t z k e = rw (map-append (λ (d : Draft). d .kind) (expressionDrafts t) (draft z k ∷ [])) (count-items (postfix t) z e)
+  count-ending : (t : Tree) (z k : ℕ) → writes z ≡ true
+      → recordCount (kindsOf (expressionDrafts t ++ (draft z k ∷ []))) ≡ length (postfix t) + 1
+  count-ending t z k e =
+      rw (map-append (λ (d : Draft). d .kind) (expressionDrafts t) (draft z k ∷ [])) (count-items (postfix t) z e)
 
   -- a statement's drafts write the records of its definitions
   count-says : (l : ℕ) (x : Says) → recordCount (kindsOf (draftsOf x)) ≡ total (definedBy l x)
@@ -104,8 +112,10 @@ module _ (ds : List Def) where
   count-says l (constants []) = refl
   count-says l (constants (c ∷ cs)) = omega (arith, count-says l (constants cs))
   count-says l (assignment k t) = count-ending t 13 k refl ∙ omega (arith, length-equation (equation l k false t))
-  count-says l (state k (plain x) t) = ap suc (count-ending t 14 k refl) ∙ omega (arith, length-equation (equation l k true t))
-  count-says l (state k (from c) t) = ap suc (count-ending t 14 k refl) ∙ omega (arith, length-equation (equation l k true t))
+  count-says l (state k (plain x) t) =
+      ap suc (count-ending t 14 k refl) ∙ omega (arith, length-equation (equation l k true t))
+  count-says l (state k (from c) t) =
+      ap suc (count-ending t 14 k refl) ∙ omega (arith, length-equation (equation l k true t))
 
   -- and so do those of all statements
   count-sheet : (ss : List Numbered) → recordCount (sheetKinds ss) ≡ total (definitions ss)
@@ -119,7 +129,8 @@ module _ (ds : List Def) where
 
   -- in every order that is a permutation the equations have as many records
   equations-count : (q : List ℕ) → Permutation (equationCount ds) q
-      → length (concat-map (λ i. equationRecs ds (equationAt ds i)) q) ≡ length (concat-map (equationRecs ds) (equations ds))
+      → length (concat-map (λ i. equationRecs ds (equationAt ds i)) q)
+      ≡ length (concat-map (equationRecs ds) (equations ds))
   equations-count q p =
       let n = equationCount ds in
       let F : ℕ → List Rec = λ i. equationRecs ds (equationAt ds i) in

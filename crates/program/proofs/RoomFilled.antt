@@ -30,8 +30,10 @@ whole-gather f h zero i = omega arith
 whole-gather f h (suc k) i = whole-append (f i) (gather f k (suc i)) (h i) (whole-gather f h k (suc i))
 
 -- of a row and one behind it as much fits as of the first, and behind that of the other
-fitting-append : (room : ℕ) (x y : List ℕ) → Whole x → fitting room (x ++ y) ≡ fitting room x ++ fitting (room - length (fitting room x)) y
-fitting-append room x y h = ⊎-elim (λ (l : n < length x). part l) (λ (l : length x ≤ n). whole l) (lt-or-ge n (length x))
+fitting-append : (room : ℕ) (x y : List ℕ) → Whole x
+    → fitting room (x ++ y) ≡ fitting room x ++ fitting (room - length (fitting room x)) y
+fitting-append room x y h =
+    ⊎-elim (λ (l : n < length x). part l) (λ (l : length x ≤ n). whole l) (lt-or-ge n (length x))
   where
     -- so many bytes have room
     n : ℕ
@@ -84,7 +86,8 @@ module _ {x : List ℕ} {w m : ℕ} {b b₁ : List ℕ} (p : Fills x w m b b₁)
       record {
         behind = rw all (omega (arith, p .behind, behind, length-append front rest));
         written =
-            rw all (written ∙ ap₂ (λ (l : List ℕ) (k : ℕ). sets l k rest) (p .written) (p .behind) ∙ sym (sets-append b w front rest));
+            rw all (written ∙ ap₂ (λ (l : List ℕ) (k : ℕ). sets l k rest) (p .written) (p .behind)
+            ∙ sym (sets-append b w front rest));
       }
 
 -- ---- a record
@@ -112,8 +115,10 @@ low-part l =
     let q = l / 4294967296 in
     let zero : l ≡ r + 256 * (16777216 * q) = omega arith in
     let one : l / 256 ≡ r / 256 + 256 * (65536 * q) = above r l (16777216 * q) zero ∙ omega arith in
-    let two : l / 256 / 256 ≡ r / 256 / 256 + 256 * (256 * q) = above (r / 256) (l / 256) (65536 * q) one ∙ omega arith in
-    let three : l / 256 / 256 / 256 ≡ r / 256 / 256 / 256 + 256 * q = above (r / 256 / 256) (l / 256 / 256) (256 * q) two in
+    let two : l / 256 / 256 ≡ r / 256 / 256 + 256 * (256 * q) =
+    above (r / 256) (l / 256) (65536 * q) one ∙ omega arith in
+    let three : l / 256 / 256 / 256 ≡ r / 256 / 256 / 256 + 256 * q =
+    above (r / 256 / 256) (l / 256 / 256) (256 * q) two in
     let a = same-low r l (16777216 * q) zero in
     let b = same-low (r / 256) (l / 256) (65536 * q) one in
     let c = same-low (r / 256 / 256) (l / 256 / 256) (256 * q) two in
@@ -143,14 +148,18 @@ head-bytes k s l h =
     eight p q t u v = cc
 
 -- kind and 0, slot, line, value, one behind the other
-pub fields-put : (k s l v : ℕ) {n : ℕ} (b b₁ b₂ : List ℕ) → k < 256 → n ≡ headOf k s l → b₁ ≡ sets b 0 (lowBytes 8 n) → b₂ ≡ sets b₁ 8 (lowBytes 8 v)
+pub fields-put : (k s l v : ℕ) {n : ℕ} (b b₁ b₂ : List ℕ) → k < 256 → n ≡ headOf k s l → b₁ ≡ sets b 0 (lowBytes 8 n)
+    → b₂ ≡ sets b₁ 8 (lowBytes 8 v)
     → b₂ ≡ sets b 0 (fieldBytes k s l v)
 fields-put k s l v b b₁ b₂ h e p q =
     let front = k ∷ 0 ∷ (lowBytes 2 s ++ lowBytes 4 l) in
-    let head : b₁ ≡ sets b 0 front = p ∙ ap (λ (x : ℕ). sets b 0 (lowBytes 8 x)) e ∙ ap (sets b 0) (head-bytes k s l h) in
-    let eight : 8 ≡ 0 + length front = omega (arith, length-append (lowBytes 2 s) (lowBytes 4 l), length-low 2 s, length-low 4 l) in
+    let head : b₁ ≡ sets b 0 front =
+    p ∙ ap (λ (x : ℕ). sets b 0 (lowBytes 8 x)) e ∙ ap (sets b 0) (head-bytes k s l h) in
+    let eight : 8 ≡ 0 + length front =
+    omega (arith, length-append (lowBytes 2 s) (lowBytes 4 l), length-low 2 s, length-low 4 l) in
     let same = ap (λ (r : List ℕ). k ∷ 0 ∷ r) (append-assoc (lowBytes 2 s) (lowBytes 4 l) (lowBytes 8 v)) in
-    q ∙ ap₂ (λ (x : List ℕ) (n : ℕ). sets x n (lowBytes 8 v)) head eight ∙ sym (sets-append b 0 front (lowBytes 8 v)) ∙ ap (sets b 0) same
+    q ∙ ap₂ (λ (x : List ℕ) (n : ℕ). sets x n (lowBytes 8 v)) head eight ∙ sym (sets-append b 0 front (lowBytes 8 v))
+    ∙ ap (sets b 0) same
 
 -- a row that is written over from its front to its end
 sets-all : (l vs : List ℕ) → length l ≡ length vs → sets l 0 vs ≡ vs
@@ -159,7 +168,8 @@ sets-all l vs e =
     rw (sets-eq vs l 0 (omega arith), drop-of-length-le l h) (append-nil vs)
 
 -- a record for which there is room is written over a part of the bytes
-pub fill-part : (vs b part : List ℕ) (w e : ℕ) → length vs ≡ recordBytes → e ≡ w + recordBytes → e ≤ length b → part ≡ sets (take (e - w) (drop w b)) 0 vs
+pub fill-part : (vs b part : List ℕ) (w e : ℕ) → length vs ≡ recordBytes → e ≡ w + recordBytes → e ≤ length b
+    → part ≡ sets (take (e - w) (drop w b)) 0 vs
     → Fills vs w e b (take w b ++ (part ++ drop (e - w) (drop w b)))
 fill-part vs b part w e l p h q =
     let n = recordBytes * ((length b - w) / recordBytes) in
@@ -186,7 +196,8 @@ pub record Filling (f : ℕ → List ℕ) (n a i w₀ w : ℕ) (buf₀ buf : Lis
   pub whole : (j : ℕ) → Whole (f j)
   pub so : Fills (gather f (i - a) a) w₀ w buf₀ buf
 
-pub filling-first : (f : ℕ → List ℕ) (n a w : ℕ) (buf : List ℕ) → ((j : ℕ) → Whole (f j)) → w ≤ length buf → Filling f n a a w w buf buf
+pub filling-first : (f : ℕ → List ℕ) (n a w : ℕ) (buf : List ℕ) → ((j : ℕ) → Whole (f j)) → w ≤ length buf
+    → Filling f n a a w w buf buf
 filling-first f n a w buf t h =
     record {
       beyond = omega arith;
@@ -217,5 +228,6 @@ module _ {f : ℕ → List ℕ} {n a i w₀ w : ℕ} {buf₀ buf : List ℕ} (v 
       rw e (v .so)
 
 -- the same from place 0 on
-pub filling-whole : {f : ℕ → List ℕ} {n i w₀ w : ℕ} {buf₀ buf : List ℕ} → Filling f n 0 i w₀ w buf₀ buf → n ≤ i → Fills (gather f n 0) w₀ w buf₀ buf
+pub filling-whole : {f : ℕ → List ℕ} {n i w₀ w : ℕ} {buf₀ buf : List ℕ} → Filling f n 0 i w₀ w buf₀ buf → n ≤ i
+    → Fills (gather f n 0) w₀ w buf₀ buf
 filling-whole {n = n} v h = rw (sub-zero n) at (filling-all v h)

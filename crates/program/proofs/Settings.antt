@@ -25,11 +25,13 @@ use Rattle.drafts.specs.Drafts.{Draft, draft, initialDraft, draftsOf}
 use Rattle.sheet.specs.Sheet.{Numbered}
 use Rattle.sheet.specs.Layout.{draftsIn}
 use Rattle.records.specs.Record.{Rec, recBytes}
-use Rattle.model.specs.Definitions.{What, constant, assigned, integral, Def, definedBy, definitions, keys, placeIn, slotIn}
+use Rattle.model.specs.Definitions.{What, constant, assigned, integral, Def, definedBy, definitions, keys, placeIn}
+use Rattle.model.specs.Definitions.{slotIn}
 use Rattle.model.specs.Faults.{constantKeys, nameFaults}
 use Rattle.drafts.specs.Places.{homeOf}
 use Rattle.model.proofs.StatementDrafts.{noDraft, Plain, expressionDrafts, along-expression, Home, homeOfWhat}
-use Rattle.model.proofs.SheetWalk.{sheetKinds, sheetLines, sheetBounds, sheetKeys, sheetSlots, sheetPlaces, slotOf, kind-at, slot-at, draftsBy, line-at}
+use Rattle.model.proofs.SheetWalk.{sheetKinds, sheetLines, sheetBounds, sheetKeys, sheetSlots, sheetPlaces, slotOf}
+use Rattle.model.proofs.SheetWalk.{kind-at, slot-at, draftsBy, line-at}
 use Rattle.model.proofs.SheetWalk.{begins-at, drafts-split, first-kind, span}
 use Rattle.model.proofs.KeyPlaces.{Once, isConstant, definitionOf, definition-first, definition-later, constant-at}
 use Rattle.model.proofs.SheetKeys.{definedIn, homeAt}
@@ -44,7 +46,9 @@ unfolding valueIn count
 value-of [] k x h e = absurd (omega arith)
 value-of (d ∷ ds) k x h e =
     ⊎-elim (λ (q : k ≡ d .key). first q)
-    (λ q. later q (d .what) ∙ value-of ds k x (omega (arith, once-other k (d .key) q)) (rw (definition-later d ds k q) at e)) (eq-or-ne k (d .key))
+    (λ q. later q (d .what)
+    ∙ value-of ds k x (omega (arith, once-other k (d .key) q)) (rw (definition-later d ds k q) at e))
+    (eq-or-ne k (d .key))
   where
     first : k ≡ d .key → constantValue k (d .key) (d .what) (valueIn ds k) ≡ x
     first q =
@@ -83,8 +87,10 @@ module _ {A B : Type 0} (G : List A → List B) where
   gather-front : (f : ℕ → List B) (p m q : List A) (n : ℕ) → n ≤ length m → ((i : ℕ) → f i ≡ G (drop i (p ++ (m ++ q))))
       → gather f n (length p) ≡ along G (take n m) (drop n m ++ q)
   gather-front f p m q n h e =
-      let same : take n m ++ (drop n m ++ q) ≡ m ++ q = sym (append-assoc (take n m) (drop n m) q) ∙ ap (λ r. r ++ q) (take-append-drop n m) in
-      rw (length-take-le n m h) at (gather-along G f p (take n m) (drop n m ++ q) (λ i. e i ∙ ap (λ r. G (drop i (p ++ r))) (sym same)))
+      let same : take n m ++ (drop n m ++ q) ≡ m ++ q =
+      sym (append-assoc (take n m) (drop n m) q) ∙ ap (λ r. r ++ q) (take-append-drop n m) in
+      rw (length-take-le n m h) at
+      (gather-along G f p (take n m) (drop n m ++ q) (λ i. e i ∙ ap (λ r. G (drop i (p ++ r))) (sym same)))
 
 module _ (ss : List Numbered) where
   abbrev ds : List Def
@@ -95,7 +101,8 @@ module _ (ss : List Numbered) where
 
   -- the settings of a phase of statement j
   abbrev settingsIn : ℕ → ℕ → List ℕ
-  settingsIn phase j = settingsOf phase (sheetPlaces ss) (sheetLines ss) (sheetBounds ss) (sheetKinds ss) (sheetSlots ss) j
+  settingsIn phase j =
+      settingsOf phase (sheetPlaces ss) (sheetLines ss) (sheetBounds ss) (sheetKinds ss) (sheetSlots ss) j
 
   -- the setting of place i, with the line l
   abbrev settingIn : ℕ → ℕ → ℕ → List ℕ
@@ -103,23 +110,33 @@ module _ (ss : List Numbered) where
 
   -- the value of a draft behind a constant or an initial
   abbrev valueOf : Draft → ℕ
-  valueOf d = cond (eqb (d .kind) kindFrom) (getD (sheetSlots ss) (homeOf (sheetPlaces ss) (slotOf ks d) + 1) 0) (slotOf ks d)
+  valueOf d =
+      cond (eqb (d .kind) kindFrom) (getD (sheetSlots ss) (homeOf (sheetPlaces ss) (slotOf ks d) + 1) 0) (slotOf ks d)
 
   -- the setting of a draft with all that stands behind it
   abbrev settingOf : ℕ → ℕ → List Draft → List ℕ
   settingOf phase l x =
-      cond (eqb (getD x 0 noDraft .kind) phase) (fieldBytes phase (slotOf ks (getD x 0 noDraft)) l (valueOf (getD x 1 noDraft))) []
+      cond (eqb (getD x 0 noDraft .kind) phase)
+      (fieldBytes phase (slotOf ks (getD x 0 noDraft)) l (valueOf (getD x 1 noDraft))) []
 
   setting-at : (phase l i : ℕ) → settingIn phase l i ≡ settingOf phase l (drop i (draftsIn ss))
   setting-at phase l i =
       rw (getD-drop i (draftsIn ss) 0 noDraft, getD-drop i (draftsIn ss) 1 noDraft, add-zero i)
-      (rw (kind-at (draftsIn ss) i, slot-at ks (draftsIn ss) i, kind-at (draftsIn ss) (i + 1), slot-at ks (draftsIn ss) (i + 1)))
+      (rw (
+        kind-at (draftsIn ss) i,
+        slot-at ks (draftsIn ss) i,
+        kind-at (draftsIn ss) (i + 1),
+        slot-at ks (draftsIn ss) (i + 1),
+      ))
 
-  -- the drafts of a statement have no setting of a phase, or they begin with one and have none behind those that can be one
+  -- the drafts of a statement have no setting of a phase, or they begin with one and have none behind those that can be
+  -- one
   abbrev Begun : ℕ → Type 0
   Begun phase = (l : ℕ) (x : Says) (q : List Draft) → let G = settingOf phase l in
       (along G (draftsOf x) q ≡ [])
-      ⊎ ((eqb (getD (draftsOf x ++ q) 0 noDraft .kind) phase ≡ true) × (along G (drop (reach phase (length (draftsOf x))) (draftsOf x)) q ≡ []))
+      ⊎
+      ((eqb (getD (draftsOf x ++ q) 0 noDraft .kind) phase ≡ true)
+      × (along G (drop (reach phase (length (draftsOf x))) (draftsOf x)) q ≡ []))
 
   -- of a statement
   settings-at : (phase : ℕ) → Begun phase → (a : List Numbered) (s : Numbered) (b : List Numbered) → ss ≡ a ++ s ∷ b
@@ -137,7 +154,8 @@ module _ (ss : List Numbered) where
       (λ i. setting-at phase (s .line) i ∙ ap (λ r. G (drop i r)) (drafts-split ss a s b p)) in
       rw (first-kind ss a s b p, line-at ss a s b p, span ss a s b p, begins-at ss a s b p, front)
       (⊎-elim
-      (λ (e : along G m q ≡ []). cond-ind (λ (r : List ℕ). r ≡ []) begins x [] (λ _. front-none x y (sym whole ∙ e)) (λ _. refl) ∙ sym e)
+      (λ (e : along G m q ≡ []). cond-ind (λ (r : List ℕ). r ≡ []) begins x [] (λ _. front-none x y (sym whole ∙ e))
+      (λ _. refl) ∙ sym e)
       (λ e. rw (e .0) (sym (whole ∙ ap (λ r. x ++ r) (e .1) ∙ append-nil x)))
       (begun (s .line) (s .says) q))
 
@@ -149,7 +167,8 @@ module _ (ss : List Numbered) where
   settings-of phase f e =
       rw (length-map ss (λ (s : Numbered). s .line))
       (gather-over (settingsIn phase) (λ s. concat-map recBytes (concat-map f (definedIn s))) ss e
-      ∙ sym (ap (concat-map recBytes) (concat-concat f definedIn ss) ∙ concat-concat recBytes (λ s. concat-map f (definedIn s)) ss))
+      ∙ sym (ap (concat-map recBytes) (concat-concat f definedIn ss)
+      ∙ concat-concat recBytes (λ s. concat-map f (definedIn s)) ss))
 
   -- ---- constants: plain drafts have no setting
   constant-none : (l k a : ℕ) (x : List Draft) → Plain k → settingOf kindConstant l (draft k a ∷ x) ≡ []
@@ -157,14 +176,19 @@ module _ (ss : List Numbered) where
 
   -- a statement has those of its constants
   constant-settings : (l : ℕ) (x : Says) (q : List Draft)
-      → along (settingOf kindConstant l) (draftsOf x) q ≡ concat-map recBytes (concat-map (λ (d : Def). constantRecs ds d (d .what)) (definedBy l x))
+      → along (settingOf kindConstant l) (draftsOf x) q
+      ≡ concat-map recBytes (concat-map (λ (d : Def). constantRecs ds d (d .what)) (definedBy l x))
   unfolding along concat-map recBytes
   constant-settings l (constants []) q = refl
   constant-settings l (constants (c ∷ cs)) q =
-      ap (λ r. fieldBytes kindConstant (slotIn ds (c .key)) l (toBits binary64 (c .worth)) ++ r) (constant-settings l (constants cs) q)
-  constant-settings l (assignment k t) q = along-expression (settingOf kindConstant l) (constant-none l) t (draft kindStore k) q
-  constant-settings l (state k (plain x) t) q = along-expression (settingOf kindConstant l) (constant-none l) t (draft kindRate k) q
-  constant-settings l (state k (from c) t) q = along-expression (settingOf kindConstant l) (constant-none l) t (draft kindRate k) q
+      ap (λ r. fieldBytes kindConstant (slotIn ds (c .key)) l (toBits binary64 (c .worth)) ++ r)
+      (constant-settings l (constants cs) q)
+  constant-settings l (assignment k t) q =
+      along-expression (settingOf kindConstant l) (constant-none l) t (draft kindStore k) q
+  constant-settings l (state k (plain x) t) q =
+      along-expression (settingOf kindConstant l) (constant-none l) t (draft kindRate k) q
+  constant-settings l (state k (from c) t) q =
+      along-expression (settingOf kindConstant l) (constant-none l) t (draft kindRate k) q
 
   -- a statement that has a constant begins with one
   constants-begun : Begun 1
@@ -196,18 +220,23 @@ module _ (ss : List Numbered) where
 
   -- a statement has that of its state
   initial-settings : (l : ℕ) (x : Says) → Valued x → (q : List Draft)
-      → along (settingOf kindInitial l) (draftsOf x) q ≡ concat-map recBytes (concat-map (λ (d : Def). initialRecs ds d (d .what)) (definedBy l x))
+      → along (settingOf kindInitial l) (draftsOf x) q
+      ≡ concat-map recBytes (concat-map (λ (d : Def). initialRecs ds d (d .what)) (definedBy l x))
   unfolding along concat-map recBytes
   initial-settings l (constants []) v q = refl
   initial-settings l (constants (c ∷ cs)) v q = initial-settings l (constants cs) tt q
-  initial-settings l (assignment k t) v q = along-expression (settingOf kindInitial l) (initial-none l) t (draft kindStore k) q
+  initial-settings l (assignment k t) v q =
+      along-expression (settingOf kindInitial l) (initial-none l) t (draft kindStore k) q
   initial-settings l (state k (plain x) t) v q =
-      ap₂ (λ n r. fieldBytes kindInitial (slotIn ds k) l n ++ r) v (along-expression (settingOf kindInitial l) (initial-none l) t (draft kindRate k) q)
+      ap₂ (λ n r. fieldBytes kindInitial (slotIn ds k) l n ++ r) v
+      (along-expression (settingOf kindInitial l) (initial-none l) t (draft kindRate k) q)
   initial-settings l (state k (from c) t) v q =
-      ap₂ (λ n r. fieldBytes kindInitial (slotIn ds k) l n ++ r) v (along-expression (settingOf kindInitial l) (initial-none l) t (draft kindRate k) q)
+      ap₂ (λ n r. fieldBytes kindInitial (slotIn ds k) l n ++ r) v
+      (along-expression (settingOf kindInitial l) (initial-none l) t (draft kindRate k) q)
 
   -- constants have none
-  no-initials : (l : ℕ) (cs : List Constant) (q : List Draft) → along (settingOf kindInitial l) (draftsOf (constants cs)) q ≡ []
+  no-initials : (l : ℕ) (cs : List Constant) (q : List Draft)
+      → along (settingOf kindInitial l) (draftsOf (constants cs)) q ≡ []
   unfolding along concat-map
   no-initials l [] q = refl
   no-initials l (c ∷ cs) q = no-initials l cs q
@@ -219,7 +248,8 @@ module _ (ss : List Numbered) where
   state-begun l (assignment k t) q = inl (initial-settings l (assignment k t) tt q)
   state-begun l (state k i t) q = inr (refl, rw (reach-first _) (behind i))
     where
-      behind : (i : Initial) → along (settingOf kindInitial l) (initialDraft i ∷ (expressionDrafts t ++ (draft kindRate k ∷ []))) q ≡ []
+      behind : (i : Initial) → along (settingOf kindInitial l)
+          (initialDraft i ∷ (expressionDrafts t ++ (draft kindRate k ∷ []))) q ≡ []
       behind (plain x) = along-expression (settingOf kindInitial l) (initial-none l) t (draft kindRate k) q
       behind (from c) = along-expression (settingOf kindInitial l) (initial-none l) t (draft kindRate k) q
 
@@ -231,21 +261,27 @@ module _ (ss : List Numbered) where
         let at = homeOf (sheetPlaces ss) (suc (placeIn c ks)) in
         let d = definitionOf ds c in
         let w = constant-what (d .what) (sym (constant-at ds distinct c h) ∙ in-has c (constantKeys ds) m) in
-        let e : homeAt ss at ≡ homeOfWhat (d .key) (constant (w .0)) = home-of ss c h ∙ ap (homeOfWhat (d .key)) (w .1) in
+        let e : homeAt ss at ≡ homeOfWhat (d .key) (constant (w .0)) =
+        home-of ss c h ∙ ap (homeOfWhat (d .key)) (w .1) in
         let k : getD (draftsIn ss) at noDraft .kind ≡ 1 = ap (λ (x : Home). x .own .kind) e in
-        let b : getD (draftsIn ss) (at + 1) noDraft ≡ draft kindNumber (toBits binary64 (w .0)) = rw k at (ap (λ (x : Home). x .behind) e) in
-        slot-at ks (draftsIn ss) (at + 1) ∙ ap (slotOf ks) b ∙ ap (toBits binary64) (sym (value-of ds c (w .0) h (w .1)))
+        let b : getD (draftsIn ss) (at + 1) noDraft ≡ draft kindNumber (toBits binary64 (w .0)) =
+        rw k at (ap (λ (x : Home). x .behind) e) in
+        slot-at ks (draftsIn ss) (at + 1) ∙ ap (slotOf ks) b
+        ∙ ap (toBits binary64) (sym (value-of ds c (w .0) h (w .1)))
 
     -- so each initial has its value
-    valued : (a : List Numbered) (s : Numbered) (b : List Numbered) → ss ≡ a ++ s ∷ b → (x : Says) → s .says ≡ x → Valued x
+    valued : (a : List Numbered) (s : Numbered) (b : List Numbered) → ss ≡ a ++ s ∷ b → (x : Says) → s .says ≡ x
+        → Valued x
     valued a s b p (constants cs) e = tt
     valued a s b p (assignment k t) e = tt
     valued a s b p (state k (plain x) t) e = refl
-    valued a s b p (state k (from c) t) e = let r = initial-known ss a s b p ds clean k c t e in named-value c (r .0) (r .1)
+    valued a s b p (state k (from c) t) e =
+        let r = initial-known ss a s b p ds clean k c t e in named-value c (r .0) (r .1)
 
     -- KIND 2, in text order
     pub initials-of : gather (settingsIn 2) (length (sheetLines ss)) 0
         ≡ concat-map recBytes (concat-map (λ (d : Def). initialRecs ds d (d .what)) ds)
     initials-of =
         settings-of 2 (λ (d : Def). initialRecs ds d (d .what))
-        (λ a s b p. settings-at 2 state-begun a s b p ∙ initial-settings (s .line) (s .says) (valued a s b p (s .says) refl) (draftsIn b))
+        (λ a s b p. settings-at 2 state-begun a s b p
+        ∙ initial-settings (s .line) (s .says) (valued a s b p (s .says) refl) (draftsIn b))

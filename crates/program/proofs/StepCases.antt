@@ -1,12 +1,12 @@
 -- What the parts of the program are in each case that code tells apart.
 use Prim.Native.Nat.{ℕ, suc, _+_, _-_, _≤_, _<_}
 use mathlib.Core.Path.{_≡_, refl, sym, ap, _∙_}
-use mathlib.Core.Bool.{Bool, true, false, cond, _&&_}
+use mathlib.Core.Bool.{Bool, true, false, cond}
 use mathlib.Core.List.{List, [], _∷_, _++_}
 use native.Mathlib.Numerals.{add-one}
 use native.Mathlib.Omega.{arith}
 use borrow.Author.Tests.{le-leb, lt-leb, eq-eqb, ne-eqb}
-use lib.Dec.{eqb, leb}
+use lib.Dec.{eqb}
 use lib.ListN.{length, getD, drop}
 use lib.Seq.{drop-cons}
 use Rattle.laws.specs.Counts.{once}
@@ -15,26 +15,32 @@ use Rattle.laws.proofs.Tests.{cond-ind}
 use Rattle.laws.proofs.Gathers.{gather-shift}
 use Rattle.drafts.specs.Places.{begins, ends}
 use Rattle.drafts.specs.Kinds.{kindPush, kindFetch, kindClock, isStep, writes}
-use Rattle.program.specs.Written.{fieldBytes, recordCount, valueAt, settingAt, reach, settingsOf, stepBytes, stepAt, stepsOf, orderedSteps}
+use Rattle.program.specs.Written.{fieldBytes, recordCount, valueAt, settingAt, reach, settingsOf, stepBytes}
+use Rattle.program.specs.Written.{stepAt, stepsOf, orderedSteps}
 use Rattle.program.proofs.RoomFilled.{Whole, whole-gather, length-record}
 
 -- ---- each part has whole records
 whole-record : (k s l v : ℕ) → Whole (fieldBytes k s l v)
 whole-record k s l v = omega (arith, length-record k s l v)
 
-pub whole-setting : (phase : ℕ) (places kinds slots : List ℕ) (line i : ℕ) → Whole (settingAt phase places kinds slots line i)
+pub whole-setting : (phase : ℕ) (places kinds slots : List ℕ) (line i : ℕ)
+    → Whole (settingAt phase places kinds slots line i)
 whole-setting phase places kinds slots line i =
-    cond-ind Whole (eqb (getD kinds i 0) phase) _ [] (λ _. whole-record phase (getD slots i 0) line (valueAt places kinds slots i)) (λ _. omega arith)
+    cond-ind Whole (eqb (getD kinds i 0) phase) _ []
+    (λ _. whole-record phase (getD slots i 0) line (valueAt places kinds slots i)) (λ _. omega arith)
 
-pub whole-settings : (phase : ℕ) (places lines bounds kinds slots : List ℕ) (j : ℕ) → Whole (settingsOf phase places lines bounds kinds slots j)
+pub whole-settings : (phase : ℕ) (places lines bounds kinds slots : List ℕ) (j : ℕ)
+    → Whole (settingsOf phase places lines bounds kinds slots j)
 whole-settings phase places lines bounds kinds slots j =
     cond-ind Whole (eqb (getD kinds (begins bounds j) 0) phase) _ []
-    (λ _. whole-gather _ (whole-setting phase places kinds slots (getD lines j 0)) (reach phase (ends bounds j - begins bounds j)) (begins bounds j))
+    (λ _. whole-gather _ (whole-setting phase places kinds slots (getD lines j 0))
+    (reach phase (ends bounds j - begins bounds j)) (begins bounds j))
     (λ _. omega arith)
 
 pub whole-all-settings : (phase : ℕ) (places lines bounds kinds slots : List ℕ)
     → Whole (gather (settingsOf phase places lines bounds kinds slots) (length lines) 0)
-whole-all-settings phase places lines bounds kinds slots = whole-gather _ (whole-settings phase places lines bounds kinds slots) (length lines) 0
+whole-all-settings phase places lines bounds kinds slots =
+    whole-gather _ (whole-settings phase places lines bounds kinds slots) (length lines) 0
 
 whole-step : (k x line : ℕ) → Whole (stepBytes k x line)
 whole-step k x line =
@@ -56,8 +62,10 @@ module _ (phase : ℕ) (places lines bounds kinds slots : List ℕ) (j : ℕ) {i
   settings-none h = rw (← first, ne-eqb (getD kinds i 0) phase h)
 
   -- it does: what its places give, up to the last that can be one
-  pub settings-some : {line end : ℕ} (last : ℕ) → line ≡ getD lines j 0 → end ≡ ends bounds j → last - i ≡ reach phase (end - i) → getD kinds i 0 ≡ phase
-      → settingsOf phase places lines bounds kinds slots j ≡ gather (settingAt phase places kinds slots line) (last - i) i
+  pub settings-some : {line end : ℕ} (last : ℕ) → line ≡ getD lines j 0 → end ≡ ends bounds j
+      → last - i ≡ reach phase (end - i) → getD kinds i 0 ≡ phase
+      → settingsOf phase places lines bounds kinds slots j ≡ gather (settingAt phase places kinds slots line)
+      (last - i) i
   settings-some last l e r h = rw (r, l, e, ← first, eq-eqb (getD kinds i 0) phase h)
 
 -- ---- the record of a step, by its kind
@@ -86,7 +94,8 @@ module _ (k x line : ℕ) where
 
 -- the steps of the ordered statements, gathered over the places of the order
 pub ordered-gather : (rows lines bounds kinds slots order : List ℕ)
-    → orderedSteps rows lines bounds kinds slots order ≡ gather (λ q. stepsOf lines bounds kinds slots (getD rows (getD order q 0) 0)) (length order) 0
+    → orderedSteps rows lines bounds kinds slots order
+    ≡ gather (λ q. stepsOf lines bounds kinds slots (getD rows (getD order q 0) 0)) (length order) 0
 unfolding orderedSteps gather
 ordered-gather rows lines bounds kinds slots [] = refl
 ordered-gather rows lines bounds kinds slots (r ∷ order) =
@@ -100,6 +109,7 @@ pub counted : (kinds : List ℕ) (i n more : ℕ) → i < length kinds → more 
 unfolding recordCount
 counted kinds i n more h e = rw (add-one i, drop-cons kinds i 0 h, e) (split (writes (getD kinds i 0)))
   where
-    split : (t : Bool) → n + once t + recordCount (drop (suc i) kinds) ≡ n + cond t (suc (recordCount (drop (suc i) kinds))) (recordCount (drop (suc i) kinds))
+    split : (t : Bool) → n + once t + recordCount (drop (suc i) kinds)
+        ≡ n + cond t (suc (recordCount (drop (suc i) kinds))) (recordCount (drop (suc i) kinds))
     split true = omega arith
     split false = omega arith

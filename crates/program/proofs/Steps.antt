@@ -8,7 +8,8 @@ use Rattle.laws.proofs.Lists.{concat-append}
 use Rattle.laws.proofs.Concats.{map-append, concat-concat, concat-mapped, concat-same, concat-same-in}
 use Rattle.laws.proofs.Members.{Below}
 use Rattle.drafts.specs.Kinds.{kindStore, kindRate}
-use Rattle.drafts.specs.Tree.{plus, minus, times, over, compar, insw, limit, Tree, Initial, plain, from, Says, assignment, state}
+use Rattle.drafts.specs.Tree.{plus, minus, times, over, compar, insw, limit, Tree, Initial, plain, from, Says}
+use Rattle.drafts.specs.Tree.{assignment, state}
 use Rattle.drafts.specs.Items.{Item, push, fetch, clock, negate, apply-two, apply-three, postfix}
 use Rattle.drafts.specs.Drafts.{Draft, draft, draftItem, draftsOf}
 use Rattle.sheet.specs.Sheet.{Numbered}
@@ -18,8 +19,9 @@ use Rattle.records.specs.declared.Instr.the-variants.{Store, Deriv}
 use Rattle.records.specs.Record.{rec, recBytes}
 use Rattle.model.specs.Definitions.{Def, definitions, keys, slotIn, Equation, equations, equationAt}
 use Rattle.model.proofs.StatementDrafts.{expressionDrafts}
-use Rattle.model.proofs.SheetWalk.{sheetKinds, sheetLines, sheetBounds, sheetSlots, sheetRows, slotOf, kind-at, slot-at, line-at, in-statement}
-use Rattle.model.proofs.SheetEquations.{equation, rows-by, row-at}
+use Rattle.model.proofs.SheetWalk.{sheetKinds, sheetLines, sheetBounds, sheetSlots, sheetRows, slotOf, kind-at, slot-at}
+use Rattle.model.proofs.SheetWalk.{line-at, in-statement}
+use Rattle.model.proofs.SheetEquations.{rows-by, row-at}
 use Rattle.program.specs.Program.{instrItem, equationRecs}
 use Rattle.program.specs.Written.{stepBytes, stepAt, stepsOf, orderedSteps}
 
@@ -44,28 +46,34 @@ step-item ds l (apply-three limit) = refl
 
 -- an expression's drafts with the last one are written as the equation's records
 step-ending : (ds : List Def) (l : ℕ) (t : Tree) (z : Draft) (i : Instr) → stepOf ds l z ≡ recBytes (rec l i)
-    → concat-map (stepOf ds l) (expressionDrafts t ++ (z ∷ [])) ≡ concat-map recBytes (map (rec l) (map (instrItem (slotIn ds)) (postfix t) ++ (i ∷ [])))
+    → concat-map (stepOf ds l) (expressionDrafts t ++ (z ∷ []))
+    ≡ concat-map recBytes (map (rec l) (map (instrItem (slotIn ds)) (postfix t) ++ (i ∷ [])))
 unfolding concat-map
 step-ending ds l t z i e =
     let is = map (instrItem (slotIn ds)) (postfix t) in
     let left = concat-append (stepOf ds l) (expressionDrafts t) (z ∷ []) in
     let items =
     concat-mapped (stepOf ds l) draftItem (postfix t)
-    ∙ concat-same (λ x. stepOf ds l (draftItem x)) (λ x. recBytes (rec l (instrItem (slotIn ds) x))) (step-item ds l) (postfix t)
-    ∙ sym (concat-mapped recBytes (rec l) is ∙ concat-mapped (λ j. recBytes (rec l j)) (instrItem (slotIn ds)) (postfix t)) in
-    let right = ap (concat-map recBytes) (map-append (rec l) is (i ∷ [])) ∙ concat-append recBytes (map (rec l) is) (rec l i ∷ []) in
+    ∙ concat-same (λ x. stepOf ds l (draftItem x)) (λ x. recBytes (rec l (instrItem (slotIn ds) x))) (step-item ds l)
+    (postfix t)
+    ∙ sym (concat-mapped recBytes (rec l) is
+    ∙ concat-mapped (λ j. recBytes (rec l j)) (instrItem (slotIn ds)) (postfix t)) in
+    let right = ap (concat-map recBytes) (map-append (rec l) is (i ∷ []))
+    ∙ concat-append recBytes (map (rec l) is) (rec l i ∷ []) in
     left ∙ ap₂ (λ x y. x ++ (y ++ [])) items e ∙ sym right
 
 -- a state statement's first two drafts are no steps
 step-state : (ds : List Def) (l k : ℕ) (i : Initial) (t : Tree)
-    → concat-map (stepOf ds l) (draftsOf (state k i t)) ≡ concat-map (stepOf ds l) (expressionDrafts t ++ (draft kindRate k ∷ []))
+    → concat-map (stepOf ds l) (draftsOf (state k i t))
+    ≡ concat-map (stepOf ds l) (expressionDrafts t ++ (draft kindRate k ∷ []))
 unfolding concat-map
 step-state ds l k (plain x) t = refl
 step-state ds l k (from c) t = refl
 
 -- in an order, one equation after the other
 ordered-steps : (rows lines bounds kinds slots q : List ℕ)
-    → orderedSteps rows lines bounds kinds slots q ≡ concat-map (λ r. stepsOf lines bounds kinds slots (getD rows r 0)) q
+    → orderedSteps rows lines bounds kinds slots q
+    ≡ concat-map (λ r. stepsOf lines bounds kinds slots (getD rows r 0)) q
 unfolding orderedSteps concat-map
 ordered-steps rows lines bounds kinds slots [] = refl
 ordered-steps rows lines bounds kinds slots (r ∷ q) =
@@ -96,9 +104,11 @@ module _ (ss : List Numbered) where
   unfolding recBytes
   row-steps =
       rows-by ss stepsIn bytesOf
-      (λ a s b p k t e. steps-at a s b p (assignment k t) e ∙ step-ending ds (s .line) t (draft kindStore k) (Store (slotIn ds k)) refl)
+      (λ a s b p k t e. steps-at a s b p (assignment k t) e
+      ∙ step-ending ds (s .line) t (draft kindStore k) (Store (slotIn ds k)) refl)
       (λ a s b p k i t e.
-      steps-at a s b p (state k i t) e ∙ step-state ds (s .line) k i t ∙ step-ending ds (s .line) t (draft kindRate k) (Deriv (slotIn ds k)) refl)
+      steps-at a s b p (state k i t) e ∙ step-state ds (s .line) k i t
+      ∙ step-ending ds (s .line) t (draft kindRate k) (Deriv (slotIn ds k)) refl)
 
   -- THE STEPS, in an order of the equations
   pub steps-of : (q : List ℕ) → Below (length (sheetRows ss)) q
@@ -106,5 +116,6 @@ module _ (ss : List Numbered) where
       ≡ concat-map recBytes (concat-map (λ i. equationRecs ds (equationAt ds i)) q)
   steps-of q b =
       ordered-steps (sheetRows ss) (sheetLines ss) (sheetBounds ss) (sheetKinds ss) (sheetSlots ss) q
-      ∙ concat-same-in (λ r. stepsIn (getD (sheetRows ss) r 0)) (λ r. bytesOf (equationAt ds r)) q (λ r h. row-at ss stepsIn bytesOf row-steps r (b r h))
+      ∙ concat-same-in (λ r. stepsIn (getD (sheetRows ss) r 0)) (λ r. bytesOf (equationAt ds r)) q
+      (λ r h. row-at ss stepsIn bytesOf row-steps r (b r h))
       ∙ sym (concat-concat recBytes (λ i. equationRecs ds (equationAt ds i)) q)

@@ -40,7 +40,8 @@ program-of ss distinct clean q b =
     ∙ sym (concat-append recBytes x (y ++ z) ∙ ap (λ r. concat-map recBytes x ++ r) (concat-append recBytes y z))
 
 -- ---- of arrays that hold the statements ss, which have no model fault
-module _ (ss : List Numbered) (kinds args lines bounds : List ℕ) (laid : Laid ss kinds args lines bounds) (clean : modelFaults ss ≡ []) where
+module _ (ss : List Numbered) (kinds args lines bounds : List ℕ) (laid : Laid ss kinds args lines bounds)
+    (clean : modelFaults ss ≡ []) where
   abbrev ds : List Def
   ds = definitions ss
 
@@ -56,10 +57,12 @@ module _ (ss : List Numbered) (kinds args lines bounds : List ℕ) (laid : Laid 
   count-meant = rw (laid .kinds-held) (count-of ss (orderOf ds) order-permutes)
 
   -- THE PROGRAM
-  pub program-meant : writtenProgram (placesIn kinds) (equationRows (length lines) bounds kinds) lines bounds kinds slots (orderOf ds)
+  pub program-meant : writtenProgram (placesIn kinds)
+      (equationRows (length lines) bounds kinds) lines bounds kinds slots (orderOf ds)
       ≡ programBytes (program ds (orderOf ds))
   program-meant =
       let e = no-faults ss clean in
       let b = perm-below (equationCount ds) (usesIn ds) (orderOf ds) order-permutes in
       rw (slots-meant ss kinds args lines bounds laid)
-      (rw (laid .kinds-held, laid .lines-held, laid .bounds-held) (program-of ss (keys-once ss (e .0)) (e .1) (orderOf ds) b))
+      (rw (laid .kinds-held, laid .lines-held, laid .bounds-held)
+      (program-of ss (keys-once ss (e .0)) (e .1) (orderOf ds) b))

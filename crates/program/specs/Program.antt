@@ -9,7 +9,8 @@ use Rattle.drafts.specs.Tree.{Two, plus, minus, times, over, compar, Three, ins
 use Rattle.drafts.specs.Items.{Item, push, fetch, clock, negate, apply-two, apply-three, postfix}
 use Rattle.model.specs.Definitions.{What, constant, assigned, integral, Def, slotIn, Equation, equationAt}
 use Rattle.records.specs.declared.Instr.{Instr}
-use Rattle.records.specs.declared.Instr.the-variants.{Constant, Initial as Start, Value, Slot, Add, Sub, Mul, Div, Neg, Insw, Limit, Compar, Store, Deriv}
+use Rattle.records.specs.declared.Instr.the-variants.{Constant, Initial as Start, Value, Slot, Add, Sub, Mul, Div, Neg}
+use Rattle.records.specs.declared.Instr.the-variants.{Insw, Limit, Compar, Store, Deriv}
 use Rattle.records.specs.Record.{Rec, rec}
 
 -- ---- items as instructions
@@ -79,4 +80,5 @@ module _ (ds : List Def) where
   unfoldable pub program : List ℕ → List Rec
   program q =
       concat-map (λ (d : Def). constantRecs d (d .what)) ds
-      ++ (concat-map (λ (d : Def). initialRecs d (d .what)) ds ++ concat-map (λ (i : ℕ). equationRecs (equationAt ds i)) q)
+      ++
+      (concat-map (λ (d : Def). initialRecs d (d .what)) ds ++ concat-map (λ (i : ℕ). equationRecs (equationAt ds i)) q)

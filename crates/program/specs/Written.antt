@@ -1,4 +1,5 @@
--- The program as code writes it: by place, over the arrays of a sheet whose names are resolved. Every read past an end gives 0.
+-- The program as code writes it: by place, over the arrays of a sheet whose names are resolved. Every read past an end
+-- gives 0.
 use Prim.Native.Nat.{ℕ, suc, _+_, _-_, _*_, _/_, _%_, min}
 use mathlib.Core.Path.{_≡_}
 use mathlib.Core.Bool.{cond}
@@ -27,7 +28,8 @@ recordCount (k ∷ kinds) = cond (writes k) (suc (recordCount kinds)) (recordCou
 
 -- ---- the value behind a constant or an initial at place i: its bits, or those behind the constant that the name is
 abbrev pub valueAt : List ℕ → List ℕ → List ℕ → ℕ → ℕ
-valueAt places kinds slots i = cond (eqb (getD kinds (i + 1) 0) kindFrom) (getD slots (homeOf places (getD slots (i + 1) 0) + 1) 0) (getD slots (i + 1) 0)
+valueAt places kinds slots i = cond (eqb (getD kinds (i + 1) 0) kindFrom)
+    (getD slots (homeOf places (getD slots (i + 1) 0) + 1) 0) (getD slots (i + 1) 0)
 
 -- the record of a constant or of an initial, of the phase
 abbrev pub settingAt : ℕ → List ℕ → List ℕ → List ℕ → ℕ → ℕ → List ℕ
@@ -51,7 +53,8 @@ reach phase n = cond (eqb phase kindInitial) (min 1 n) n
 abbrev pub settingsOf : ℕ → List ℕ → List ℕ → List ℕ → List ℕ → List ℕ → ℕ → List ℕ
 settingsOf phase places lines bounds kinds slots j =
     cond (eqb (firstKind bounds kinds j) phase)
-    (gather (settingAt phase places kinds slots (getD lines j 0)) (reach phase (ends bounds j - begins bounds j)) (begins bounds j)) []
+    (gather (settingAt phase places kinds slots (getD lines j 0)) (reach phase (ends bounds j - begins bounds j))
+    (begins bounds j)) []
 
 abbrev pub stepsOf : List ℕ → List ℕ → List ℕ → List ℕ → ℕ → List ℕ
 stepsOf lines bounds kinds slots j = inStatement bounds (stepAt kinds slots (getD lines j 0)) j
@@ -66,7 +69,9 @@ orderedSteps rows lines bounds kinds slots (r ∷ order) =
 unfoldable pub writtenProgram : List ℕ → List ℕ → List ℕ → List ℕ → List ℕ → List ℕ → List ℕ → List ℕ
 writtenProgram places rows lines bounds kinds slots order =
     gather (settingsOf kindConstant places lines bounds kinds slots) (length lines) 0
-    ++ (gather (settingsOf kindInitial places lines bounds kinds slots) (length lines) 0 ++ orderedSteps rows lines bounds kinds slots order)
+    ++
+    (gather (settingsOf kindInitial places lines bounds kinds slots)
+    (length lines) 0 ++ orderedSteps rows lines bounds kinds slots order)
 
 -- ---- what a function that writes says of the bytes that it is lent
 

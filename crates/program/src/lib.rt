@@ -1,7 +1,7 @@
 // The program of a text, written from the arrays of its sheet, and the count of its records.
 ghost use mathlib.Core.Path.{_≡_};
 ghost use Prim.Native.Nat.{_-_, _≤_, _<_};
-ghost use lib.ListN.{length, getD};
+ghost use lib.ListN.{length};
 ghost use lib.Seq.{sets};
 ghost use Rattle.laws.specs.Places.{gather};
 ghost use Rattle.program.specs.Written.{fieldBytes, headOf, recordCount, valueAt, settingAt, reach, settingsOf};
@@ -86,7 +86,8 @@ fn put_setting(
     w: usize,
 ) -> usize
     requires { ⌜ (i < 65536) × (w ≤ length (now out)) ⌝ }
-    ensures { λ r. ⌜ Fills (settingAt phase (now (places .entry)) (now (kinds .entry)) (now (slots .entry)) line i) w r (now (out .entry)) (now (out .exit)) ⌝ }
+    ensures { λ r. ⌜ Fills (settingAt phase (now (places .entry)) (now (kinds .entry)) (now (slots .entry)) line i) w r
+        (now (out .entry)) (now (out .exit)) ⌝ }
 {
     if byte_at(kinds, i) == phase {
         let slot = word_at(slots, i);
@@ -123,7 +124,8 @@ fn put_settings(
 ) -> usize
     requires { ⌜ (j < length (now lines)) × (at ≤ length (now out)) ⌝ }
     ensures { λ r. ⌜
-        Fills (settingsOf phase (now (places .entry)) (now (lines .entry)) (now (bounds .entry)) (now (kinds .entry)) (now (slots .entry)) j)
+        Fills (settingsOf phase (now (places .entry)) (now (lines .entry)) (now (bounds .entry)) (now (kinds .entry))
+        (now (slots .entry)) j)
         at r (now (out .entry)) (now (out .exit)) ⌝ }
 {
     let mut i = short_at(bounds, j);
@@ -154,7 +156,8 @@ fn put_all_settings(
     requires { ⌜ at ≤ length (now out) ⌝ }
     ensures { λ r. ⌜
         Fills (gather
-        (settingsOf phase (now (places .entry)) (now (lines .entry)) (now (bounds .entry)) (now (kinds .entry)) (now (slots .entry)))
+        (settingsOf phase (now (places .entry)) (now (lines .entry)) (now (bounds .entry)) (now (kinds .entry))
+        (now (slots .entry)))
         (length (now (lines .entry))) 0)
         at r (now (out .entry)) (now (out .exit)) ⌝ }
 {
@@ -226,7 +229,8 @@ fn put_ordered(
 ) -> usize
     requires { ⌜ at ≤ length (now out) ⌝ }
     ensures { λ r. ⌜
-        Fills (orderedSteps (now (rows .entry)) (now (lines .entry)) (now (bounds .entry)) (now (kinds .entry)) (now (slots .entry)) (now (order .entry)))
+        Fills (orderedSteps (now (rows .entry)) (now (lines .entry)) (now (bounds .entry)) (now (kinds .entry))
+        (now (slots .entry)) (now (order .entry)))
         at r (now (out .entry)) (now (out .exit)) ⌝ }
 {
     let mut w = at;
@@ -251,7 +255,8 @@ pub fn put_program(
     out: &mut [u8],
 ) -> usize
     ensures { λ r. ⌜
-        (let p = writtenProgram (now (places .entry)) (now (rows .entry)) (now (lines .entry)) (now (bounds .entry)) (now (kinds .entry))
+        (let p = writtenProgram (now (places .entry)) (now (rows .entry)) (now (lines .entry)) (now (bounds .entry))
+        (now (kinds .entry))
         (now (slots .entry)) (now (order .entry)) in
         let q = fitting (length (now (out .entry))) p in
         (r ≡ length q) × (now (out .exit) ≡ sets (now (out .entry)) 0 q)) ⌝ }

@@ -30,7 +30,8 @@ entry-put l c at list {w} {list′} wide put =
     ∙ ap (sets list at) (entry-bytes l c h)
 
 -- where the list has no place for them, nothing is written
-pub entry-out : (l c count : ℕ) (list : List ℕ) → length list / faultBytes < count → list ≡ sets list (faultBytes * count) (entryOf l c)
+pub entry-out : (l c count : ℕ) (list : List ℕ) → length list / faultBytes < count
+    → list ≡ sets list (faultBytes * count) (entryOf l c)
 entry-out l c count list h = sym (sets-out list (faultBytes * count) (entryOf l c) (omega arith))
 
 -- each fault has as many bytes

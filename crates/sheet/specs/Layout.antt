@@ -1,5 +1,5 @@
--- The sheet as code holds it: the drafts of all statements one after the other, and for each statement its first line and where its
--- drafts begin.
+-- The sheet as code holds it: the drafts of all statements one after the other, and for each statement its first line
+-- and where its drafts begin.
 use Prim.Native.Nat.{ℕ, _+_}
 use mathlib.Core.Path.{_≡_}
 use mathlib.Core.List.{List, [], _∷_, map}

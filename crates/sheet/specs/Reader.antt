@@ -1,4 +1,5 @@
--- The reader of 01: a statement's fault, at most one. Order: 11, 12, 13; then the first bad token from the left; then the grammar's.
+-- The reader of 01: a statement's fault, at most one. Order: 11, 12, 13; then the first bad token from the left; then
+-- the grammar's.
 use Prim.Native.Nat.{ℕ}
 use mathlib.Core.Bool.{Bool, cond}
 use mathlib.Core.List.{List}
@@ -7,7 +8,7 @@ use lib.ListN.{length, getD}
 use Rattle.deck.specs.Lines.{Line, linesOf}
 use Rattle.deck.specs.Reports.{reports}
 use Rattle.deck.specs.Joined.{joined}
-use Rattle.deck.specs.Faults.{Place, at-start, at-token, at-end, Flaw, none, flaw, sizeFlaw}
+use Rattle.deck.specs.Faults.{Place, at-token, at-end, Flaw, none, flaw, sizeFlaw}
 use Rattle.tokens.specs.Symbol.{mark}
 use Rattle.tokens.specs.Row.{Placed, Close, all-good, bad, Row, rowOf, symbols}
 use Rattle.grammar.specs.Parser.{Read, read, fault, readRow}

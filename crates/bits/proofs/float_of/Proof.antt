@@ -8,7 +8,8 @@ use Rattle.bits.proofs.float_of.Statement.{statement}
 use Rattle.bits.proofs.float_of.Tie as tie
 
 float-from-bits-result : tie.Need-float-from-bits-result
-float-from-bits-result c = rw (nanBits-above Ieee.binary64 (c .before .args .bits), le-ltb 0x7ff0_0000_0000_0000 _ (c .if1 .left)) tt
+float-from-bits-result c =
+    rw (nanBits-above Ieee.binary64 (c .before .args .bits), le-ltb 0x7ff0_0000_0000_0000 _ (c .if1 .left)) tt
 
 returns : tie.Need-returns
 unfolding Ieee.div Ieee.ofBits

@@ -15,7 +15,8 @@ abbrev μ-loop : tie.MeasureT-loop
 loop-holds : tie.Need-loop-holds Inv-loop μ-loop
 loop-holds c =
     let s = c .before .before .before in
-    reading-first (s .args .part .now) (min (s .args .n) 8) (c .least2 .result) (omega (arith, c .least2 .ensures, c .before .least .ensures))
+    reading-first (s .args .part .now) (min (s .args .n) 8) (c .least2 .result)
+    (omega (arith, c .least2 .ensures, c .before .least .ensures))
 
 shared-slice-read-wide : tie.Need-shared-slice-read-wide Inv-loop μ-loop
 shared-slice-read-wide c = omega arith
@@ -26,7 +27,8 @@ small c =
     let a = c .before .before .before in
     let s = a .before .before .before .before in
     let h : min (s .args .n) 8 ≤ 8 = omega arith in
-    reading-fits (s .args .part .now) (min (s .args .n) 8) (a .loop .i) (a .loop .word) h (c .before .before .loop-test .taken) (a .loop .inv)
+    reading-fits (s .args .part .now) (min (s .args .n) 8) (a .loop .i) (a .loop .word) h
+    (c .before .before .loop-test .taken) (a .loop .inv)
 
 mul-word : tie.Need-mul-word Inv-loop μ-loop
 mul-word c = omega (arith, small c)
@@ -45,7 +47,8 @@ returns : tie.Need-returns Inv-loop μ-loop
 returns c =
     let a = c .before in
     let s = a .before .before .before .before in
-    reading-last (s .args .part .now) (min (s .args .n) 8) (a .loop .i) (a .loop .word) (c .loop-test .left) (a .loop .inv)
+    reading-last (s .args .part .now) (min (s .args .n) 8) (a .loop .i) (a .loop .word) (c .loop-test .left)
+    (a .loop .inv)
 
 pub get-low-spec : {M : Type 1} → statement M
 get-low-spec =

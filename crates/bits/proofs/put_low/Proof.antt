@@ -39,14 +39,16 @@ loop-again c =
     let a = c .before in
     let s = a .before .before .before in (
       a .loop .inv .0,
-      writing-next (s .args .buf .now) (a .loop .buf) (s .args .at) (s .args .n) (s .args .v) (a .loop .rest) (a .loop .i) (omega arith) (a .loop .inv .1),
+      writing-next (s .args .buf .now) (a .loop .buf) (s .args .at) (s .args .n) (s .args .v) (a .loop .rest)
+          (a .loop .i) (omega arith) (a .loop .inv .1),
     )
 
 returns : tie.Need-returns Inv-loop μ-loop
 returns c =
     let a = c .before in
     let s = a .before .before .before in
-    writing-last (s .args .buf .now) (a .loop .buf) (s .args .at) (s .args .n) (s .args .v) (a .loop .rest) (a .loop .i) (omega arith) (a .loop .inv .1)
+    writing-last (s .args .buf .now) (a .loop .buf) (s .args .at) (s .args .n) (s .args .v) (a .loop .rest) (a .loop .i)
+    (omega arith) (a .loop .inv .1)
 
 pub put-low-spec : {M : Type 1} → statement M
 put-low-spec =

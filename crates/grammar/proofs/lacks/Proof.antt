@@ -12,7 +12,8 @@ use Rattle.grammar.proofs.lacks.Tie as tie
 -- the test of what is left, and of the whole
 left-test : (l p n : ℕ) → p ≤ l → ltb (l - p) n ≡ ltb l (p + n)
 left-test l p n h =
-    ⊎-elim (λ a. lt-ltb (l - p) n a ∙ sym (lt-ltb l (p + n) (omega arith))) (λ a. le-ltb (l - p) n a ∙ sym (le-ltb l (p + n) (omega arith)))
+    ⊎-elim (λ a. lt-ltb (l - p) n a ∙ sym (lt-ltb l (p + n) (omega arith)))
+    (λ a. le-ltb (l - p) n a ∙ sym (le-ltb l (p + n) (omega arith)))
     (lt-or-ge (l - p) n)
 
 returns : tie.Need-returns

@@ -3,14 +3,16 @@ use mathlib.Core.Path.{sym, _∙_}
 use native.Mathlib.Omega.{arith}
 use borrow.Author.Needs.{needs}
 use Rattle.grammar.proofs.Meets.{is-passed}
-use Rattle.grammar.proofs.Entry.{uneven, no-kinds, no-args, entry-ready, entry-byte, entry-stopped, entry-done, entry-more}
+use Rattle.grammar.proofs.Entry.{uneven, no-kinds, no-args, entry-ready, entry-byte, entry-stopped, entry-done}
+use Rattle.grammar.proofs.Entry.{entry-more}
 use Rattle.grammar.proofs.parse_row.Statement.{statement}
 use Rattle.grammar.proofs.parse_row.Tie as tie
 
 returns : tie.Need-returns
 returns c =
     let start = c .before .before .before .before .before in
-    uneven (start .args .kinds .now) (start .args .args .now) (start .args .place) (start .args .out-kinds .now) (start .args .out-args .now)
+    uneven (start .args .kinds .now) (start .args .args .now) (start .args .place) (start .args .out-kinds .now)
+    (start .args .out-args .now)
     (c .if1 .taken)
 
 returns-2 : tie.Need-returns-2
@@ -18,7 +20,8 @@ returns-2 c =
     let at-lacks = c .before in
     let at-if1 = at-lacks .before in
     let start = at-if1 .before .before .before .before .before in
-    no-kinds (start .args .kinds .now) (start .args .args .now) (start .args .place) (start .args .out-kinds .now) (start .args .out-args .now)
+    no-kinds (start .args .kinds .now) (start .args .args .now) (start .args .place) (start .args .out-kinds .now)
+    (start .args .out-args .now)
     (at-if1 .if1 .left) (sym (c .if2 .taken) ∙ at-lacks .lacks .ensures)
 
 returns-3 : tie.Need-returns-3
@@ -28,8 +31,10 @@ returns-3 c =
     let at-lacks = at-if2 .before in
     let at-if1 = at-lacks .before in
     let start = at-if1 .before .before .before .before .before in
-    no-args (start .args .kinds .now) (start .args .args .now) (start .args .place) (start .args .out-kinds .now) (start .args .out-args .now)
-    (at-if1 .if1 .left) (sym (at-if2 .if2 .left) ∙ at-lacks .lacks .ensures) (sym (c .if3 .taken) ∙ at-lacks2 .lacks2 .ensures)
+    no-args (start .args .kinds .now) (start .args .args .now) (start .args .place) (start .args .out-kinds .now)
+    (start .args .out-args .now)
+    (at-if1 .if1 .left) (sym (at-if2 .if2 .left) ∙ at-lacks .lacks .ensures)
+    (sym (c .if3 .taken) ∙ at-lacks2 .lacks2 .ensures)
 
 any-statement-requires : tie.Need-any-statement-requires
 any-statement-requires c κs =
@@ -39,8 +44,10 @@ any-statement-requires c κs =
     let at-lacks = at-if2 .before in
     let at-if1 = at-lacks .before in
     let start = at-if1 .before .before .before .before .before in
-    entry-ready (start .args .kinds .now) (start .args .args .now) (start .args .place) (start .args .out-kinds .now) (start .args .out-args .now)
-    (at-if1 .if1 .left) (sym (at-if2 .if2 .left) ∙ at-lacks .lacks .ensures) (sym (at-if3 .if3 .left) ∙ at-lacks2 .lacks2 .ensures)
+    entry-ready (start .args .kinds .now) (start .args .args .now) (start .args .place) (start .args .out-kinds .now)
+    (start .args .out-args .now)
+    (at-if1 .if1 .left) (sym (at-if2 .if2 .left) ∙ at-lacks .lacks .ensures)
+    (sym (at-if3 .if3 .left) ∙ at-lacks2 .lacks2 .ensures)
 
 cast-t16 : tie.Need-cast-t16
 cast-t16 c =
@@ -51,8 +58,10 @@ cast-t16 c =
     let at-lacks = at-if2 .before in
     let at-if1 = at-lacks .before in
     let start = at-if1 .before .before .before .before .before in
-    let h = entry-byte (start .args .kinds .now) (start .args .args .now) (start .args .place) (start .args .out-kinds .now) (start .args .out-args .now)
-    (at-if1 .if1 .left) (sym (at-if2 .if2 .left) ∙ at-lacks .lacks .ensures) (sym (at-if3 .if3 .left) ∙ at-lacks2 .lacks2 .ensures)
+    let h = entry-byte (start .args .kinds .now) (start .args .args .now) (start .args .place)
+    (start .args .out-kinds .now) (start .args .out-args .now)
+    (at-if1 .if1 .left) (sym (at-if2 .if2 .left) ∙ at-lacks .lacks .ensures)
+    (sym (at-if3 .if3 .left) ∙ at-lacks2 .lacks2 .ensures)
     (at-any-statement .any-statement .ensures) in
     omega arith
 
@@ -66,8 +75,10 @@ returns-4 c =
     let at-lacks = at-if2 .before in
     let at-if1 = at-lacks .before in
     let start = at-if1 .before .before .before .before .before in
-    entry-stopped (start .args .kinds .now) (start .args .args .now) (start .args .place) (start .args .out-kinds .now) (start .args .out-args .now)
-    (at-if1 .if1 .left) (sym (at-if2 .if2 .left) ∙ at-lacks .lacks .ensures) (sym (at-if3 .if3 .left) ∙ at-lacks2 .lacks2 .ensures)
+    entry-stopped (start .args .kinds .now) (start .args .args .now) (start .args .place) (start .args .out-kinds .now)
+    (start .args .out-args .now)
+    (at-if1 .if1 .left) (sym (at-if2 .if2 .left) ∙ at-lacks .lacks .ensures)
+    (sym (at-if3 .if3 .left) ∙ at-lacks2 .lacks2 .ensures)
     (at-any-statement .any-statement .ensures) (at-if4 .if4 .taken)
 
 returns-5 : tie.Need-returns-5
@@ -80,8 +91,10 @@ returns-5 c =
     let at-lacks = at-if2 .before in
     let at-if1 = at-lacks .before in
     let start = at-if1 .before .before .before .before .before in
-    entry-done (start .args .kinds .now) (start .args .args .now) (start .args .place) (start .args .out-kinds .now) (start .args .out-args .now)
-    (at-if1 .if1 .left) (sym (at-if2 .if2 .left) ∙ at-lacks .lacks .ensures) (sym (at-if3 .if3 .left) ∙ at-lacks2 .lacks2 .ensures)
+    entry-done (start .args .kinds .now) (start .args .args .now) (start .args .place) (start .args .out-kinds .now)
+    (start .args .out-args .now)
+    (at-if1 .if1 .left) (sym (at-if2 .if2 .left) ∙ at-lacks .lacks .ensures)
+    (sym (at-if3 .if3 .left) ∙ at-lacks2 .lacks2 .ensures)
     (at-any-statement .any-statement .ensures) (is-passed (at-if4 .if4 .left)) (c .if5 .taken)
 
 returns-6 : tie.Need-returns-6
@@ -94,12 +107,16 @@ returns-6 c =
     let at-lacks = at-if2 .before in
     let at-if1 = at-lacks .before in
     let start = at-if1 .before .before .before .before .before in
-    entry-more (start .args .kinds .now) (start .args .args .now) (start .args .place) (start .args .out-kinds .now) (start .args .out-args .now)
-    (at-if1 .if1 .left) (sym (at-if2 .if2 .left) ∙ at-lacks .lacks .ensures) (sym (at-if3 .if3 .left) ∙ at-lacks2 .lacks2 .ensures)
+    entry-more (start .args .kinds .now) (start .args .args .now) (start .args .place) (start .args .out-kinds .now)
+    (start .args .out-args .now)
+    (at-if1 .if1 .left) (sym (at-if2 .if2 .left) ∙ at-lacks .lacks .ensures)
+    (sym (at-if3 .if3 .left) ∙ at-lacks2 .lacks2 .ensures)
     (at-any-statement .any-statement .ensures) (is-passed (at-if4 .if4 .left)) (c .if5 .left)
 
 pub parse-row-spec : {M : Type 1} → statement M
 parse-row-spec =
     tie.close
-    (tie.spec returns (λ c κs. search needs) returns-2 (λ c κs. search needs) returns-3 any-statement-requires cast-t16 (λ c. search needs)
-    (λ c. search needs) returns-4 (λ c. search needs) (λ c. search needs) returns-5 (λ c. search needs) (λ c. search needs) returns-6)
+    (tie.spec returns (λ c κs. search needs) returns-2 (λ c κs. search needs) returns-3 any-statement-requires cast-t16
+    (λ c. search needs)
+    (λ c. search needs) returns-4 (λ c. search needs) (λ c. search needs) returns-5 (λ c. search needs)
+    (λ c. search needs) returns-6)

@@ -22,7 +22,8 @@ loop-again : tie.Need-loop-again Inv-loop μ-loop
 loop-again c =
     let a = c .before .before .before in
     let kinds = a .before .before .args .kinds .now in
-    let e = counted kinds (a .loop .i) (a .loop .n) (c .records-of .result) (c .before .before .loop-test .taken) (c .records-of .ensures .0) in
+    let e = counted kinds (a .loop .i) (a .loop .n) (c .records-of .result) (c .before .before .loop-test .taken)
+    (c .records-of .ensures .0) in
     (omega arith, omega (arith, c .records-of .ensures .1), e ∙ a .loop .inv .2)
 
 returns : tie.Need-returns Inv-loop μ-loop

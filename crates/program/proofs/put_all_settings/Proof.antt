@@ -19,7 +19,9 @@ loop-holds : tie.Need-loop-holds Inv-loop μ-loop
 loop-holds c =
     let s = c .before .before .before .before .before .before in
     let a = s .args in
-    filling-first _ _ _ _ _ (whole-settings (a .phase) (a .places .now) (a .lines .now) (a .bounds .now) (a .kinds .now) (a .slots .now)) (s .pre)
+    filling-first _ _ _ _ _
+    (whole-settings (a .phase) (a .places .now) (a .lines .now) (a .bounds .now) (a .kinds .now) (a .slots .now))
+    (s .pre)
 
 put-settings-requires : tie.Need-put-settings-requires Inv-loop μ-loop
 put-settings-requires c κs = (c .before .loop-test .taken, c .before .before .loop .inv .within)

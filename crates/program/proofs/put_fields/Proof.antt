@@ -10,8 +10,11 @@ returns c =
     let head = value .before .before .before .before in
     let s = head .before .before .before .before in
     let a = s .args in
-    fields-put (a .kind) (a .slot) (a .line) (a .bits) (a .part .now) _ _ (search needs) (head .before .head-of .ensures) (head .put-eight .ensures)
+    fields-put (a .kind) (a .slot) (a .line) (a .bits) (a .part .now) _ _ (search needs)
+    (head .before .head-of .ensures) (head .put-eight .ensures)
     (value .put-eight2 .ensures)
 
 pub put-fields-spec : {M : Type 1} → statement M
-put-fields-spec = tie.close (tie.spec (λ c κs. search needs) (λ c κs. search needs) (λ c κs. search needs) (λ c. search needs) returns)
+put-fields-spec =
+    tie.close
+    (tie.spec (λ c κs. search needs) (λ c κs. search needs) (λ c κs. search needs) (λ c. search needs) returns)

@@ -19,7 +19,8 @@ loop-holds : tie.Need-loop-holds Inv-loop μ-loop
 loop-holds c =
     let s = c .before .before .before .before .before .before .before in
     let a = s .args in
-    filling-first _ _ _ _ _ (λ p. whole-steps (a .lines .now) (a .bounds .now) (a .kinds .now) (a .slots .now) _) (s .pre)
+    filling-first _ _ _ _ _ (λ p. whole-steps (a .lines .now) (a .bounds .now) (a .kinds .now) (a .slots .now) _)
+    (s .pre)
 
 put-steps-requires : tie.Need-put-steps-requires Inv-loop μ-loop
 put-steps-requires c κs = (search needs, c .before .before .before .before .loop .inv .within)
@@ -37,7 +38,8 @@ same-length c = c .before .loop .inv .long
 returns : tie.Need-returns Inv-loop μ-loop
 returns c =
     let a = c .before .before .before .before .before .before .before .before .before .args in
-    fill-as (ordered-gather (a .rows .now) (a .lines .now) (a .bounds .now) (a .kinds .now) (a .slots .now) (a .order .now))
+    fill-as
+    (ordered-gather (a .rows .now) (a .lines .now) (a .bounds .now) (a .kinds .now) (a .slots .now) (a .order .now))
     (filling-whole (c .before .loop .inv) (c .loop-test .left))
 
 pub put-ordered-spec : {M : Type 1} → statement M

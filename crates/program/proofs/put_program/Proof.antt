@@ -19,7 +19,8 @@ put-all-settings-requires-2 c κs = fill-within (c .before .before .before .put-
 put-ordered-requires : tie.Need-put-ordered-requires
 put-ordered-requires c κs =
     let q = c .before .before .before in
-    fill-within (q .put-all-settings2 .ensures) (fill-within (q .before .before .before .before .put-all-settings .ensures) (omega arith))
+    fill-within (q .put-all-settings2 .ensures)
+    (fill-within (q .before .before .before .before .put-all-settings .ensures) (omega arith))
 
 returns : tie.Need-returns
 unfolding writtenProgram
@@ -28,9 +29,12 @@ returns c =
     let q = t .before .before .before .before in
     let p = q .before .before .before .before in
     let a = p .before .before .before .before .before .before .before .before .before .before .args in
-    let constants = whole-all-settings 1 (a .places .now) (a .lines .now) (a .bounds .now) (a .kinds .now) (a .slots .now) in
-    let initials = whole-all-settings 2 (a .places .now) (a .lines .now) (a .bounds .now) (a .kinds .now) (a .slots .now) in
-    let all = fill-both (p .put-all-settings .ensures) constants (fill-both (q .put-all-settings2 .ensures) initials (t .put-ordered .ensures)) in
+    let constants =
+    whole-all-settings 1 (a .places .now) (a .lines .now) (a .bounds .now) (a .kinds .now) (a .slots .now) in
+    let initials =
+    whole-all-settings 2 (a .places .now) (a .lines .now) (a .bounds .now) (a .kinds .now) (a .slots .now) in
+    let all = fill-both (p .put-all-settings .ensures) constants
+    (fill-both (q .put-all-settings2 .ensures) initials (t .put-ordered .ensures)) in
     let z = sub-zero (length (a .out .now)) in
     (rw z at (all .behind) ∙ omega arith, rw z at (all .written))
 

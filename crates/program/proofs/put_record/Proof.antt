@@ -18,7 +18,8 @@ returns-2 c =
     let test = p .before .before in
     let s = test .before .before in
     let a = s .args in
-    fill-part (fieldBytes (a .kind) (a .slot) (a .line) (a .bits)) (a .out .now) _ (a .w) _ (length-record (a .kind) (a .slot) (a .line) (a .bits)) refl
+    fill-part (fieldBytes (a .kind) (a .slot) (a .line) (a .bits)) (a .out .now) _ (a .w) _
+    (length-record (a .kind) (a .slot) (a .line) (a .bits)) refl
     (omega (arith, s .pre, test .if1 .left)) (p .put-fields .ensures)
 
 pub put-record-spec : {M : Type 1} → statement M

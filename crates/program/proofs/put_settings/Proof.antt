@@ -33,20 +33,24 @@ loop-holds : tie.Need-loop-holds Inv-loop μ-loop
 loop-holds c =
     let s = Start-of c in
     let a = s .args in
-    filling-first _ _ _ _ _ (whole-setting (a .phase) (a .places .now) (a .kinds .now) (a .slots .now) (c .before .before .short-at2 .result)) (s .pre .1)
+    filling-first _ _ _ _ _
+    (whole-setting (a .phase) (a .places .now) (a .kinds .now) (a .slots .now) (c .before .before .short-at2 .result))
+    (s .pre .1)
 
 -- the statement begins with a setting: it has what its places give, up to the last that can be one
 here : (h : tie.After-setting-end Inv-loop μ-loop) → let a = Start-of h .args in
     let l = h .before .before in
     let i = l .before .before .before .short-at .result in
     settingsOf (a .phase) (a .places .now) (a .lines .now) (a .bounds .now) (a .kinds .now) (a .slots .now) (a .j)
-    ≡ gather (settingAt (a .phase) (a .places .now) (a .kinds .now) (a .slots .now) (l .short-at2 .result)) (h .setting-end .result - i) i
+    ≡ gather (settingAt (a .phase) (a .places .now) (a .kinds .now) (a .slots .now) (l .short-at2 .result))
+    (h .setting-end .result - i) i
 here h =
     let a = Start-of h .args in
     let l = h .before .before in
     let t = l .before in
     settings-some (a .phase) (a .places .now) (a .lines .now) (a .bounds .now) (a .kinds .now) (a .slots .now) (a .j)
-    (t .before .before .short-at .ensures .0) (h .setting-end .result) (l .short-at2 .ensures .0) (h .before .short-at3 .ensures .0)
+    (t .before .before .short-at .ensures .0) (h .setting-end .result) (l .short-at2 .ensures .0)
+    (h .before .short-at3 .ensures .0)
     (h .setting-end .ensures .0) (sym (t .before .byte-at .ensures) ∙ t .if1 .left)
 
 put-setting-requires : tie.Need-put-setting-requires Inv-loop μ-loop

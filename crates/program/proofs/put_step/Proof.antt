@@ -16,18 +16,21 @@ returns-2 : tie.Need-returns-2
 returns-2 c =
     let t = c .before .before .before .before in
     let a = t .before .before .before .args in
-    fill-as (step-clock (a .kind) (a .arg) (a .line) (t .before .if1 .left) (t .if2 .taken)) (c .before .before .put-record2 .ensures)
+    fill-as (step-clock (a .kind) (a .arg) (a .line) (t .before .if1 .left) (t .if2 .taken))
+    (c .before .before .put-record2 .ensures)
 
 returns-3 : tie.Need-returns-3
 returns-3 c =
     let a = c .before .before .before .before .args in
-    fill-none (a .w) (a .out .now) (step-below (a .kind) (a .arg) (a .line) (c .before .before .if1 .left) (c .before .if2 .left) (c .if3 .taken))
+    fill-none (a .w) (a .out .now)
+    (step-below (a .kind) (a .arg) (a .line) (c .before .before .if1 .left) (c .before .if2 .left) (c .if3 .taken))
 
 returns-4 : tie.Need-returns-4
 returns-4 c =
     let t = c .before .before in
     let a = t .before .before .before .args in
-    fill-none (a .w) (a .out .now) (step-above (a .kind) (a .arg) (a .line) (t .before .if1 .left) (t .if2 .left) (c .if4 .taken))
+    fill-none (a .w) (a .out .now)
+    (step-above (a .kind) (a .arg) (a .line) (t .before .if1 .left) (t .if2 .left) (c .if4 .taken))
 
 -- behind all tests the kind is one that is written as it is
 plain : (c : tie.Else4) → let a = c .before .before .before .before .before .args in

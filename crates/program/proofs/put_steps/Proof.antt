@@ -8,7 +8,8 @@ use Rattle.program.proofs.put_steps.Statement.{statement}
 use Rattle.program.proofs.put_steps.Tie as tie
 
 abbrev Inv-loop : tie.InvT-loop
-Inv-loop lines bounds kinds slots j out₀ at line end i₀ w₀ out i w = Filling (stepAt kinds slots line) end i₀ i at w out₀ out
+Inv-loop lines bounds kinds slots j out₀ at line end i₀ w₀ out i w =
+    Filling (stepAt kinds slots line) end i₀ i at w out₀ out
 
 abbrev μ-loop : tie.MeasureT-loop
 μ-loop lines bounds kinds slots j out₀ at line end i₀ w₀ out i w = end - i
@@ -16,7 +17,8 @@ abbrev μ-loop : tie.MeasureT-loop
 loop-holds : tie.Need-loop-holds Inv-loop μ-loop
 loop-holds c =
     let s = c .before .before .before .before .before .before .before .before in
-    filling-first _ _ _ _ _ (whole-step-at (s .args .kinds .now) (s .args .slots .now) (c .before .before .short-at .result)) (s .pre .1)
+    filling-first _ _ _ _ _
+    (whole-step-at (s .args .kinds .now) (s .args .slots .now) (c .before .before .short-at .result)) (s .pre .1)
 
 put-step-requires : tie.Need-put-step-requires Inv-loop μ-loop
 put-step-requires c κs = c .before .before .before .before .loop .inv .within

@@ -1,4 +1,5 @@
--- The members of the cycle meet their contracts. The measure is a rank and five for each token that is left, as the count of the parser's calls.
+-- The members of the cycle meet their contracts. The measure is a rank and five for each token that is left, as the
+-- count of the parser's calls.
 use Prim.Native.Nat.{ℕ, _+_, _-_, _*_, _<_}
 use mathlib.Core.Path.{sym, _∙_}
 use native.Mathlib.Omega.{arith}
@@ -7,12 +8,14 @@ use borrow.Fn.Kinds.{In, Out}
 use borrow.Fn.PlainCycle.{Measures, is, falls, and}
 use lib.ListN.{length}
 use Rattle.grammar.proofs.Meets.{is-passed}
-use Rattle.grammar.proofs.Ways.{terms-chain, factors-chain, GoingTerms, GoingFactors, term-first, expr-first, sign-within}
+use Rattle.grammar.proofs.Ways.{terms-chain, factors-chain, GoingTerms, GoingFactors, term-first, expr-first}
+use Rattle.grammar.proofs.Ways.{sign-within}
 use Rattle.grammar.proofs.Ways.{part-enter, part-stopped, op-room, part-last, part-inside, part-less, part-again}
 use Rattle.grammar.proofs.Openings.{one-inside, one-room, factor-one, group-enter, factor-group}
 use Rattle.grammar.proofs.Openings.{function-inside, function-enter, factor-function, factor-shut, factor-none}
 use Rattle.grammar.proofs.Openings.{opened-inside, opened-deep, opened-enter, opened-on}
-use Rattle.grammar.proofs.Openings.{GoingList, list-first, item-enter, item-stopped, item-shut, item-inside, item-room, item-under}
+use Rattle.grammar.proofs.Openings.{GoingList, list-first, item-enter, item-stopped, item-shut, item-inside}
+use Rattle.grammar.proofs.Openings.{item-room, item-under}
 use Rattle.grammar.proofs.Openings.{item-less, item-again, item-bare, item-last}
 use Rattle.grammar.proofs.expressions.expression.Reads as expression
 use Rattle.grammar.proofs.expressions.expression.Kinds as expression-kinds
@@ -106,7 +109,8 @@ expression-μ-loop kinds args at allowed drafts₀ values₀ place k op₀ i₀ 
 -- what is to be shown at a place of it
 abbrev In-expression : (expression-lts.Claims → In 4 expression-kinds.ps → Out 4 expression-kinds.ps expression-kinds.r
     → expression-lts.InvT-loop → expression-lts.MeasureT-loop → Type 0) → Type 0
-In-expression need = (t : ℕ) → need (expression-calls t) (expression-at t) expression.Post expression-Inv-loop expression-μ-loop
+In-expression need =
+    (t : ℕ) → need (expression-calls t) (expression-at t) expression.Post expression-Inv-loop expression-μ-loop
 
 expression-add-i : In-expression expression-lts.Need-add-i
 expression-add-i t c =
@@ -149,7 +153,8 @@ expression-returns-2 t c =
     let at-if1 = at-put-op .before .before .before in
     let at-term = at-if1 .before .before .before .before .before .before in
     let at-loop = at-term .before .before .before in
-    part-last (at-loop .loop .inv) (is-passed (at-if1 .if1 .left)) (at-term .term .ensures) (at-put-op .put-op .ensures) terms-chain
+    part-last (at-loop .loop .inv) (is-passed (at-if1 .if1 .left)) (at-term .term .ensures)
+    (at-put-op .put-op .ensures) terms-chain
     (at-byte-at .byte-at2 .ensures) (at-op .add-op .ensures) (c .if2 .taken)
 
 expression-add-i-2 : In-expression expression-lts.Need-add-i-2
@@ -161,7 +166,8 @@ expression-add-i-2 t c =
     let at-term = at-if1 .before .before .before .before .before .before in
     let at-loop = at-term .before .before .before in
     let start = at-loop .before .before .before .before .before .before .before .before in
-    let h = part-inside (at-loop .loop .inv) (is-passed (at-if1 .if1 .left)) (at-term .term .ensures) (at-put-op .put-op .ensures) terms-chain
+    let h = part-inside (at-loop .loop .inv) (is-passed (at-if1 .if1 .left)) (at-term .term .ensures)
+    (at-put-op .put-op .ensures) terms-chain
     (at-byte-at .byte-at2 .ensures) (at-op .add-op .ensures) (c .if2 .left) in
     omega (arith, start .good)
 
@@ -173,7 +179,8 @@ expression-loop-less t c =
     let at-if1 = at-put-op .before .before .before in
     let at-term = at-if1 .before .before .before .before .before .before in
     let at-loop = at-term .before .before .before in
-    part-less (at-loop .loop .inv) (is-passed (at-if1 .if1 .left)) (at-term .term .ensures) (at-put-op .put-op .ensures) terms-chain
+    part-less (at-loop .loop .inv) (is-passed (at-if1 .if1 .left)) (at-term .term .ensures)
+    (at-put-op .put-op .ensures) terms-chain
     (at-byte-at .byte-at2 .ensures) (at-op .add-op .ensures) (c .if2 .left)
 
 expression-loop-again : In-expression expression-lts.Need-loop-again
@@ -184,7 +191,8 @@ expression-loop-again t c =
     let at-if1 = at-put-op .before .before .before in
     let at-term = at-if1 .before .before .before .before .before .before in
     let at-loop = at-term .before .before .before in
-    part-again (at-loop .loop .inv) (is-passed (at-if1 .if1 .left)) (at-term .term .ensures) (at-put-op .put-op .ensures) terms-chain
+    part-again (at-loop .loop .inv) (is-passed (at-if1 .if1 .left)) (at-term .term .ensures)
+    (at-put-op .put-op .ensures) terms-chain
     (at-byte-at .byte-at2 .ensures) (at-op .add-op .ensures) (c .if2 .left)
 
 -- ---- factor
@@ -216,7 +224,8 @@ factor-mul-leaf-arg t c =
     let at-face-of = at-face .before .before in
     let at-byte-at = at-face-of .before in
     let start = at-byte-at .before .before .before .before .before in
-    let h = one-inside (start .pre .1) (at-byte-at .byte-at .ensures) (at-face-of .face-of .ensures) (at-face .face .given .1) in
+    let h = one-inside (start .pre .1) (at-byte-at .byte-at .ensures) (at-face-of .face-of .ensures)
+    (at-face .face .given .1) in
     omega (arith, start .good, start .pre .1 .even)
 
 factor-shared-slice-read-leaf-arg : In-factor factor-lts.Need-shared-slice-read-leaf-arg
@@ -225,7 +234,8 @@ factor-shared-slice-read-leaf-arg t c =
     let at-face-of = at-face .before .before in
     let at-byte-at = at-face-of .before in
     let start = at-byte-at .before .before .before .before .before in
-    let h = one-inside (start .pre .1) (at-byte-at .byte-at .ensures) (at-face-of .face-of .ensures) (at-face .face .given .1) in
+    let h = one-inside (start .pre .1) (at-byte-at .byte-at .ensures) (at-face-of .face-of .ensures)
+    (at-face .face .given .1) in
     omega (arith, start .pre .1 .even)
 
 factor-emit-requires : In-factor factor-lts.Need-emit-requires
@@ -242,7 +252,8 @@ factor-add-t20 t c =
     let at-face-of = at-face .before .before in
     let at-byte-at = at-face-of .before in
     let start = at-byte-at .before .before .before .before .before in
-    let h = one-inside (start .pre .1) (at-byte-at .byte-at .ensures) (at-face-of .face-of .ensures) (at-face .face .given .1) in
+    let h = one-inside (start .pre .1) (at-byte-at .byte-at .ensures) (at-face-of .face-of .ensures)
+    (at-face .face .given .1) in
     omega (arith, start .good)
 
 factor-add-t23 : In-factor factor-lts.Need-add-t23
@@ -251,7 +262,8 @@ factor-add-t23 t c =
     let at-face-of = at-face .before .before in
     let at-byte-at = at-face-of .before in
     let start = at-byte-at .before .before .before .before .before in
-    let h = one-room (start .pre .1) (at-byte-at .byte-at .ensures) (at-face-of .face-of .ensures) (at-face .face .given .1) in
+    let h = one-room (start .pre .1) (at-byte-at .byte-at .ensures) (at-face-of .face-of .ensures)
+    (at-face .face .given .1) in
     omega (arith, start .good)
 
 factor-opened-requires : In-factor factor-lts.Need-opened-requires
@@ -260,7 +272,8 @@ factor-opened-requires t c κs =
     let at-face-of = at-enum-told .before .before in
     let at-byte-at = at-face-of .before in
     let start = at-byte-at .before .before .before .before .before in
-    group-enter (start .pre .1) (at-byte-at .byte-at .ensures) (at-face-of .face-of .ensures) (at-enum-told .enum-told .given .1) (start .pre .0)
+    group-enter (start .pre .1) (at-byte-at .byte-at .ensures) (at-face-of .face-of .ensures)
+    (at-enum-told .enum-told .given .1) (start .pre .0)
 
 factor-add-byte-at : In-factor factor-lts.Need-add-byte-at
 factor-add-byte-at t c =
@@ -268,7 +281,8 @@ factor-add-byte-at t c =
     let at-face-of = at-face2 .before .before in
     let at-byte-at = at-face-of .before in
     let start = at-byte-at .before .before .before .before .before in
-    let h = function-inside (start .pre .1) (at-byte-at .byte-at .ensures) (at-face-of .face-of .ensures) (at-face2 .face2 .given .1) in
+    let h = function-inside (start .pre .1) (at-byte-at .byte-at .ensures) (at-face-of .face-of .ensures)
+    (at-face2 .face2 .given .1) in
     omega (arith, start .good)
 
 factor-add-opened : In-factor factor-lts.Need-add-opened
@@ -277,7 +291,8 @@ factor-add-opened t c =
     let at-face-of = at-face2 .before .before in
     let at-byte-at = at-face-of .before in
     let start = at-byte-at .before .before .before .before .before in
-    let h = function-inside (start .pre .1) (at-byte-at .byte-at .ensures) (at-face-of .face-of .ensures) (at-face2 .face2 .given .1) in
+    let h = function-inside (start .pre .1) (at-byte-at .byte-at .ensures) (at-face-of .face-of .ensures)
+    (at-face2 .face2 .given .1) in
     omega (arith, start .good)
 
 factor-opened-requires-2 : In-factor factor-lts.Need-opened-requires-2
@@ -288,7 +303,8 @@ factor-opened-requires-2 t c κs =
     let at-face-of = at-face2 .before .before in
     let at-byte-at = at-face-of .before in
     let start = at-byte-at .before .before .before .before .before in
-    function-enter (start .pre .1) (at-byte-at .byte-at .ensures) (at-face-of .face-of .ensures) (at-face2 .face2 .given .1)
+    function-enter (start .pre .1) (at-byte-at .byte-at .ensures) (at-face-of .face-of .ensures)
+    (at-face2 .face2 .given .1)
     (sym (at-byte-at2 .byte-at2 .ensures) ∙ at-if1 .if1 .taken) (start .pre .0)
 
 factor-add-t37 : In-factor factor-lts.Need-add-t37
@@ -297,7 +313,8 @@ factor-add-t37 t c =
     let at-face-of = at-face2 .before .before in
     let at-byte-at = at-face-of .before in
     let start = at-byte-at .before .before .before .before .before in
-    let h = function-inside (start .pre .1) (at-byte-at .byte-at .ensures) (at-face-of .face-of .ensures) (at-face2 .face2 .given .1) in
+    let h = function-inside (start .pre .1) (at-byte-at .byte-at .ensures) (at-face-of .face-of .ensures)
+    (at-face2 .face2 .given .1) in
     omega (arith, start .good)
 
 factor-returns : In-factor factor-lts.Need-returns
@@ -308,7 +325,8 @@ factor-returns t c =
     let at-face-of = at-face .before .before in
     let at-byte-at = at-face-of .before in
     let start = at-byte-at .before .before .before .before .before in
-    factor-one (start .pre .1) (at-byte-at .byte-at .ensures) (at-face-of .face-of .ensures) (at-face .face .given .1) (at-leaf-arg .leaf-arg .ensures)
+    factor-one (start .pre .1) (at-byte-at .byte-at .ensures) (at-face-of .face-of .ensures) (at-face .face .given .1)
+    (at-leaf-arg .leaf-arg .ensures)
     (at-emit .emit .ensures .0) (at-emit .emit .ensures .1)
 
 factor-returns-2 : In-factor factor-lts.Need-returns-2
@@ -318,7 +336,8 @@ factor-returns-2 t c =
     let at-face-of = at-enum-told .before .before in
     let at-byte-at = at-face-of .before in
     let start = at-byte-at .before .before .before .before .before in
-    factor-group (start .pre .1) (at-byte-at .byte-at .ensures) (at-face-of .face-of .ensures) (at-enum-told .enum-told .given .1) (at-opened .opened .ensures)
+    factor-group (start .pre .1) (at-byte-at .byte-at .ensures) (at-face-of .face-of .ensures)
+    (at-enum-told .enum-told .given .1) (at-opened .opened .ensures)
 
 factor-returns-3 : In-factor factor-lts.Need-returns-3
 factor-returns-3 t c =
@@ -329,7 +348,8 @@ factor-returns-3 t c =
     let at-face-of = at-face2 .before .before in
     let at-byte-at = at-face-of .before in
     let start = at-byte-at .before .before .before .before .before in
-    factor-function (start .pre .1) (at-byte-at .byte-at .ensures) (at-face-of .face-of .ensures) (at-face2 .face2 .given .1)
+    factor-function (start .pre .1) (at-byte-at .byte-at .ensures) (at-face-of .face-of .ensures)
+    (at-face2 .face2 .given .1)
     (sym (at-byte-at2 .byte-at2 .ensures) ∙ at-if1 .if1 .taken) (at-opened2 .opened2 .ensures)
 
 factor-returns-4 : In-factor factor-lts.Need-returns-4
@@ -339,7 +359,8 @@ factor-returns-4 t c =
     let at-face-of = at-face2 .before .before in
     let at-byte-at = at-face-of .before in
     let start = at-byte-at .before .before .before .before .before in
-    factor-shut (start .pre .1) (at-byte-at .byte-at .ensures) (at-face-of .face-of .ensures) (at-face2 .face2 .given .1) λ z. c .if1 .left
+    factor-shut (start .pre .1) (at-byte-at .byte-at .ensures) (at-face-of .face-of .ensures)
+    (at-face2 .face2 .given .1) λ z. c .if1 .left
     (at-byte-at2 .byte-at2 .ensures ∙ z)
 
 factor-returns-5 : In-factor factor-lts.Need-returns-5
@@ -372,7 +393,8 @@ items-Inv-loop kinds args at allowed count kind drafts₀ values₀ place i₀ l
     GoingList kinds args allowed at place drafts₀ values₀ count kind i left w drafts values
 
 abbrev items-μ-loop : items-lts.MeasureT-loop
-items-μ-loop kinds args at allowed count kind drafts₀ values₀ place i₀ left₀ w₀ drafts values i left w = length kinds - i
+items-μ-loop kinds args at allowed count kind drafts₀ values₀ place i₀ left₀ w₀ drafts values i left w =
+    length kinds - i
 
 -- what is to be shown at a place of it
 abbrev In-items : (items-lts.Claims → In 4 items-kinds.ps → Out 4 items-kinds.ps items-kinds.r
@@ -401,7 +423,8 @@ items-returns-2 t c =
     let at-if1 = at-byte-at .before in
     let at-expression = at-if1 .before .before .before .before .before .before in
     let at-loop = at-expression .before .before .before in
-    item-shut (at-loop .loop .inv) (is-passed (at-if1 .if1 .left)) (at-expression .expression .ensures) (at-byte-at .byte-at .ensures)
+    item-shut (at-loop .loop .inv) (is-passed (at-if1 .if1 .left)) (at-expression .expression .ensures)
+    (at-byte-at .byte-at .ensures)
     (at-closer-of .closer-of .ensures) (c .if2 .taken)
 
 items-add-t24 : In-items items-lts.Need-add-t24
@@ -413,7 +436,8 @@ items-add-t24 t c =
     let at-expression = at-if1 .before .before .before .before .before .before in
     let at-loop = at-expression .before .before .before in
     let start = at-loop .before .before .before .before .before in
-    let h = item-inside (at-loop .loop .inv) (is-passed (at-if1 .if1 .left)) (at-expression .expression .ensures) (at-byte-at .byte-at .ensures)
+    let h = item-inside (at-loop .loop .inv) (is-passed (at-if1 .if1 .left)) (at-expression .expression .ensures)
+    (at-byte-at .byte-at .ensures)
     (at-closer-of .closer-of .ensures) (at-if2 .if2 .left) in
     omega (arith, start .good)
 
@@ -425,7 +449,8 @@ items-returns-3 t c =
     let at-if1 = at-byte-at .before in
     let at-expression = at-if1 .before .before .before .before .before .before in
     let at-loop = at-expression .before .before .before in
-    item-bare (at-loop .loop .inv) (is-passed (at-if1 .if1 .left)) (at-expression .expression .ensures) (at-byte-at .byte-at .ensures)
+    item-bare (at-loop .loop .inv) (is-passed (at-if1 .if1 .left)) (at-expression .expression .ensures)
+    (at-byte-at .byte-at .ensures)
     (at-closer-of .closer-of .ensures) (at-if2 .if2 .left) (c .before .if3 .taken) (c .if4 .taken)
 
 items-emit-requires : In-items items-lts.Need-emit-requires
@@ -436,7 +461,8 @@ items-emit-requires t c κs =
     let at-if1 = at-byte-at .before in
     let at-expression = at-if1 .before .before .before .before .before .before in
     let at-loop = at-expression .before .before .before in
-    item-room (at-loop .loop .inv) (is-passed (at-if1 .if1 .left)) (at-expression .expression .ensures) (at-byte-at .byte-at .ensures)
+    item-room (at-loop .loop .inv) (is-passed (at-if1 .if1 .left)) (at-expression .expression .ensures)
+    (at-byte-at .byte-at .ensures)
     (at-closer-of .closer-of .ensures) (at-if2 .if2 .left)
 
 items-add-t30 : In-items items-lts.Need-add-t30
@@ -448,7 +474,8 @@ items-add-t30 t c =
     let at-expression = at-if1 .before .before .before .before .before .before in
     let at-loop = at-expression .before .before .before in
     let start = at-loop .before .before .before .before .before in
-    let h = item-inside (at-loop .loop .inv) (is-passed (at-if1 .if1 .left)) (at-expression .expression .ensures) (at-byte-at .byte-at .ensures)
+    let h = item-inside (at-loop .loop .inv) (is-passed (at-if1 .if1 .left)) (at-expression .expression .ensures)
+    (at-byte-at .byte-at .ensures)
     (at-closer-of .closer-of .ensures) (at-if2 .if2 .left) in
     omega (arith, start .good)
 
@@ -461,7 +488,8 @@ items-add-t31 t c =
     let at-expression = at-if1 .before .before .before .before .before .before in
     let at-loop = at-expression .before .before .before in
     let start = at-loop .before .before .before .before .before in
-    let h = item-under (at-loop .loop .inv) (is-passed (at-if1 .if1 .left)) (at-expression .expression .ensures) (at-byte-at .byte-at .ensures)
+    let h = item-under (at-loop .loop .inv) (is-passed (at-if1 .if1 .left)) (at-expression .expression .ensures)
+    (at-byte-at .byte-at .ensures)
     (at-closer-of .closer-of .ensures) (at-if2 .if2 .left) in
     omega (arith, start .good)
 
@@ -476,8 +504,10 @@ items-returns-4 t c =
     let at-if1 = at-byte-at .before in
     let at-expression = at-if1 .before .before .before .before .before .before in
     let at-loop = at-expression .before .before .before in
-    item-last (at-loop .loop .inv) (is-passed (at-if1 .if1 .left)) (at-expression .expression .ensures) (at-byte-at .byte-at .ensures)
-    (at-closer-of .closer-of .ensures) (at-if2 .if2 .left) (at-if3 .if3 .taken) (at-if4 .if4 .left) (at-emit .emit .ensures .0) (at-emit .emit .ensures .1)
+    item-last (at-loop .loop .inv) (is-passed (at-if1 .if1 .left)) (at-expression .expression .ensures)
+    (at-byte-at .byte-at .ensures)
+    (at-closer-of .closer-of .ensures) (at-if2 .if2 .left) (at-if3 .if3 .taken) (at-if4 .if4 .left)
+    (at-emit .emit .ensures .0) (at-emit .emit .ensures .1)
 
 items-add-i : In-items items-lts.Need-add-i
 items-add-i t c =
@@ -488,7 +518,8 @@ items-add-i t c =
     let at-expression = at-if1 .before .before .before .before .before .before in
     let at-loop = at-expression .before .before .before in
     let start = at-loop .before .before .before .before .before in
-    let h = item-inside (at-loop .loop .inv) (is-passed (at-if1 .if1 .left)) (at-expression .expression .ensures) (at-byte-at .byte-at .ensures)
+    let h = item-inside (at-loop .loop .inv) (is-passed (at-if1 .if1 .left)) (at-expression .expression .ensures)
+    (at-byte-at .byte-at .ensures)
     (at-closer-of .closer-of .ensures) (at-if2 .if2 .left) in
     omega (arith, start .good)
 
@@ -500,7 +531,8 @@ items-loop-less t c =
     let at-if1 = at-byte-at .before in
     let at-expression = at-if1 .before .before .before .before .before .before in
     let at-loop = at-expression .before .before .before in
-    item-less (at-loop .loop .inv) (is-passed (at-if1 .if1 .left)) (at-expression .expression .ensures) (at-byte-at .byte-at .ensures)
+    item-less (at-loop .loop .inv) (is-passed (at-if1 .if1 .left)) (at-expression .expression .ensures)
+    (at-byte-at .byte-at .ensures)
     (at-closer-of .closer-of .ensures) (at-if2 .if2 .left)
 
 items-loop-again : In-items items-lts.Need-loop-again
@@ -511,7 +543,8 @@ items-loop-again t c =
     let at-if1 = at-byte-at .before in
     let at-expression = at-if1 .before .before .before .before .before .before in
     let at-loop = at-expression .before .before .before in
-    item-again (at-loop .loop .inv) (is-passed (at-if1 .if1 .left)) (at-expression .expression .ensures) (at-byte-at .byte-at .ensures)
+    item-again (at-loop .loop .inv) (is-passed (at-if1 .if1 .left)) (at-expression .expression .ensures)
+    (at-byte-at .byte-at .ensures)
     (at-closer-of .closer-of .ensures) (at-if2 .if2 .left) (c .if3 .left)
 
 -- ---- opened
@@ -575,7 +608,8 @@ abbrev term-μ-loop : term-lts.MeasureT-loop
 term-μ-loop kinds args at allowed drafts₀ values₀ place op₀ i₀ w₀ drafts values op i w = length kinds - i
 
 -- what is to be shown at a place of it
-abbrev In-term : (term-lts.Claims → In 4 term-kinds.ps → Out 4 term-kinds.ps term-kinds.r → term-lts.InvT-loop → term-lts.MeasureT-loop → Type 0) → Type 0
+abbrev In-term : (term-lts.Claims → In 4 term-kinds.ps → Out 4 term-kinds.ps term-kinds.r → term-lts.InvT-loop
+    → term-lts.MeasureT-loop → Type 0) → Type 0
 In-term need = (t : ℕ) → need (term-calls t) (term-at t) term.Post term-Inv-loop term-μ-loop
 
 term-loop-holds : In-term term-lts.Need-loop-holds
@@ -608,7 +642,8 @@ term-returns-2 t c =
     let at-if1 = at-put-op .before .before .before in
     let at-factor = at-if1 .before .before .before .before .before .before in
     let at-loop = at-factor .before .before .before in
-    part-last (at-loop .loop .inv) (is-passed (at-if1 .if1 .left)) (at-factor .factor .ensures) (at-put-op .put-op .ensures) factors-chain
+    part-last (at-loop .loop .inv) (is-passed (at-if1 .if1 .left)) (at-factor .factor .ensures)
+    (at-put-op .put-op .ensures) factors-chain
     (at-byte-at .byte-at .ensures) (at-op .mul-op .ensures) (c .if2 .taken)
 
 term-add-i : In-term term-lts.Need-add-i
@@ -620,7 +655,8 @@ term-add-i t c =
     let at-factor = at-if1 .before .before .before .before .before .before in
     let at-loop = at-factor .before .before .before in
     let start = at-loop .before .before .before .before .before in
-    let h = part-inside (at-loop .loop .inv) (is-passed (at-if1 .if1 .left)) (at-factor .factor .ensures) (at-put-op .put-op .ensures) factors-chain
+    let h = part-inside (at-loop .loop .inv) (is-passed (at-if1 .if1 .left)) (at-factor .factor .ensures)
+    (at-put-op .put-op .ensures) factors-chain
     (at-byte-at .byte-at .ensures) (at-op .mul-op .ensures) (c .if2 .left) in
     omega (arith, start .good)
 
@@ -632,7 +668,8 @@ term-loop-less t c =
     let at-if1 = at-put-op .before .before .before in
     let at-factor = at-if1 .before .before .before .before .before .before in
     let at-loop = at-factor .before .before .before in
-    part-less (at-loop .loop .inv) (is-passed (at-if1 .if1 .left)) (at-factor .factor .ensures) (at-put-op .put-op .ensures) factors-chain
+    part-less (at-loop .loop .inv) (is-passed (at-if1 .if1 .left)) (at-factor .factor .ensures)
+    (at-put-op .put-op .ensures) factors-chain
     (at-byte-at .byte-at .ensures) (at-op .mul-op .ensures) (c .if2 .left)
 
 term-loop-again : In-term term-lts.Need-loop-again
@@ -643,28 +680,45 @@ term-loop-again t c =
     let at-if1 = at-put-op .before .before .before in
     let at-factor = at-if1 .before .before .before .before .before .before in
     let at-loop = at-factor .before .before .before in
-    part-again (at-loop .loop .inv) (is-passed (at-if1 .if1 .left)) (at-factor .factor .ensures) (at-put-op .put-op .ensures) factors-chain
+    part-again (at-loop .loop .inv) (is-passed (at-if1 .if1 .left)) (at-factor .factor .ensures)
+    (at-put-op .put-op .ensures) factors-chain
     (at-byte-at .byte-at .ensures) (at-op .mul-op .ensures) (c .if2 .left)
 
 pub +expression+factor+items+opened+term-spec : {M : Type 1} → statement M
 +expression+factor+items+opened+term-spec =
     close μ-expression μ-factor μ-items μ-opened μ-term
-    (λ t. expression-lts.spec (expression-calls t) (expression-at t) expression.Post expression-Inv-loop expression-μ-loop (λ c κs. search needs)
-    (λ c κs. search needs) (λ c κs. search needs) (expression-add-i t) (expression-loop-holds t) (expression-term-requires t) (λ c. search needs)
-    (λ c. search needs) (expression-returns t) (expression-put-op-requires t) (λ c κs. search needs) (λ c κs. search needs) (λ c. search needs)
-    (λ c. search needs) (expression-returns-2 t) (expression-add-i-2 t) (expression-loop-less t) (expression-loop-again t))
-    (λ t. factor-lts.spec (factor-calls t) (factor-at t) factor.Post (λ c κs. search needs) (λ c κs. search needs) (λ c. search needs)
-    (factor-mul-leaf-arg t) (factor-shared-slice-read-leaf-arg t) (λ c κs. search needs) (factor-emit-requires t) (factor-add-t20 t) (factor-add-t23 t)
-    (λ c. search needs) (factor-opened-requires t) (λ c. search needs) (factor-add-byte-at t) (λ c κs. search needs) (factor-add-opened t)
-    (factor-opened-requires-2 t) (factor-add-t37 t) (λ c. search needs) (λ c. search needs) (λ c. search needs) (factor-returns t) (λ c. search needs)
-    (λ c. search needs) (factor-returns-2 t) (λ c. search needs) (λ c. search needs) (factor-returns-3 t) (factor-returns-4 t) (factor-returns-5 t))
-    (λ t. items-lts.spec (items-calls t) (items-at t) items.Post items-Inv-loop items-μ-loop (items-loop-holds t) (items-expression-requires t)
-    (λ c. search needs) (λ c. search needs) (items-returns t) (λ c κs. search needs) (λ c κs. search needs) (λ c. search needs)
-    (λ c. search needs) (items-returns-2 t) (items-add-t24 t) (λ c. search needs) (λ c. search needs) (items-returns-3 t)
-    (items-emit-requires t) (items-add-t30 t) (items-add-t31 t) (λ c. search needs) (λ c. search needs) (items-returns-4 t) (items-add-i t)
+    (λ t. expression-lts.spec (expression-calls t)
+    (expression-at t) expression.Post expression-Inv-loop expression-μ-loop (λ c κs. search needs)
+    (λ c κs. search needs) (λ c κs. search needs) (expression-add-i t) (expression-loop-holds t)
+    (expression-term-requires t) (λ c. search needs)
+    (λ c. search needs) (expression-returns t) (expression-put-op-requires t) (λ c κs. search needs)
+    (λ c κs. search needs) (λ c. search needs)
+    (λ c. search needs) (expression-returns-2 t) (expression-add-i-2 t) (expression-loop-less t)
+    (expression-loop-again t))
+    (λ t. factor-lts.spec (factor-calls t) (factor-at t) factor.Post (λ c κs. search needs) (λ c κs. search needs)
+    (λ c. search needs)
+    (factor-mul-leaf-arg t) (factor-shared-slice-read-leaf-arg t) (λ c κs. search needs) (factor-emit-requires t)
+    (factor-add-t20 t) (factor-add-t23 t)
+    (λ c. search needs) (factor-opened-requires t) (λ c. search needs) (factor-add-byte-at t) (λ c κs. search needs)
+    (factor-add-opened t)
+    (factor-opened-requires-2 t) (factor-add-t37 t) (λ c. search needs) (λ c. search needs) (λ c. search needs)
+    (factor-returns t) (λ c. search needs)
+    (λ c. search needs) (factor-returns-2 t) (λ c. search needs) (λ c. search needs) (factor-returns-3 t)
+    (factor-returns-4 t) (factor-returns-5 t))
+    (λ t. items-lts.spec (items-calls t) (items-at t) items.Post items-Inv-loop items-μ-loop (items-loop-holds t)
+    (items-expression-requires t)
+    (λ c. search needs) (λ c. search needs) (items-returns t) (λ c κs. search needs) (λ c κs. search needs)
+    (λ c. search needs)
+    (λ c. search needs) (items-returns-2 t) (items-add-t24 t) (λ c. search needs) (λ c. search needs)
+    (items-returns-3 t)
+    (items-emit-requires t) (items-add-t30 t) (items-add-t31 t) (λ c. search needs) (λ c. search needs)
+    (items-returns-4 t) (items-add-i t)
     (λ c. search needs) (items-loop-less t) (items-loop-again t))
-    (λ t. opened-lts.spec (opened-calls t) (opened-at t) opened.Post (opened-returns t) (opened-add-items t) (λ c. search needs) (opened-items-requires t)
+    (λ t. opened-lts.spec (opened-calls t) (opened-at t) opened.Post (opened-returns t) (opened-add-items t)
+    (λ c. search needs) (opened-items-requires t)
     (λ c. search needs) (λ c. search needs) (opened-returns-2 t))
-    (λ t. term-lts.spec (term-calls t) (term-at t) term.Post term-Inv-loop term-μ-loop (term-loop-holds t) (term-factor-requires t) (λ c. search needs)
-    (λ c. search needs) (term-returns t) (term-put-op-requires t) (λ c κs. search needs) (λ c κs. search needs) (λ c. search needs)
+    (λ t. term-lts.spec (term-calls t) (term-at t) term.Post term-Inv-loop term-μ-loop (term-loop-holds t)
+    (term-factor-requires t) (λ c. search needs)
+    (λ c. search needs) (term-returns t) (term-put-op-requires t) (λ c κs. search needs) (λ c κs. search needs)
+    (λ c. search needs)
     (λ c. search needs) (term-returns-2 t) (term-add-i t) (term-loop-less t) (term-loop-again t))

@@ -23,7 +23,12 @@ returns-2 c =
     let at-emit = c .before .before .before .before in
     let at-if1 = at-emit .before .before .before in
     let n = at-if1 .if1 .left in
-    record { place = rw (ne-eqb _ 0 n); kinds = rw (ne-eqb _ 0 n) (at-emit .emit .ensures .0); args = rw (ne-eqb _ 0 n) (at-emit .emit .ensures .1) }
+    record {
+      place = rw (ne-eqb _ 0 n);
+      kinds = rw (ne-eqb _ 0 n) (at-emit .emit .ensures .0);
+      args = rw (ne-eqb _ 0 n) (at-emit .emit .ensures .1);
+    }
 
 pub put-op-spec : {M : Type 1} → statement M
-put-op-spec = tie.close (tie.spec returns emit-requires (λ c. search needs) (λ c. search needs) (λ c. search needs) returns-2)
+put-op-spec =
+    tie.close (tie.spec returns emit-requires (λ c. search needs) (λ c. search needs) (λ c. search needs) returns-2)

@@ -39,7 +39,8 @@ returns-7 c = λ a. sym (ap (λ (k : ℕ). faceOf (shapeOf (symbolOf k a))) (c .
 returns-8 : tie.Need-returns-8
 returns-8 c =
     let r = c .match .rest in
-    λ a. no-face (c .before .args .k) a (r .0 .0 .0 .0 .0 .0 .1) (r .0 .0 .0 .0 .0 .1) (r .0 .0 .0 .0 .1) (r .0 .0 .0 .1) (r .0 .0 .1) (r .0 .1) (r .1)
+    λ a. no-face (c .before .args .k) a (r .0 .0 .0 .0 .0 .0 .1) (r .0 .0 .0 .0 .0 .1) (r .0 .0 .0 .0 .1)
+    (r .0 .0 .0 .1) (r .0 .0 .1) (r .0 .1) (r .1)
 
 pub face-of-spec : {M : Type 1} → statement M
 face-of-spec = tie.close (tie.spec returns returns-2 returns-3 returns-4 returns-5 returns-6 returns-7 returns-8)

@@ -7,7 +7,9 @@ use Rattle.grammar.proofs.faces.leaf_arg.Statement.{statement}
 use Rattle.grammar.proofs.faces.leaf_arg.Tie as tie
 
 returns : tie.Need-returns
-returns c = rw (c .before .before .match .keys1) (c .bits-of .ensures ∙ ap (λ (x : Float). toBits binary64 x) (c .before .float-of .ensures))
+returns c =
+    rw (c .before .before .match .keys1)
+    (c .bits-of .ensures ∙ ap (λ (x : Float). toBits binary64 x) (c .before .float-of .ensures))
 
 returns-2 : tie.Need-returns-2
 returns-2 c = rw (c .match .keys2)

@@ -6,7 +6,8 @@ use borrow.Author.Needs.{needs}
 use borrow.Fn.Kinds.{In, Out}
 use borrow.Fn.PlainCycle.{Measures, is, falls, and}
 use lib.ListN.{length}
-use Rattle.grammar.proofs.Statements.{comma-inside, const-none, name-inside, const-shut, equals-inside, const-within, const-missing}
+use Rattle.grammar.proofs.Statements.{comma-inside, const-none, name-inside, const-shut, equals-inside}
+use Rattle.grammar.proofs.Statements.{const-within, const-missing}
 use Rattle.grammar.proofs.Statements.{const-on, const-second, const-last, const-next, const-more}
 use Rattle.grammar.proofs.forms.constants.Reads as constants
 use Rattle.grammar.proofs.forms.constants.Kinds as constants-kinds
@@ -39,7 +40,8 @@ constants-calls t = (
 )
 
 -- what is to be shown at a place of it
-abbrev In-constants : (constants-lts.Claims → In 4 constants-kinds.ps → Out 4 constants-kinds.ps constants-kinds.r → Type 0) → Type 0
+abbrev In-constants : (constants-lts.Claims → In 4 constants-kinds.ps → Out 4 constants-kinds.ps constants-kinds.r
+    → Type 0) → Type 0
 In-constants need = (t : ℕ) → need (constants-calls t) (constants-at t) constants.Post
 
 returns : In-constants constants-lts.Need-returns
@@ -69,7 +71,8 @@ returns-2 t c =
     let at-if1 = at-byte-at2 .before in
     let at-byte-at = at-if1 .before in
     let start = at-byte-at .before .before .before .before .before in
-    const-shut (start .pre .1) (at-byte-at .byte-at .ensures) (at-if1 .if1 .left) (at-byte-at2 .byte-at2 .ensures) (c .if2 .taken)
+    const-shut (start .pre .1) (at-byte-at .byte-at .ensures) (at-if1 .if1 .left) (at-byte-at2 .byte-at2 .ensures)
+    (c .if2 .taken)
 
 add-signed-number : In-constants constants-lts.Need-add-signed-number
 add-signed-number t c =
@@ -77,7 +80,8 @@ add-signed-number t c =
     let at-if1 = at-byte-at2 .before in
     let at-byte-at = at-if1 .before in
     let start = at-byte-at .before .before .before .before .before in
-    let h = equals-inside (start .pre .1) (at-byte-at .byte-at .ensures) (at-if1 .if1 .left) (at-byte-at2 .byte-at2 .ensures) (c .if2 .left) in
+    let h = equals-inside (start .pre .1) (at-byte-at .byte-at .ensures) (at-if1 .if1 .left)
+    (at-byte-at2 .byte-at2 .ensures) (c .if2 .left) in
     omega (arith, start .good)
 
 signed-number-requires : In-constants constants-lts.Need-signed-number-requires
@@ -86,7 +90,8 @@ signed-number-requires t c κs =
     let at-if1 = at-byte-at2 .before in
     let at-byte-at = at-if1 .before in
     let start = at-byte-at .before .before .before .before .before in
-    const-within (start .pre .1) (at-byte-at .byte-at .ensures) (at-if1 .if1 .left) (at-byte-at2 .byte-at2 .ensures) (c .if2 .left)
+    const-within (start .pre .1) (at-byte-at .byte-at .ensures) (at-if1 .if1 .left) (at-byte-at2 .byte-at2 .ensures)
+    (c .if2 .left)
 
 mul-emit : In-constants constants-lts.Need-mul-emit
 mul-emit t c =
@@ -113,7 +118,8 @@ emit-requires t c κs =
     let at-if1 = at-byte-at2 .before in
     let at-byte-at = at-if1 .before in
     let start = at-byte-at .before .before .before .before .before in
-    const-on (start .pre .1) (at-byte-at .byte-at .ensures) (at-if1 .if1 .left) (at-byte-at2 .byte-at2 .ensures) (at-if2 .if2 .left)
+    const-on (start .pre .1) (at-byte-at .byte-at .ensures) (at-if1 .if1 .left) (at-byte-at2 .byte-at2 .ensures)
+    (at-if2 .if2 .left)
     (sym (at-value2 .value2 .given .1) ∙ at-signed-number .signed-number .ensures) .first
 
 add-emit : In-constants constants-lts.Need-add-emit
@@ -125,7 +131,8 @@ add-emit t c =
     let at-if1 = at-byte-at2 .before in
     let at-byte-at = at-if1 .before in
     let start = at-byte-at .before .before .before .before .before in
-    let h = const-on (start .pre .1) (at-byte-at .byte-at .ensures) (at-if1 .if1 .left) (at-byte-at2 .byte-at2 .ensures) (at-if2 .if2 .left)
+    let h = const-on (start .pre .1) (at-byte-at .byte-at .ensures) (at-if1 .if1 .left) (at-byte-at2 .byte-at2 .ensures)
+    (at-if2 .if2 .left)
     (sym (at-value2 .value2 .given .1) ∙ at-signed-number .signed-number .ensures) .under in
     omega (arith, start .good)
 
@@ -139,12 +146,15 @@ emit-requires-2 t c κs =
     let at-if1 = at-byte-at2 .before in
     let at-byte-at = at-if1 .before in
     let start = at-byte-at .before .before .before .before .before in
-    const-second (start .pre .1) (at-byte-at .byte-at .ensures) (at-if1 .if1 .left) (at-byte-at2 .byte-at2 .ensures) (at-if2 .if2 .left)
-    (sym (at-value2 .value2 .given .1) ∙ at-signed-number .signed-number .ensures) (at-emit .emit .ensures .0) (at-emit .emit .ensures .1)
+    const-second (start .pre .1) (at-byte-at .byte-at .ensures) (at-if1 .if1 .left) (at-byte-at2 .byte-at2 .ensures)
+    (at-if2 .if2 .left)
+    (sym (at-value2 .value2 .given .1) ∙ at-signed-number .signed-number .ensures) (at-emit .emit .ensures .0)
+    (at-emit .emit .ensures .1)
 
 add-t31 : In-constants constants-lts.Need-add-t31
 add-t31 t c =
-    let at-value2-1 = c .before .before .before .before .before .before .before .before .before .before .before .before .before .before in
+    let at-value2-1 =
+    c .before .before .before .before .before .before .before .before .before .before .before .before .before .before in
     let at-value2 = at-value2-1 .before .before .before .before in
     let at-signed-number = at-value2 .before .before in
     let at-if2 = at-signed-number .before in
@@ -152,7 +162,8 @@ add-t31 t c =
     let at-if1 = at-byte-at2 .before in
     let at-byte-at = at-if1 .before in
     let start = at-byte-at .before .before .before .before .before in
-    let h = const-on (start .pre .1) (at-byte-at .byte-at .ensures) (at-if1 .if1 .left) (at-byte-at2 .byte-at2 .ensures) (at-if2 .if2 .left)
+    let h = const-on (start .pre .1) (at-byte-at .byte-at .ensures) (at-if1 .if1 .left) (at-byte-at2 .byte-at2 .ensures)
+    (at-if2 .if2 .left)
     (sym (at-value2 .value2 .given .1) ∙ at-signed-number .signed-number .ensures) .under in
     omega (arith, start .good)
 
@@ -168,21 +179,26 @@ returns-3 t c =
     let at-if1 = at-byte-at2 .before in
     let at-byte-at = at-if1 .before in
     let start = at-byte-at .before .before .before .before .before in
-    const-last (start .pre .1) (at-byte-at .byte-at .ensures) (at-if1 .if1 .left) (at-byte-at2 .byte-at2 .ensures) (at-if2 .if2 .left)
-    (sym (at-value2 .value2 .given .1) ∙ at-signed-number .signed-number .ensures) (at-byte-at3 .byte-at3 .ensures) (at-emit .emit .ensures .0)
+    const-last (start .pre .1) (at-byte-at .byte-at .ensures) (at-if1 .if1 .left) (at-byte-at2 .byte-at2 .ensures)
+    (at-if2 .if2 .left)
+    (sym (at-value2 .value2 .given .1) ∙ at-signed-number .signed-number .ensures) (at-byte-at3 .byte-at3 .ensures)
+    (at-emit .emit .ensures .0)
     (at-emit .emit .ensures .1) (at-emit2 .emit2 .ensures .0) (at-emit2 .emit2 .ensures .1) (c .if3 .taken)
 
 add-constants : In-constants constants-lts.Need-add-constants
 add-constants t c =
     let at-byte-at3 = c .before in
-    let start-1 = at-byte-at3 .before .before .before .before .before .before .before .before .before .before .before .before .before .before in
-    let start = start-1 .before .before .before .before .before .before .before .before .before .before .before .before .before .before in
+    let start-1-near = at-byte-at3 .before .before .before .before .before .before .before in
+    let start-1 = start-1-near .before .before .before .before .before .before .before in
+    let start-near = start-1 .before .before .before .before .before .before .before in
+    let start = start-near .before .before .before .before .before .before .before in
     let h = comma-inside (start .args .kinds .now) _ (at-byte-at3 .byte-at3 .ensures) (c .if3 .left) in
     omega (arith, start .good)
 
 add-constants-2 : In-constants constants-lts.Need-add-constants-2
 add-constants-2 t c =
-    let at-value2-1 = c .before .before .before .before .before .before .before .before .before .before .before .before .before .before in
+    let at-value2-1 =
+    c .before .before .before .before .before .before .before .before .before .before .before .before .before .before in
     let at-value2 = at-value2-1 .before .before .before .before .before .before in
     let at-signed-number = at-value2 .before .before in
     let at-if2 = at-signed-number .before in
@@ -190,7 +206,8 @@ add-constants-2 t c =
     let at-if1 = at-byte-at2 .before in
     let at-byte-at = at-if1 .before in
     let start = at-byte-at .before .before .before .before .before in
-    let h = const-on (start .pre .1) (at-byte-at .byte-at .ensures) (at-if1 .if1 .left) (at-byte-at2 .byte-at2 .ensures) (at-if2 .if2 .left)
+    let h = const-on (start .pre .1) (at-byte-at .byte-at .ensures) (at-if1 .if1 .left) (at-byte-at2 .byte-at2 .ensures)
+    (at-if2 .if2 .left)
     (sym (at-value2 .value2 .given .1) ∙ at-signed-number .signed-number .ensures) .under in
     omega (arith, start .good)
 
@@ -207,9 +224,12 @@ constants-requires t c κs =
     let at-if1 = at-byte-at2 .before in
     let at-byte-at = at-if1 .before in
     let start = at-byte-at .before .before .before .before .before in
-    const-next (start .pre .1) (at-byte-at .byte-at .ensures) (at-if1 .if1 .left) (at-byte-at2 .byte-at2 .ensures) (at-if2 .if2 .left)
-    (sym (at-value2 .value2 .given .1) ∙ at-signed-number .signed-number .ensures) (at-byte-at3 .byte-at3 .ensures) (at-emit .emit .ensures .0)
-    (at-emit .emit .ensures .1) (at-emit2 .emit2 .ensures .0) (at-emit2 .emit2 .ensures .1) (start .pre .0) (at-if3 .if3 .left)
+    const-next (start .pre .1) (at-byte-at .byte-at .ensures) (at-if1 .if1 .left) (at-byte-at2 .byte-at2 .ensures)
+    (at-if2 .if2 .left)
+    (sym (at-value2 .value2 .given .1) ∙ at-signed-number .signed-number .ensures) (at-byte-at3 .byte-at3 .ensures)
+    (at-emit .emit .ensures .0)
+    (at-emit .emit .ensures .1) (at-emit2 .emit2 .ensures .0) (at-emit2 .emit2 .ensures .1) (start .pre .0)
+    (at-if3 .if3 .left)
 
 returns-4 : In-constants constants-lts.Need-returns-4
 returns-4 t c =
@@ -220,7 +240,8 @@ returns-4 t c =
     let at-if1 = at-byte-at2 .before in
     let at-byte-at = at-if1 .before in
     let start = at-byte-at .before .before .before .before .before in
-    const-missing (start .pre .1) (at-byte-at .byte-at .ensures) (at-if1 .if1 .left) (at-byte-at2 .byte-at2 .ensures) (at-if2 .if2 .left)
+    const-missing (start .pre .1) (at-byte-at .byte-at .ensures) (at-if1 .if1 .left) (at-byte-at2 .byte-at2 .ensures)
+    (at-if2 .if2 .left)
     (sym (at-value .value .given .1) ∙ at-signed-number .signed-number .ensures)
 
 returns-5 : In-constants constants-lts.Need-returns-5
@@ -237,15 +258,22 @@ returns-5 t c =
     let at-if1 = at-byte-at2 .before in
     let at-byte-at = at-if1 .before in
     let start = at-byte-at .before .before .before .before .before in
-    const-more (start .pre .1) (at-byte-at .byte-at .ensures) (at-if1 .if1 .left) (at-byte-at2 .byte-at2 .ensures) (at-if2 .if2 .left)
-    (sym (at-value2 .value2 .given .1) ∙ at-signed-number .signed-number .ensures) (at-byte-at3 .byte-at3 .ensures) (at-emit .emit .ensures .0)
-    (at-emit .emit .ensures .1) (at-emit2 .emit2 .ensures .0) (at-emit2 .emit2 .ensures .1) (at-if3 .if3 .left) (at-constants .constants .ensures)
+    const-more (start .pre .1) (at-byte-at .byte-at .ensures) (at-if1 .if1 .left) (at-byte-at2 .byte-at2 .ensures)
+    (at-if2 .if2 .left)
+    (sym (at-value2 .value2 .given .1) ∙ at-signed-number .signed-number .ensures) (at-byte-at3 .byte-at3 .ensures)
+    (at-emit .emit .ensures .0)
+    (at-emit .emit .ensures .1) (at-emit2 .emit2 .ensures .0) (at-emit2 .emit2 .ensures .1) (at-if3 .if3 .left)
+    (at-constants .constants .ensures)
 
 pub +constants-spec : {M : Type 1} → statement M
 +constants-spec =
     close μ-constants
-    λ t. constants-lts.spec (constants-calls t) (constants-at t) constants.Post (λ c κs. search needs) (returns t) (add-byte-at t)
-    (λ c κs. search needs) (add-t15 t) (returns-2 t) (add-signed-number t) (signed-number-requires t) (λ c. search needs) (λ c. search needs)
-    (mul-emit t) (shared-slice-read-emit t) (emit-requires t) (add-emit t) (emit-requires-2 t) (λ c κs. search needs) (add-t31 t)
-    (λ c. search needs) (λ c. search needs) (returns-3 t) (add-constants t) (add-constants-2 t) (constants-requires t) (returns-4 t)
+    λ t. constants-lts.spec (constants-calls t) (constants-at t) constants.Post (λ c κs. search needs) (returns t)
+    (add-byte-at t)
+    (λ c κs. search needs) (add-t15 t) (returns-2 t) (add-signed-number t) (signed-number-requires t)
+    (λ c. search needs) (λ c. search needs)
+    (mul-emit t) (shared-slice-read-emit t) (emit-requires t) (add-emit t) (emit-requires-2 t) (λ c κs. search needs)
+    (add-t31 t)
+    (λ c. search needs) (λ c. search needs) (returns-3 t) (add-constants t) (add-constants-2 t) (constants-requires t)
+    (returns-4 t)
     (λ c. search needs) (λ c. search needs) (returns-5 t)

@@ -12,7 +12,8 @@ returns c =
     let at-if1 = at-byte-at2 .before in
     let at-byte-at = at-if1 .before in
     let start = at-byte-at .before .before .before .before .before in
-    begins-shut (start .pre) (at-byte-at .byte-at .ensures) (at-if1 .if1 .taken) (at-byte-at2 .byte-at2 .ensures) (c .if2 .taken)
+    begins-shut (start .pre) (at-byte-at .byte-at .ensures) (at-if1 .if1 .taken) (at-byte-at2 .byte-at2 .ensures)
+    (c .if2 .taken)
 
 shared-slice-read-state : tie.Need-shared-slice-read-state
 shared-slice-read-state c =
@@ -31,7 +32,8 @@ state-requires c κs =
     let at-if1 = at-byte-at2 .before in
     let at-byte-at = at-if1 .before in
     let start = at-byte-at .before .before .before .before .before in
-    state-enter (start .pre) (at-byte-at .byte-at .ensures) (at-if1 .if1 .taken) (at-byte-at2 .byte-at2 .ensures) (at-if2 .if2 .left) (at-byte-at3 .byte-at3 .ensures)
+    state-enter (start .pre) (at-byte-at .byte-at .ensures) (at-if1 .if1 .taken) (at-byte-at2 .byte-at2 .ensures)
+    (at-if2 .if2 .left) (at-byte-at3 .byte-at3 .ensures)
     (at-if3 .if3 .taken)
 
 returns-2 : tie.Need-returns-2
@@ -44,7 +46,8 @@ returns-2 c =
     let at-if1 = at-byte-at2 .before in
     let at-byte-at = at-if1 .before in
     let start = at-byte-at .before .before .before .before .before in
-    begins-state (start .pre) (at-byte-at .byte-at .ensures) (at-if1 .if1 .taken) (at-byte-at2 .byte-at2 .ensures) (at-if2 .if2 .left) (at-byte-at3 .byte-at3 .ensures)
+    begins-state (start .pre) (at-byte-at .byte-at .ensures) (at-if1 .if1 .taken) (at-byte-at2 .byte-at2 .ensures)
+    (at-if2 .if2 .left) (at-byte-at3 .byte-at3 .ensures)
     (at-if3 .if3 .taken) (at-state .state .ensures)
 
 shared-slice-read-assignment : tie.Need-shared-slice-read-assignment
@@ -63,7 +66,8 @@ assignment-requires c κs =
     let at-if1 = at-byte-at2 .before in
     let at-byte-at = at-if1 .before in
     let start = at-byte-at .before .before .before .before .before in
-    assign-enter (start .pre) (at-byte-at .byte-at .ensures) (at-if1 .if1 .taken) (at-byte-at2 .byte-at2 .ensures) (at-if2 .if2 .left) (at-byte-at3 .byte-at3 .ensures)
+    assign-enter (start .pre) (at-byte-at .byte-at .ensures) (at-if1 .if1 .taken) (at-byte-at2 .byte-at2 .ensures)
+    (at-if2 .if2 .left) (at-byte-at3 .byte-at3 .ensures)
 
 returns-3 : tie.Need-returns-3
 returns-3 c =
@@ -75,7 +79,8 @@ returns-3 c =
     let at-if1 = at-byte-at2 .before in
     let at-byte-at = at-if1 .before in
     let start = at-byte-at .before .before .before .before .before in
-    begins-assignment (start .pre) (at-byte-at .byte-at .ensures) (at-if1 .if1 .taken) (at-byte-at2 .byte-at2 .ensures) (at-if2 .if2 .left) (at-byte-at3 .byte-at3 .ensures)
+    begins-assignment (start .pre) (at-byte-at .byte-at .ensures) (at-if1 .if1 .taken) (at-byte-at2 .byte-at2 .ensures)
+    (at-if2 .if2 .left) (at-byte-at3 .byte-at3 .ensures)
     (at-if3 .if3 .left) (at-assignment .assignment .ensures)
 
 returns-4 : tie.Need-returns-4
@@ -106,11 +111,14 @@ returns-6 c =
     let at-if4 = at-if5 .before in
     let at-byte-at = at-if4 .before .before in
     let start = at-byte-at .before .before .before .before .before in
-    begins-words (start .pre) (at-byte-at .byte-at .ensures) (at-if4 .if4 .left) (at-if5 .if5 .left) (at-constants .constants .ensures)
+    begins-words (start .pre) (at-byte-at .byte-at .ensures) (at-if4 .if4 .left) (at-if5 .if5 .left)
+    (at-constants .constants .ensures)
 
 pub any-statement-spec : {M : Type 1} → statement M
 any-statement-spec =
     tie.close
-    (tie.spec (λ c κs. search needs) (λ c κs. search needs) returns (λ c κs. search needs) shared-slice-read-state state-requires
-    (λ c. search needs) (λ c. search needs) returns-2 shared-slice-read-assignment assignment-requires (λ c. search needs) (λ c. search needs)
+    (tie.spec (λ c κs. search needs) (λ c κs. search needs) returns
+    (λ c κs. search needs) shared-slice-read-state state-requires
+    (λ c. search needs) (λ c. search needs) returns-2 shared-slice-read-assignment assignment-requires
+    (λ c. search needs) (λ c. search needs)
     returns-3 returns-4 returns-5 constants-requires (λ c. search needs) (λ c. search needs) returns-6)

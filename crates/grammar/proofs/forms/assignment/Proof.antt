@@ -29,7 +29,8 @@ add-t21 c =
     let at-if1 = c .before .before .before .before .before .before .before in
     let at-expression = at-if1 .before .before .before .before .before .before in
     let start = at-expression .before .before .before .before .before .before .before in
-    let h = assign-under (start .args .key) (start .pre) (at-expression .expression .ensures) (is-passed (at-if1 .if1 .left)) in
+    let h = assign-under (start .args .key) (start .pre) (at-expression .expression .ensures)
+    (is-passed (at-if1 .if1 .left)) in
     omega (arith, start .good)
 
 returns-2 : tie.Need-returns-2
@@ -38,11 +39,13 @@ returns-2 c =
     let at-if1 = at-emit .before .before .before in
     let at-expression = at-if1 .before .before .before .before .before .before in
     let start = at-expression .before .before .before .before .before .before .before in
-    assign-passed (start .args .key) (start .pre) (at-expression .expression .ensures) (is-passed (at-if1 .if1 .left)) (at-emit .emit .ensures .0)
+    assign-passed (start .args .key) (start .pre) (at-expression .expression .ensures) (is-passed (at-if1 .if1 .left))
+    (at-emit .emit .ensures .0)
     (at-emit .emit .ensures .1)
 
 pub assignment-spec : {M : Type 1} → statement M
 assignment-spec =
     tie.close
-    (tie.spec expression-requires (λ c. search needs) (λ c. search needs) returns emit-requires add-t21 (λ c. search needs) (λ c. search needs)
+    (tie.spec expression-requires (λ c. search needs) (λ c. search needs) returns emit-requires add-t21
+    (λ c. search needs) (λ c. search needs)
     returns-2)

@@ -30,4 +30,5 @@ returns-2 c =
 pub initial-spec : {M : Type 1} → statement M
 initial-spec =
     tie.close
-    (tie.spec (λ c κs. search needs) (λ c. search needs) shared-slice-read-t8 (λ c. search needs) returns (λ c κs. search needs) returns-2)
+    (tie.spec (λ c κs. search needs) (λ c. search needs) shared-slice-read-t8 (λ c. search needs) returns
+    (λ c κs. search needs) returns-2)

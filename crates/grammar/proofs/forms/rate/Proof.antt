@@ -18,7 +18,8 @@ returns-2 c =
     let at-if1 = at-byte-at .before in
     let at-expression = at-if1 .before .before .before .before .before .before in
     let start = at-expression .before .before .before .before .before .before .before in
-    rate-shut (start .args .key) (start .pre) (at-expression .expression .ensures) (is-passed (at-if1 .if1 .left)) (at-byte-at .byte-at .ensures) (c .if2 .taken)
+    rate-shut (start .args .key) (start .pre) (at-expression .expression .ensures) (is-passed (at-if1 .if1 .left))
+    (at-byte-at .byte-at .ensures) (c .if2 .taken)
 
 emit-requires : tie.Need-emit-requires
 emit-requires c κs =
@@ -27,7 +28,8 @@ emit-requires c κs =
     let at-if1 = at-byte-at .before in
     let at-expression = at-if1 .before .before .before .before .before .before in
     let start = at-expression .before .before .before .before .before .before .before in
-    rate-room (start .args .key) (start .pre) (at-expression .expression .ensures) (is-passed (at-if1 .if1 .left)) (at-byte-at .byte-at .ensures) (at-if2 .if2 .left)
+    rate-room (start .args .key) (start .pre) (at-expression .expression .ensures) (is-passed (at-if1 .if1 .left))
+    (at-byte-at .byte-at .ensures) (at-if2 .if2 .left)
 
 add-t22 : tie.Need-add-t22
 add-t22 c =
@@ -36,7 +38,8 @@ add-t22 c =
     let at-if1 = at-byte-at .before in
     let at-expression = at-if1 .before .before .before .before .before .before in
     let start = at-expression .before .before .before .before .before .before .before in
-    let h = rate-inside (start .args .key) (start .pre) (at-expression .expression .ensures) (is-passed (at-if1 .if1 .left)) (at-byte-at .byte-at .ensures)
+    let h = rate-inside (start .args .key) (start .pre) (at-expression .expression .ensures)
+    (is-passed (at-if1 .if1 .left)) (at-byte-at .byte-at .ensures)
     (at-if2 .if2 .left) in
     omega (arith, start .good)
 
@@ -47,7 +50,8 @@ add-t23 c =
     let at-if1 = at-byte-at .before in
     let at-expression = at-if1 .before .before .before .before .before .before in
     let start = at-expression .before .before .before .before .before .before .before in
-    let h = rate-under (start .args .key) (start .pre) (at-expression .expression .ensures) (is-passed (at-if1 .if1 .left)) (at-byte-at .byte-at .ensures)
+    let h = rate-under (start .args .key) (start .pre) (at-expression .expression .ensures)
+    (is-passed (at-if1 .if1 .left)) (at-byte-at .byte-at .ensures)
     (at-if2 .if2 .left) in
     omega (arith, start .good)
 
@@ -59,11 +63,13 @@ returns-3 c =
     let at-if1 = at-byte-at .before in
     let at-expression = at-if1 .before .before .before .before .before .before in
     let start = at-expression .before .before .before .before .before .before .before in
-    rate-passed (start .args .key) (start .pre) (at-expression .expression .ensures) (is-passed (at-if1 .if1 .left)) (at-byte-at .byte-at .ensures)
+    rate-passed (start .args .key) (start .pre) (at-expression .expression .ensures) (is-passed (at-if1 .if1 .left))
+    (at-byte-at .byte-at .ensures)
     (at-if2 .if2 .left) (at-emit .emit .ensures .0) (at-emit .emit .ensures .1)
 
 pub rate-spec : {M : Type 1} → statement M
 rate-spec =
     tie.close
-    (tie.spec (λ c κs. search needs) (λ c. search needs) (λ c. search needs) returns (λ c κs. search needs) (λ c. search needs)
+    (tie.spec (λ c κs. search needs) (λ c. search needs) (λ c. search needs) returns (λ c κs. search needs)
+    (λ c. search needs)
     (λ c. search needs) returns-2 emit-requires add-t22 add-t23 (λ c. search needs) (λ c. search needs) returns-3)

@@ -38,7 +38,8 @@ emit-requires-2 c κs =
     let at-byte-at = at-if1 .before in
     let start = at-byte-at .before .before .before .before .before in
     state-second (start .args .key) (start .pre) (at-byte-at .byte-at .ensures) (at-if1 .if1 .left)
-    (sym (at-value2 .value2 .given .1) ∙ at-initial .initial .ensures) (at-emit .emit .ensures .0) (at-emit .emit .ensures .1)
+    (sym (at-value2 .value2 .given .1) ∙ at-initial .initial .ensures) (at-emit .emit .ensures .0)
+    (at-emit .emit .ensures .1)
 
 returns-2 : tie.Need-returns-2
 returns-2 c =
@@ -51,20 +52,23 @@ returns-2 c =
     let at-byte-at = at-if1 .before in
     let start = at-byte-at .before .before .before .before .before in
     state-alone (start .args .key) (start .pre) (at-byte-at .byte-at .ensures) (at-if1 .if1 .left)
-    (sym (at-value2 .value2 .given .1) ∙ at-initial .initial .ensures) (at-byte-at2 .byte-at2 .ensures) (at-emit .emit .ensures .0) (at-emit .emit .ensures .1)
+    (sym (at-value2 .value2 .given .1) ∙ at-initial .initial .ensures) (at-byte-at2 .byte-at2 .ensures)
+    (at-emit .emit .ensures .0) (at-emit .emit .ensures .1)
     (at-emit2 .emit2 .ensures .0) (at-emit2 .emit2 .ensures .1) (c .if2 .taken)
 
 add-rate : tie.Need-add-rate
 add-rate c =
     let at-byte-at2 = c .before in
-    let start-1 = at-byte-at2 .before .before .before .before .before .before .before .before .before .before .before .before .before .before in
+    let start-1-near = at-byte-at2 .before .before .before .before .before .before .before in
+    let start-1 = start-1-near .before .before .before .before .before .before .before in
     let start = start-1 .before .before .before .before .before .before .before .before .before .before .before in
     let h = comma-inside (start .args .kinds .now) _ (at-byte-at2 .byte-at2 .ensures) (c .if2 .left) in
     omega (arith, start .good)
 
 add-rate-2 : tie.Need-add-rate-2
 add-rate-2 c =
-    let at-value2-1 = c .before .before .before .before .before .before .before .before .before .before .before .before .before .before in
+    let at-value2-1 =
+    c .before .before .before .before .before .before .before .before .before .before .before .before .before .before in
     let at-value2 = at-value2-1 .before .before .before .before .before in
     let at-initial = at-value2 .before .before in
     let at-if1 = at-initial .before in
@@ -86,7 +90,8 @@ rate-requires c κs =
     let at-byte-at = at-if1 .before in
     let start = at-byte-at .before .before .before .before .before in
     state-next (start .args .key) (start .pre) (at-byte-at .byte-at .ensures) (at-if1 .if1 .left)
-    (sym (at-value2 .value2 .given .1) ∙ at-initial .initial .ensures) (at-byte-at2 .byte-at2 .ensures) (at-emit .emit .ensures .0) (at-emit .emit .ensures .1)
+    (sym (at-value2 .value2 .given .1) ∙ at-initial .initial .ensures) (at-byte-at2 .byte-at2 .ensures)
+    (at-emit .emit .ensures .0) (at-emit .emit .ensures .1)
     (at-emit2 .emit2 .ensures .0) (at-emit2 .emit2 .ensures .1) (at-if2 .if2 .left)
 
 returns-3 : tie.Need-returns-3
@@ -112,12 +117,15 @@ returns-4 c =
     let at-byte-at = at-if1 .before in
     let start = at-byte-at .before .before .before .before .before in
     state-rated (start .args .key) (start .pre) (at-byte-at .byte-at .ensures) (at-if1 .if1 .left)
-    (sym (at-value2 .value2 .given .1) ∙ at-initial .initial .ensures) (at-byte-at2 .byte-at2 .ensures) (at-emit .emit .ensures .0) (at-emit .emit .ensures .1)
+    (sym (at-value2 .value2 .given .1) ∙ at-initial .initial .ensures) (at-byte-at2 .byte-at2 .ensures)
+    (at-emit .emit .ensures .0) (at-emit .emit .ensures .1)
     (at-emit2 .emit2 .ensures .0) (at-emit2 .emit2 .ensures .1) (at-if2 .if2 .left) (at-rate .rate .ensures)
 
 pub state-spec : {M : Type 1} → statement M
 state-spec =
     tie.close
-    (tie.spec (λ c κs. search needs) returns (λ c. search needs) initial-requires (λ c. search needs) (λ c. search needs) emit-requires
-    (λ c. search needs) emit-requires-2 (λ c κs. search needs) (λ c. search needs) (λ c. search needs) returns-2 add-rate add-rate-2
+    (tie.spec (λ c κs. search needs) returns (λ c. search needs) initial-requires (λ c. search needs)
+    (λ c. search needs) emit-requires
+    (λ c. search needs) emit-requires-2 (λ c κs. search needs) (λ c. search needs)
+    (λ c. search needs) returns-2 add-rate add-rate-2
     rate-requires returns-3 (λ c. search needs) (λ c. search needs) returns-4)

@@ -21,14 +21,16 @@ returns : tie.Need-returns Inv-loop μ-loop
 returns c =
     let s = c .before .before .before .before .before .before .before .before in
     let at = c .before .before .before .before .loop in
-    sym (repeat-stop (s .args .keys .now) (at .d) (s .args .end) (c .before .before .before .loop-test .taken) (s .pre .1)
+    sym
+    (repeat-stop (s .args .keys .now) (at .d) (s .args .end) (c .before .before .before .loop-test .taken) (s .pre .1)
     (omega (arith, c .if1 .taken, c .before .find .ensures))) ∙ at .inv
 
 loop-again : tie.Need-loop-again Inv-loop μ-loop
 loop-again c =
     let s = c .before .before .before .before .before .before .before .before in
     let at = c .before .before .before .before .loop in
-    sym (repeat-pass (s .args .keys .now) (at .d) (s .args .end) (c .before .before .before .loop-test .taken) (s .pre .1)
+    sym
+    (repeat-pass (s .args .keys .now) (at .d) (s .args .end) (c .before .before .before .loop-test .taken) (s .pre .1)
     (omega (arith, c .if1 .left, c .before .find .ensures))) ∙ at .inv
 
 returns-2 : tie.Need-returns-2 Inv-loop μ-loop

@@ -22,7 +22,9 @@ returns : tie.Need-returns Inv-loop μ-loop
 returns c =
     let s = c .before .before .before .before .before .args in
     let at = c .before .before .before .loop in
-    sym (before-stop (s .end) (s .places .now) (at .d) (at .inv) (omega (arith, c .before .short-at .ensures .0)) (c .before .before .loop-test .taken))
+    sym
+    (before-stop (s .end) (s .places .now) (at .d) (at .inv) (omega (arith, c .before .short-at .ensures .0))
+    (c .before .before .loop-test .taken))
 
 add-d : tie.Need-add-d Inv-loop μ-loop
 add-d c = omega arith
@@ -31,7 +33,8 @@ loop-again : tie.Need-loop-again Inv-loop μ-loop
 loop-again c =
     let s = c .before .before .before .before .before .args in
     let at = c .before .before .before .loop in
-    before-more (s .end) (s .places .now) (at .d) (at .inv) (c .before .before .loop-test .taken) (omega (arith, c .before .short-at .ensures .0))
+    before-more (s .end) (s .places .now) (at .d) (at .inv) (c .before .before .loop-test .taken)
+    (omega (arith, c .before .short-at .ensures .0))
 
 returns-2 : tie.Need-returns-2 Inv-loop μ-loop
 returns-2 c =

@@ -16,7 +16,8 @@ use Rattle.model.proofs.doubles.report_doubles.Tie as tie
 
 abbrev Inv-loop : tie.InvT-loop
 Inv-loop lines bounds keys hints links places faults₀ d₀ count₀ j₀ faults d count j =
-    (d ≡ before (begins bounds j) places) × Reports (repeatAt lines bounds keys places) (length lines) j count faults₀ faults
+    (d ≡ before (begins bounds j) places)
+    × Reports (repeatAt lines bounds keys places) (length lines) j count faults₀ faults
 
 abbrev μ-loop : tie.MeasureT-loop
 μ-loop lines bounds keys hints links places faults₀ d₀ count₀ j₀ faults d count j = length lines - j
@@ -27,7 +28,8 @@ is-repeated-requires c κs = let s = c .before .before .before .before .before .
 returns : tie.Need-returns Inv-loop μ-loop
 unfolding faultList concat-map
 returns c =
-    let s = c .before .before .before .before .before .before .before .before .before in
+    let s-near = c .before .before .before .before in
+    let s = s-near .before .before .before .before .before in
     let a = s .args in
     let e = repeated-none (a .keys .now) (a .lines .now) (a .bounds .now) (a .places .now) (s .pre .1)
     (sym (c .before .is-repeated .ensures) ∙ not-true _ (c .if1 .taken)) in
@@ -40,8 +42,11 @@ loop-holds : tie.Need-loop-holds Inv-loop μ-loop
 loop-holds c =
     let s = c .before .before .before .before .before .before .before .before .before .before .before .args in
     let first = c .passed .ensures ∙ ap (λ b. before b (s .places .now)) (c .before .short-at .ensures .0) in
-    let one = repeat-single (s .lines .now) (s .bounds .now) (s .keys .now) (s .places .now) in
-    (first, reports-first (repeatAt (s .lines .now) (s .bounds .now) (s .keys .now) (s .places .now)) (length (s .lines .now)) (s .faults .now) one)
+    let one = repeat-single (s .lines .now) (s .bounds .now) (s .keys .now) (s .places .now) in (
+      first,
+      reports-first (repeatAt (s .lines .now) (s .bounds .now) (s .keys .now) (s .places .now))
+          (length (s .lines .now)) (s .faults .now) one,
+    )
 
 passed-requires-2 : tie.Need-passed-requires-2 Inv-loop μ-loop
 passed-requires-2 c κs =
@@ -58,8 +63,11 @@ passed-requires-2 c κs =
 
 is-repeated-requires-2 : tie.Need-is-repeated-requires-2 Inv-loop μ-loop
 is-repeated-requires-2 c κs =
-    let s = c .before .before .before .before .before .before .before .before .before .before .before .before .before .before .before in
-    (s .pre .0, omega (arith, c .passed2 .ensures, before-le (c .before .short-at2 .result) (s .args .places .now), s .pre .1))
+    let s =
+    c .before .before .before .before .before .before .before .before .before .before .before .before .before .before .before in (
+      s .pre .0,
+      omega (arith, c .passed2 .ensures, before-le (c .before .short-at2 .result) (s .args .places .now), s .pre .1),
+    )
 
 put-fault-requires : tie.Need-put-fault-requires Inv-loop μ-loop
 put-fault-requires c κs =

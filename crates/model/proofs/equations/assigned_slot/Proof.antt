@@ -23,10 +23,12 @@ returns c =
     let s = S kind in
     let a = s .args in
     let slots = resolved (a .keys .now) (a .kinds .now) (a .args .now) in
-    let last = last-kind (a .bounds .now) (a .kinds .now) (a .j) (kind .byte-at .ensures) (kind .before .last-of .ensures) in
+    let last =
+    last-kind (a .bounds .now) (a .kinds .now) (a .j) (kind .byte-at .ensures) (kind .before .last-of .ensures) in
     let store = c .before .before .if1 .taken in
     let slot =
-    slot-stored (a .keys .now) (a .kinds .now) (a .args .now) (kind .before .last-of .result) (s .pre .3) (kind .byte-at .ensures) store
+    slot-stored (a .keys .now) (a .kinds .now) (a .args .now) (kind .before .last-of .result) (s .pre .3)
+    (kind .byte-at .ensures) store
     (c .before .word-at .ensures) (c .find .ensures) in
     assigned-store (a .bounds .now) (a .kinds .now) (a .j) slots last store slot (kind .before .last-of .ensures)
 
@@ -35,7 +37,8 @@ returns-2 c =
     let kind = c .before in
     let a = S kind .args in
     let slots = resolved (a .keys .now) (a .kinds .now) (a .args .now) in
-    let last = last-kind (a .bounds .now) (a .kinds .now) (a .j) (kind .byte-at .ensures) (kind .before .last-of .ensures) in
+    let last =
+    last-kind (a .bounds .now) (a .kinds .now) (a .j) (kind .byte-at .ensures) (kind .before .last-of .ensures) in
     assigned-none (a .bounds .now) (a .kinds .now) (a .j) slots last (c .if1 .left)
 
 pub assigned-slot-spec : {M : Type 1} → statement M

@@ -9,14 +9,16 @@ use Rattle.model.proofs.equations.is_equation.Tie as tie
 returns : tie.Need-returns
 returns c =
     let s = c .before .before .before .before .before .args in
-    equation-empty (s .bounds .now) (s .kinds .now) (s .j) (c .before .short-at2 .ensures .0) (c .before .before .short-at .ensures .0) (c .if1 .taken)
+    equation-empty (s .bounds .now) (s .kinds .now) (s .j) (c .before .short-at2 .ensures .0)
+    (c .before .before .short-at .ensures .0) (c .if1 .taken)
 
 returns-2 : tie.Need-returns-2
 returns-2 c =
     let kind = c .before in
     let test = kind .before .before in
     let s = test .before .before .before .before .before .args in
-    let last = last-kind (s .bounds .now) (s .kinds .now) (s .j) (kind .byte-at .ensures) (kind .before .last-of .ensures) in
+    let last =
+    last-kind (s .bounds .now) (s .kinds .now) (s .j) (kind .byte-at .ensures) (kind .before .last-of .ensures) in
     equation-last (s .bounds .now) (s .kinds .now) (s .j) (test .before .short-at2 .ensures .0)
     (test .before .before .short-at .ensures .0) (test .if1 .left) (c .is-closing .ensures ∙ ap closes last)
 

@@ -19,7 +19,8 @@ loop-holds : tie.Need-loop-holds Inv-loop μ-loop
 loop-holds c =
     let s = c .before .before .before .before .before .before .before .before in
     let a = s .args in
-    owning-start (a .rows .now) (a .bounds .now) (a .kinds .now) (resolved (a .keys .now) (a .kinds .now) (a .args .now)) (s .pre .1)
+    owning-start (a .rows .now) (a .bounds .now) (a .kinds .now)
+    (resolved (a .keys .now) (a .kinds .now) (a .args .now)) (s .pre .1)
 
 put-short-requires : tie.Need-put-short-requires Inv-loop μ-loop
 put-short-requires c κs =
@@ -27,7 +28,12 @@ put-short-requires c κs =
     let s = at .before .before .before .before .before .before .before .before .before in
     let a = s .args in
     let slots = resolved (a .keys .now) (a .kinds .now) (a .args .now) in
-    omega (arith, s .pre .0, at .loop .inv .within, length-map (a .rows .now) (assignedSlot (a .bounds .now) (a .kinds .now) slots))
+    omega (
+      arith,
+      s .pre .0,
+      at .loop .inv .within,
+      length-map (a .rows .now) (assignedSlot (a .bounds .now) (a .kinds .now) slots),
+    )
 
 loop-again : tie.Need-loop-again Inv-loop μ-loop
 loop-again c =
@@ -39,7 +45,8 @@ loop-again c =
     let as-many = length-map (s .rows .now) (assignedSlot (s .bounds .now) (s .kinds .now) slots) in
     let assigned =
     assigned-at (s .rows .now) (s .bounds .now) (s .kinds .now) slots (at .loop .r - 1)
-    (omega (arith, at .loop .inv .within, test .loop-test .taken, as-many)) (slot .assigned-slot .ensures) (slot .before .short-at .ensures .0) in
+    (omega (arith, at .loop .inv .within, test .loop-test .taken, as-many)) (slot .assigned-slot .ensures)
+    (slot .before .short-at .ensures .0) in
     owning-next (at .loop .inv) (test .loop-test .taken) assigned (c .before .before .put-short .ensures)
 
 returns : tie.Need-returns Inv-loop μ-loop

@@ -7,7 +7,8 @@ use Rattle.model.proofs.equations.put_if.Tie as tie
 returns : tie.Need-returns
 returns c =
     let s = c .before .before .before .before .before .before .args in
-    put-one (s .stands) (s .v) (s .w) (c .before .before .before .before .if1 .taken) (c .before .before .put-short .ensures)
+    put-one (s .stands) (s .v) (s .w) (c .before .before .before .before .if1 .taken)
+    (c .before .before .put-short .ensures)
 
 returns-2 : tie.Need-returns-2
 returns-2 c =

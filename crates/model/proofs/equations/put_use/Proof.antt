@@ -13,14 +13,16 @@ returns-2 : tie.Need-returns-2
 returns-2 c =
     let test = c .before .before in
     let s = test .before .before .before .args in
-    use-none (s .owners .now) (s .kind) (s .slot) (s .w) (test .if1 .left) (c .before .short-at .ensures .0) (s .used .now) (c .if2 .taken)
+    use-none (s .owners .now) (s .kind) (s .slot) (s .w) (test .if1 .left) (c .before .short-at .ensures .0)
+    (s .used .now) (c .if2 .taken)
 
 returns-3 : tie.Need-returns-3
 returns-3 c =
     let owner = c .before .before .before .before in
     let test = owner .before .before in
     let s = test .before .before .before .args in
-    use-one (s .owners .now) (s .kind) (s .slot) (s .w) (test .if1 .left) (owner .before .short-at .ensures .0) (owner .if2 .left)
+    use-one (s .owners .now) (s .kind) (s .slot) (s .w) (test .if1 .left) (owner .before .short-at .ensures .0)
+    (owner .if2 .left)
     (c .before .before .put-short .ensures)
 
 pub put-use-spec : {M : Type 1} → statement M

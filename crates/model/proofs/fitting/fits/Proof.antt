@@ -22,7 +22,8 @@ returns-2 c = rw (le-leb _ _ (c .before .if1 .left), ne-eqb _ _ (c .if2 .taken))
 
 returns-3 : tie.Need-returns-3
 unfolding fit
-returns-3 c = rw (le-leb _ _ (c .before .before .if1 .left), eq-eqb _ _ (c .before .if2 .left), lt-leb _ _ (c .if3 .taken))
+returns-3 c =
+    rw (le-leb _ _ (c .before .before .if1 .left), eq-eqb _ _ (c .before .if2 .left), lt-leb _ _ (c .if3 .taken))
 
 returns-4 : tie.Need-returns-4
 unfolding fit
@@ -65,7 +66,8 @@ abbrev S : tie.Else6 → tie.Start
 S c = c .before .before .before .before .before .before .before .before .before
 
 left : (c : tie.Else6)
-    → fit (S c .args .lines .now) (S c .args .bounds .now) (S c .args .kinds .now) (S c .args .args) (S c .args .used) (S c .args .faults)
+    → fit (S c .args .lines .now) (S c .args .bounds .now) (S c .args .kinds .now) (S c .args .args) (S c .args .used)
+    (S c .args .faults)
     (S c .args .places) (S c .args .rows) (S c .args .order)
     ≡ (roomy (S c .args .places) (S c .args .rows) (S c .args .order)
     && inTurn (S c .args .bounds .now) (length (S c .args .lines .now)) (length (S c .args .kinds .now)))

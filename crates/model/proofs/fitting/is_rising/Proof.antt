@@ -31,8 +31,10 @@ returns c =
     let s = c .before .before .before .before .before .before .args in
     let begun = c .before .short-at2 .ensures .0 in
     let ended = c .before .before .short-at .ensures .0 in
-    let falling = lt-ltb (ends (s .bounds .now) (at .j)) (begins (s .bounds .now) (at .j)) (omega (arith, c .if1 .taken, begun, ended)) in
-    ap not (sym (any-stop (falls (s .bounds .now)) (s .n) (at .j) (c .before .before .before .loop-test .taken) falling) ∙ at .inv .1)
+    let falling = lt-ltb (ends (s .bounds .now) (at .j)) (begins (s .bounds .now) (at .j))
+    (omega (arith, c .if1 .taken, begun, ended)) in
+    ap not (sym (any-stop (falls (s .bounds .now)) (s .n) (at .j) (c .before .before .before .loop-test .taken) falling)
+    ∙ at .inv .1)
 
 loop-again : tie.Need-loop-again Inv-loop μ-loop
 loop-again c =
@@ -40,8 +42,12 @@ loop-again c =
     let s = c .before .before .before .before .before .before .args in
     let begun = c .before .short-at2 .ensures .0 in
     let ended = c .before .before .short-at .ensures .0 in
-    let rising = le-ltb (ends (s .bounds .now) (at .j)) (begins (s .bounds .now) (at .j)) (omega (arith, c .if1 .left, begun, ended)) in
-    (omega arith, sym (any-pass (falls (s .bounds .now)) (s .n) (at .j) (c .before .before .before .loop-test .taken) rising) ∙ at .inv .1)
+    let rising = le-ltb (ends (s .bounds .now) (at .j)) (begins (s .bounds .now) (at .j))
+    (omega (arith, c .if1 .left, begun, ended)) in (
+      omega arith,
+      sym (any-pass (falls (s .bounds .now)) (s .n) (at .j) (c .before .before .before .loop-test .taken) rising)
+          ∙ at .inv .1,
+    )
 
 returns-2 : tie.Need-returns-2 Inv-loop μ-loop
 returns-2 c =

@@ -2,7 +2,8 @@
 use native.Mathlib.Omega.{arith}
 use borrow.Author.Needs.{needs}
 use lib.ListN.{length}
-use Rattle.model.proofs.KeysFound.{Sought, ahead, sought-first, sought-there, sought-next, sought-less, sought-none}
+use Rattle.model.proofs.KeysFound.{Sought, ahead, sought-first, sought-there, sought-next, sought-less}
+use Rattle.model.proofs.KeysFound.{sought-none}
 use Rattle.model.proofs.hints.find.Statement.{statement}
 use Rattle.model.proofs.hints.find.Tie as tie
 
@@ -37,7 +38,8 @@ loop-again : tie.Need-loop-again Inv-loop μ-loop
 loop-again c =
     let at = c .before .before .before .before in
     let s = at .before .before .before .before .before .before in
-    sought-next (s .pre) (at .loop .inv) (c .before .before .before .loop-test .taken) (c .before .if1 .left) (c .short-at2 .ensures .0)
+    sought-next (s .pre) (at .loop .inv) (c .before .before .before .loop-test .taken) (c .before .if1 .left)
+    (c .short-at2 .ensures .0)
 
 returns-2 : tie.Need-returns-2 Inv-loop μ-loop
 returns-2 c = sought-none (c .before .loop .inv) (c .loop-test .left)

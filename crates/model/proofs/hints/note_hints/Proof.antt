@@ -22,7 +22,8 @@ loop-again c =
     let bucket = read .before .before .before .bucket .ensures in
     let test = read .before .before .before .before .before in
     let v = test .before .loop .inv in
-    hinting-next v (test .loop-test .taken) (bucket .0) (bucket .1) (read .short-at .ensures .0) (link .put-short .ensures) (c .before .before .put-short2 .ensures)
+    hinting-next v (test .loop-test .taken) (bucket .0) (bucket .1) (read .short-at .ensures .0)
+    (link .put-short .ensures) (c .before .before .put-short2 .ensures)
 
 returns : tie.Need-returns Inv-loop μ-loop
 returns c = hinting-last (c .before .loop .inv) (c .loop-test .left)

@@ -9,4 +9,7 @@ returns-2 : tie.Need-returns-2
 returns-2 c = sym (set-out (c .before .args .s .now) (c .before .args .i) _ (c .if1 .left))
 
 pub put-short-spec : {M : Type 1} → statement M
-put-short-spec = tie.close (tie.spec (λ c. search needs) (λ c. search needs) (λ c. search needs) (λ c. search needs) (λ c. search needs) returns-2)
+put-short-spec =
+    tie.close
+    (tie.spec (λ c. search needs) (λ c. search needs) (λ c. search needs) (λ c. search needs)
+    (λ c. search needs) returns-2)

@@ -21,7 +21,8 @@ loop-again : tie.Need-loop-again Inv-loop μ-loop
 loop-again c =
     let read = c .before .before .before in
     let test = read .before .before in
-    marking-next (test .before .loop .inv) (test .loop-test .taken) (read .short-at .ensures .0) (c .before .before .put-byte .ensures)
+    marking-next (test .before .loop .inv) (test .loop-test .taken) (read .short-at .ensures .0)
+    (c .before .before .put-byte .ensures)
 
 returns : tie.Need-returns Inv-loop μ-loop
 returns c = marking-last (c .before .loop .inv) (c .loop-test .left)

@@ -10,7 +10,8 @@ use Rattle.model.proofs.loops.report_unmarked.Statement.{statement}
 use Rattle.model.proofs.loops.report_unmarked.Tie as tie
 
 abbrev Inv-loop : tie.InvT-loop
-Inv-loop marks rows lines faults₀ count₀ r₀ faults count r = Reports (unmarkedAt marks rows lines) (length rows) r count faults₀ faults
+Inv-loop marks rows lines faults₀ count₀ r₀ faults count r =
+    Reports (unmarkedAt marks rows lines) (length rows) r count faults₀ faults
 
 abbrev μ-loop : tie.MeasureT-loop
 μ-loop marks rows lines faults₀ count₀ r₀ faults count r = length rows - r

@@ -5,7 +5,8 @@ use mathlib.Core.Logic.{⊎-elim}
 use borrow.Author.Needs.{needs}
 use lib.ListN.{length}
 use Rattle.model.specs.Places.{undefinedAt, unfitAt}
-use Rattle.model.proofs.NamesResolved.{undefined-read, unfit-read, Seeking, seeking-first, seeking-found, seeking-unfit, seeking-pass, seeking-last}
+use Rattle.model.proofs.NamesResolved.{undefined-read, unfit-read, Seeking, seeking-first, seeking-found}
+use Rattle.model.proofs.NamesResolved.{seeking-unfit, seeking-pass, seeking-last}
 use Rattle.model.proofs.names.flaw_in.Statement.{statement}
 use Rattle.model.proofs.names.flaw_in.Tie as tie
 
@@ -24,19 +25,28 @@ returns c =
     let read = c .before .before in
     let test = read .before .before in
     let s = test .before .before .before .before .before in
-    let undefined = sym (undefined-read (length (s .args .places .now)) (read .before .byte-at .ensures) (read .word-at .ensures)) in
-    seeking-found (test .before .loop .inv) (test .loop-test .taken) (undefined ∙ sym (c .before .is-undefined .ensures) ∙ c .if1 .taken)
+    let undefined =
+    sym (undefined-read (length (s .args .places .now)) (read .before .byte-at .ensures) (read .word-at .ensures)) in
+    seeking-found (test .before .loop .inv) (test .loop-test .taken)
+    (undefined ∙ sym (c .before .is-undefined .ensures) ∙ c .if1 .taken)
 
 loop-again : tie.Need-loop-again Inv-loop μ-loop
 loop-again c =
     let read = c .before .before .before .before in
     let test = read .before .before in
     let s = test .before .before .before .before .before in
-    let undefined = sym (undefined-read (length (s .args .places .now)) (read .before .byte-at .ensures) (read .word-at .ensures)) in
-    let unfit = sym (unfit-read (s .args .places .now) (s .args .kinds .now) (read .before .byte-at .ensures) (read .word-at .ensures)) in
+    let undefined =
+    sym (undefined-read (length (s .args .places .now)) (read .before .byte-at .ensures) (read .word-at .ensures)) in
+    let unfit =
+    sym
+    (unfit-read (s .args .places .now) (s .args .kinds .now) (read .before .byte-at .ensures)
+    (read .word-at .ensures)) in
     let named = undefined ∙ sym (c .before .before .before .is-undefined .ensures) ∙ c .before .before .if1 .left in
-    ⊎-elim (λ w. seeking-unfit (test .before .loop .inv) (test .loop-test .taken) named (unfit ∙ sym (c .before .is-unfit .ensures) ∙ w .0 .taken) (w .1))
-    (λ w. seeking-pass (test .before .loop .inv) (test .loop-test .taken) named (unfit ∙ sym (c .before .is-unfit .ensures) ∙ w .0 .left) (w .1)) (c .if2 .came)
+    ⊎-elim
+    (λ w. seeking-unfit (test .before .loop .inv) (test .loop-test .taken) named
+    (unfit ∙ sym (c .before .is-unfit .ensures) ∙ w .0 .taken) (w .1))
+    (λ w. seeking-pass (test .before .loop .inv) (test .loop-test .taken) named
+    (unfit ∙ sym (c .before .is-unfit .ensures) ∙ w .0 .left) (w .1)) (c .if2 .came)
 
 returns-2 : tie.Need-returns-2 Inv-loop μ-loop
 returns-2 c = seeking-last (c .before .loop .inv) (c .loop-test .left)

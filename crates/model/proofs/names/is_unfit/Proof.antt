@@ -14,7 +14,8 @@ returns : tie.Need-returns
 returns c =
     let s = c .before .before .before .before .before .args in
     rw (eq-eqb _ kindFrom (c .before .before .if1 .taken))
-    (ap (λ (b : ℕ). not (eqb b kindConstant)) (c .byte-at .ensures ∙ ap (λ (p : ℕ). getD (s .kinds .now) p 0) (c .before .home-of .ensures .0)))
+    (ap (λ (b : ℕ). not (eqb b kindConstant))
+    (c .byte-at .ensures ∙ ap (λ (p : ℕ). getD (s .kinds .now) p 0) (c .before .home-of .ensures .0)))
 
 returns-2 : tie.Need-returns-2
 returns-2 c = rw (ne-eqb _ kindFrom (c .if1 .left))

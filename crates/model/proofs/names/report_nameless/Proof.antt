@@ -19,7 +19,8 @@ abbrev μ-loop : tie.MeasureT-loop
 loop-holds : tie.Need-loop-holds Inv-loop μ-loop
 loop-holds c =
     let s = c .before .before .before .before .before .before .args in
-    reports-first (namesAt (s .places .now) (s .lines .now) (s .bounds .now) (s .kinds .now) (s .slots .now)) (length (s .lines .now)) (s .faults .now)
+    reports-first (namesAt (s .places .now) (s .lines .now) (s .bounds .now) (s .kinds .now) (s .slots .now))
+    (length (s .lines .now)) (s .faults .now)
     (names-single (s .places .now) (s .lines .now) (s .bounds .now) (s .kinds .now) (s .slots .now))
 
 put-fault-requires : tie.Need-put-fault-requires Inv-loop μ-loop
@@ -37,8 +38,10 @@ loop-again c =
     let test = bound .before .before in
     let at = test .before in
     let s = at .before .before .before .before .before .before .before .args in
-    let found = flaw-found (s .places .now) (s .lines .now) (s .bounds .now) (s .kinds .now) (s .slots .now) (at .loop .j)
-    (flaw .flaw-in .ensures) (bound .before .short-at .ensures .0) (bound .short-at2 .ensures .0) (line .short-at3 .ensures .0) in
+    let found =
+    flaw-found (s .places .now) (s .lines .now) (s .bounds .now) (s .kinds .now) (s .slots .now) (at .loop .j)
+    (flaw .flaw-in .ensures) (bound .before .short-at .ensures .0) (bound .short-at2 .ensures .0)
+    (line .short-at3 .ensures .0) in
     reports-next (at .loop .inv) (test .loop-test .taken) found (put .put-fault .ensures)
 
 same-length : tie.Need-same-length Inv-loop μ-loop

@@ -5,7 +5,8 @@ use native.Mathlib.Omega.{arith}
 use borrow.Author.Needs.{needs}
 use lib.ListN.{length}
 use Rattle.model.proofs.PlanStages.{prefix-length}
-use Rattle.model.proofs.NamesLinked.{Stating, stating-first, stating-walked, stating-few, stating-next, stating-last}
+use Rattle.model.proofs.NamesLinked.{Stating, stating-first, stating-walked, stating-few, stating-next}
+use Rattle.model.proofs.NamesLinked.{stating-last}
 use Rattle.model.proofs.names.resolve.Statement.{statement}
 use Rattle.model.proofs.names.resolve.Tie as tie
 
@@ -14,7 +15,8 @@ Inv-loop lines bounds kinds keys hints links places owners args₀ starts₀ use
     Stating lines bounds kinds keys places args₀ starts₀ used₀ walk r j args starts used
 
 abbrev μ-loop : tie.MeasureT-loop
-μ-loop lines bounds kinds keys hints links places owners args₀ starts₀ used₀ walk₀ r₀ j₀ args starts used walk r j = length lines - j
+μ-loop lines bounds kinds keys hints links places owners args₀ starts₀ used₀ walk₀ r₀ j₀ args starts used walk r j =
+    length lines - j
 
 loop-holds : tie.Need-loop-holds Inv-loop μ-loop
 loop-holds c =
@@ -31,8 +33,10 @@ put-if-requires : tie.Need-put-if-requires Inv-loop μ-loop
 put-if-requires c κs =
     let at = c .before .before .before in
     let s = at .before .before .before .before .before .before .before .before .before .before .before .before in
-    let v = at .loop .inv in
-    (stating-few (s .args .places .now) (s .args .starts .now) (s .pre .1) v, omega (arith, v .few, v .within, s .pre .1 .sound .few))
+    let v = at .loop .inv in (
+      stating-few (s .args .places .now) (s .args .starts .now) (s .pre .1) v,
+      omega (arith, v .few, v .within, s .pre .1 .sound .few),
+    )
 
 slice-aggregate-resolve-in : tie.Need-slice-aggregate-resolve-in Inv-loop μ-loop
 slice-aggregate-resolve-in c =
@@ -47,15 +51,18 @@ resolve-in-requires c κs =
     let at = test .before in
     let s = at .before .before .before .before .before .before .before .before .before .before .before .before in (
       s .pre .0,
-      stating-walked (s .args .places .now) (s .args .starts .now) (s .pre .1) (at .loop .inv) (test .loop-test .taken) (end .before .short-at .ensures .0)
+      stating-walked (s .args .places .now) (s .args .starts .now) (s .pre .1) (at .loop .inv) (test .loop-test .taken)
+          (end .before .short-at .ensures .0)
           (end .short-at2 .ensures .0),
     )
 
 add-j : tie.Need-add-j Inv-loop μ-loop
 add-j c =
-    let put = c .before .before .before .before .before .before .before .before .before .before .before .before .before in
+    let put =
+    c .before .before .before .before .before .before .before .before .before .before .before .before .before in
     let test = put .before .before .before in
-    let s = test .before .before .before .before .before .before .before .before .before .before .before .before .before in
+    let s =
+    test .before .before .before .before .before .before .before .before .before .before .before .before .before in
     omega (arith, test .loop-test .taken, s .pre .1 .sound .few)
 
 loop-again : tie.Need-loop-again Inv-loop μ-loop
@@ -68,8 +75,10 @@ loop-again c =
     let test = equation .before in
     let at = test .before in
     let s = at .before .before .before .before .before .before .before .before .before .before .before .before in
-    stating-next (s .args .places .now) (s .args .starts .now) (s .pre .1) (at .loop .inv) (test .loop-test .taken) (equation .is-equation .ensures) refl
-    (put .put-if .ensures) (known .all-or-none .ensures .0) (end .before .short-at .ensures .0) (end .short-at2 .ensures .0) (search needs)
+    stating-next (s .args .places .now) (s .args .starts .now) (s .pre .1) (at .loop .inv) (test .loop-test .taken)
+    (equation .is-equation .ensures) refl
+    (put .put-if .ensures) (known .all-or-none .ensures .0) (end .before .short-at .ensures .0)
+    (end .short-at2 .ensures .0) (search needs)
     (done .resolve-in .ensures .0) (done .resolve-in .ensures .1)
 
 put-short-requires : tie.Need-put-short-requires Inv-loop μ-loop
@@ -89,7 +98,8 @@ returns c =
     let test = c .before .before .before .before in
     let at = test .before in
     let s = at .before .before .before .before .before .before .before .before .before .before .before .before in
-    stating-last (s .args .places .now) (s .args .starts .now) (s .pre .1) (at .loop .inv) (test .loop-test .left) refl (c .before .before .put-short .ensures)
+    stating-last (s .args .places .now) (s .args .starts .now) (s .pre .1) (at .loop .inv) (test .loop-test .left) refl
+    (c .before .before .put-short .ensures)
 
 pub resolve-spec : {M : Type 1} → statement M
 resolve-spec =

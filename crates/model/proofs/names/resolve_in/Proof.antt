@@ -7,7 +7,8 @@ use borrow.Author.Needs.{needs}
 use lib.ListN.{getD}
 use Rattle.model.proofs.KeysFound.{place-le}
 use Rattle.model.proofs.NamesResolved.{slot-named}
-use Rattle.model.proofs.NamesLinked.{walk, Walking, walking-first, walking-flawed, walking-clear, walking-other, walking-last}
+use Rattle.model.proofs.NamesLinked.{walk, Walking, walking-first, walking-flawed, walking-clear, walking-other}
+use Rattle.model.proofs.NamesLinked.{walking-last}
 use Rattle.model.proofs.names.resolve_in.Statement.{statement}
 use Rattle.model.proofs.names.resolve_in.Tie as tie
 
@@ -27,7 +28,8 @@ add-slot : tie.Need-add-slot Inv-loop μ-loop
 add-slot c =
     let at = c .before .before .before .before .before .before in
     let s = at .before .before .before .before .before .before .before .before .before in
-    omega (arith, c .find .ensures, place-le (getD (at .loop .args) (at .loop .i) 0) (s .args .keys .now), s .pre .1 .few)
+    omega
+    (arith, c .find .ensures, place-le (getD (at .loop .args) (at .loop .i) 0) (s .args .keys .now), s .pre .1 .few)
 
 loop-again : tie.Need-loop-again Inv-loop μ-loop
 loop-again c =
@@ -43,11 +45,13 @@ loop-again c =
     ⊎-elim
     (λ w.
     let slot = slot-named ks kind arg (named ∙ w .0 .taken) (w .2 .ensures) in
-    walking-flawed v (p .wide) (p .inside) h slot (w .4 .ensures) (w .9) (w .10) (w .11) (w .7 .ensures) (w .8 .taken) (w .12))
+    walking-flawed v (p .wide) (p .inside) h slot (w .4 .ensures) (w .9) (w .10) (w .11) (w .7 .ensures) (w .8 .taken)
+    (w .12))
     (⊎-elim
     (λ w.
     let slot = slot-named ks kind arg (named ∙ w .0 .taken) (w .2 .ensures) in
-    walking-clear v (p .wide) (p .inside) h slot (w .4 .ensures) (w .9) (w .10) (w .11) (w .7 .ensures) (w .8 .left) (w .12))
+    walking-clear v (p .wide) (p .inside) h slot (w .4 .ensures) (w .9) (w .10) (w .11) (w .7 .ensures) (w .8 .left)
+    (w .12))
     (λ w. walking-other v (p .wide) (p .inside) h (named ∙ w .0 .left) (w .1) (w .2) (w .3) (w .4))) (c .if1 .came)
 
 same-length : tie.Need-same-length Inv-loop μ-loop

@@ -1,7 +1,5 @@
 -- The equations are held in an array, the owners of their slots noted, and the names resolved.
 use mathlib.Core.Path.{refl}
-use mathlib.Core.List.{List}
-use Prim.Native.Nat.{ℕ}
 use native.Mathlib.Omega.{arith}
 use borrow.Author.Needs.{needs}
 use lib.ListN.{length}
@@ -35,8 +33,13 @@ note-owners-requires : tie.Need-note-owners-requires
 note-owners-requires c κs =
     let k = c .before .before .before .before .before in
     let s = S k in
-    let few = rows-few (length (s .args .lines .now)) (s .args .bounds .now) (s .args .kinds .now) in
-    (omega (arith, holds-front (held k) .long, held k .long, few, s .pre .0 .sound .few), refl, s .pre .1, s .pre .0 .few, s .pre .0 .wide)
+    let few = rows-few (length (s .args .lines .now)) (s .args .bounds .now) (s .args .kinds .now) in (
+      omega (arith, holds-front (held k) .long, held k .long, few, s .pre .0 .sound .few),
+      refl,
+      s .pre .1,
+      s .pre .0 .few,
+      s .pre .0 .wide,
+    )
 
 resolve-requires : tie.Need-resolve-requires
 resolve-requires c κs =

@@ -29,7 +29,8 @@ returns-2 c =
     let k = test .before .before .before .before .before .before in
     let s = S k in
     let placed = test .before .before .sorted .given .1 in
-    sorts-short (k .sort .ensures) (s .pre .0) (s .pre .2) (s .args .n) (s .args .lines .now) placed (test .if1 .taken) (s .pre .1)
+    sorts-short (k .sort .ensures) (s .pre .0) (s .pre .2) (s .args .n) (s .args .lines .now) placed (test .if1 .taken)
+    (s .pre .1)
     (report .report-loops .ensures) (c .refusal2 .ensures)
 
 returns-3 : tie.Need-returns-3
@@ -37,7 +38,8 @@ returns-3 c =
     let k = c .before .before .before .before .before .before in
     let s = S k in
     let placed = c .before .before .sorted .given .1 in
-    sorts-whole (k .sort .ensures) (s .pre .0) (s .pre .2) (s .args .n) (s .args .lines .now) (s .args .faults .now) placed (c .if1 .left) (s .pre .1)
+    sorts-whole (k .sort .ensures) (s .pre .0) (s .pre .2) (s .args .n) (s .args .lines .now)
+    (s .args .faults .now) placed (c .if1 .left) (s .pre .1)
 
 pub place-spec : {M : Type 1} → statement M
 place-spec =

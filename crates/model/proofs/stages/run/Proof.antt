@@ -1,5 +1,5 @@
--- Each stage goes on from what the one before has left: the definitions are collected; no name is defined twice; the names are linked; none of
--- them is flawed; the equations are placed.
+-- Each stage goes on from what the one before has left: the definitions are collected; no name is defined twice; the
+-- names are linked; none of them is flawed; the equations are placed.
 use Prim.Native.Nat.{ℕ}
 use mathlib.Core.Path.{refl, _∙_}
 use native.Mathlib.Omega.{arith}
@@ -8,14 +8,21 @@ use lib.ListN.{length-replicate}
 use Rattle.limits.specs.Limits.{mostDefinitions}
 use Rattle.model.specs.Plan.{lent}
 use Rattle.model.specs.Working.{Weighs}
-use Rattle.model.proofs.PlanStages.{prefix-length, holds-front, keys-front, places-held, places-front, keyed, sheeted-many, sheeted-few}
-use Rattle.model.proofs.PlanStages.{distinct-fault, distinct-none, placeable, searched, tested-fault, tested-none, weighed-fit, weighed-by}
+use Rattle.model.proofs.PlanStages.{prefix-length, holds-front, keys-front, places-held, places-front, keyed}
+use Rattle.model.proofs.PlanStages.{sheeted-many, sheeted-few}
+use Rattle.model.proofs.PlanStages.{distinct-fault, distinct-none, placeable, searched, tested-fault}
+use Rattle.model.proofs.PlanStages.{tested-none, weighed-fit, weighed-by}
 use Rattle.model.proofs.stages.run.Statement.{statement}
 use Rattle.model.proofs.stages.run.Tie as tie
 
 -- ---- where the stages stand, from the last back to the beginning
 abbrev linked : tie.Else3 → tie.After-connect
-linked e = let near = e .before .before .before .before .before .before .before in near .before .before .before .before .before .before .before
+linked e =
+    let near = e .before .before .before .before .before .before .before in
+    near .before .before .before .before .before .before .before
+
+abbrev known : tie.After-report-names → tie.After-connect
+known f = let near = f .before .before .before .before .before .before in near .before .before .before .before .before
 
 abbrev distinct : tie.After-connect → tie.Else2
 distinct l = l .before .before .before .before .before .before .before .before .before
@@ -30,7 +37,9 @@ abbrev collected : tie.Else1 → tie.After-collect
 collected e = e .before .before .before .before
 
 abbrev start : tie.After-collect → tie.Start
-start k = let near = k .before .before .before .before .before .before .before in near .before .before .before .before .before .before
+start k =
+    let near = k .before .before .before .before .before .before .before in
+    near .before .before .before .before .before .before
 
 abbrev begun : tie.After-connect → tie.Start
 begun l = start (collected (few (hinted (distinct l .before .before .before))))
@@ -40,7 +49,8 @@ returns : tie.Need-returns
 returns c =
     let k = c .before .before .before .before .before in
     let a = start k .args in
-    sheeted-many (k .collect .ensures) (a .lines .now) (a .bounds .now) (a .used .now) (a .faults .now) (a .rows .now) (a .placed .now)
+    sheeted-many (k .collect .ensures) (a .lines .now) (a .bounds .now) (a .used .now) (a .faults .now) (a .rows .now)
+    (a .placed .now)
     (c .before .if1 .taken) (c .refusal .ensures)
 
 slice-aggregate-note-hints : tie.Need-slice-aggregate-note-hints
@@ -49,12 +59,16 @@ slice-aggregate-note-hints c = keys-front (collected (c .before) .collect .ensur
 note-hints-requires : tie.Need-note-hints-requires
 note-hints-requires c κs =
     let e = c .before .before .before in
-    let long = keys-front (collected e .collect .ensures) (e .if1 .left) in
-    (omega (arith, long, e .if1 .left), refl, omega (arith, long, e .if1 .left, length-replicate {A = ℕ} mostDefinitions 0))
+    let long = keys-front (collected e .collect .ensures) (e .if1 .left) in (
+      omega (arith, long, e .if1 .left),
+      refl,
+      omega (arith, long, e .if1 .left, length-replicate {A = ℕ} mostDefinitions 0),
+    )
 
 -- ---- 21
 slice-aggregate-report-doubles : tie.Need-slice-aggregate-report-doubles
-slice-aggregate-report-doubles c = let e = few (c .before .before .before) in keys-front (collected e .collect .ensures) (e .if1 .left)
+slice-aggregate-report-doubles c =
+    let e = few (c .before .before .before) in keys-front (collected e .collect .ensures) (e .if1 .left)
 
 slice-reshare-prefix-report-doubles : tie.Need-slice-reshare-prefix-report-doubles
 slice-reshare-prefix-report-doubles c =
@@ -87,12 +101,16 @@ returns-2 c =
     let a = s .args in
     let at-hand = keyed (k .collect .ensures) (s .pre .0) (s .pre .1) (s .pre .2) (e .if1 .left) in
     let l = lent (k .collect .last .1 .1 .1 .0) (a .rows .now) (a .placed .now) in
-    sheeted-few (k .collect .ensures) (a .lines .now) (a .bounds .now) (a .used .now) (a .faults .now) (a .rows .now) (a .placed .now)
-    (e .if1 .left) (distinct-fault at-hand (d .report-doubles .ensures) l (c .before .if2 .taken) (c .refusal2 .ensures))
+    sheeted-few (k .collect .ensures) (a .lines .now) (a .bounds .now) (a .used .now) (a .faults .now) (a .rows .now)
+    (a .placed .now)
+    (e .if1 .left)
+    (distinct-fault at-hand (d .report-doubles .ensures) l (c .before .if2 .taken) (c .refusal2 .ensures))
 
 -- ---- the names linked
 slice-aggregate-connect : tie.Need-slice-aggregate-connect
-slice-aggregate-connect c = let e = few (hinted (c .before .before .before .before .before .before)) in keys-front (collected e .collect .ensures) (e .if1 .left)
+slice-aggregate-connect c =
+    let e = few (hinted (c .before .before .before .before .before .before)) in
+    keys-front (collected e .collect .ensures) (e .if1 .left)
 
 slice-reshare-prefix-connect : tie.Need-slice-reshare-prefix-connect
 slice-reshare-prefix-connect c =
@@ -117,13 +135,16 @@ connect-requires c κs =
 -- ---- 22 and 23
 slice-reshare-prefix-report-names : tie.Need-slice-reshare-prefix-report-names
 slice-reshare-prefix-report-names c =
-    let e = few (hinted (distinct (c .before .before .before .before .before .before .before) .before .before .before)) in
+    let e =
+    few (hinted (distinct (c .before .before .before .before .before .before .before) .before .before .before)) in
     let k = collected e in
     places-held (k .collect .ensures) (e .if1 .left) (start k .pre .2) .room
 
 slice-aggregate-report-names : tie.Need-slice-aggregate-report-names
 slice-aggregate-report-names c =
-    let e = few (hinted (distinct (c .before .before .before .before .before .before .before .before) .before .before .before)) in
+    let e =
+    few
+    (hinted (distinct (c .before .before .before .before .before .before .before .before) .before .before .before)) in
     let k = collected e in
     places-front (k .collect .ensures) (e .if1 .left) (start k .pre .2)
 
@@ -139,7 +160,7 @@ report-names-requires c κs =
 returns-3 : tie.Need-returns-3
 returns-3 c =
     let f = c .before .before .before .before in
-    let l = f .before .before .before .before .before .before .before .before .before .before .before in
+    let l = known f in
     let two = distinct l in
     let d = two .before .before .before in
     let e = few (hinted d) in
@@ -148,32 +169,40 @@ returns-3 c =
     let a = s .args in
     let at-hand = keyed (k .collect .ensures) (s .pre .0) (s .pre .1) (s .pre .2) (e .if1 .left) in
     let places = k .collect .last .1 .1 .1 .0 in
-    let flawed = tested-fault at-hand (l .connect .ensures) (s .pre .3 .rows-room) (f .report-names .ensures) places (a .placed .now)
+    let flawed = tested-fault at-hand (l .connect .ensures) (s .pre .3 .rows-room) (f .report-names .ensures) places
+    (a .placed .now)
     (c .before .if3 .taken) (c .refusal3 .ensures) in
-    sheeted-few (k .collect .ensures) (a .lines .now) (a .bounds .now) (a .used .now) (a .faults .now) (a .rows .now) (a .placed .now)
+    sheeted-few (k .collect .ensures) (a .lines .now) (a .bounds .now) (a .used .now) (a .faults .now) (a .rows .now)
+    (a .placed .now)
     (e .if1 .left)
-    (distinct-none at-hand (d .report-doubles .ensures) (lent places (a .rows .now) (a .placed .now)) (two .if2 .left) flawed)
+    (distinct-none at-hand (d .report-doubles .ensures) (lent places (a .rows .now) (a .placed .now))
+    (two .if2 .left) flawed)
 
 -- the lengths of what is lent stay
 same-length-8 : tie.Need-same-length-8
 same-length-8 c =
     let f = c .before .before .before .before in
-    let d = distinct (f .before .before .before .before .before .before .before .before .before .before .before) .before .before .before in
+    let d =
+    distinct
+    (known f) .before .before .before in
     f .report-names .kept .1 .1 .1 .1 .1 .1 .0 ∙ d .report-doubles .kept .1 .1 .1 .1 .1 .1 .0
 
 same-length-9 : tie.Need-same-length-9
 same-length-9 c =
-    let l = c .before .before .before .before .before .before .before .before .before .before .before .before .before .before .before in
+    let l = known (c .before .before .before .before) in
     collected (few (hinted (distinct l .before .before .before))) .collect .kept .1 .1 .1 .0
 
 same-length-10 : tie.Need-same-length-10
-same-length-10 c = let l = c .before .before .before .before .before .before .before .before .before .before .before .before .before .before .before in l .connect .kept .1 .1 .1 .1 .1 .1 .1 .1 .1 .0
+same-length-10 c =
+    let l = known (c .before .before .before .before) in l .connect .kept .1 .1 .1 .1 .1 .1 .1 .1 .1 .0
 
 -- ---- 24
 -- what is placed stands at the front of its arrays
-weighed : (l : tie.After-connect) → Weighs (begun l .args .lines .now) (begun l .args .bounds .now) (begun l .args .kinds .now)
+weighed : (l : tie.After-connect) → Weighs (begun l .args .lines .now) (begun l .args .bounds .now)
+    (begun l .args .kinds .now)
     (l .connect .last .1 .1 .1 .0) (l .connect .result .equations) (l .connect .result .used)
-    (l .connect .last .1 .1 .1 .1 .1 .1 .1 .1 .1 .1 .0) (l .connect .last .1 .1 .1 .1 .0) (l .connect .last .1 .1 .1 .1 .1 .1 .1 .1 .1 .0)
+    (l .connect .last .1 .1 .1 .1 .1 .1 .1 .1 .1 .1 .0) (l .connect .last .1 .1 .1 .1 .0)
+    (l .connect .last .1 .1 .1 .1 .1 .1 .1 .1 .1 .0)
 weighed l =
     let e = few (hinted (distinct l .before .before .before)) in
     let k = collected e in
@@ -188,13 +217,16 @@ array-share-prefix-starts : tie.Need-array-share-prefix-starts
 array-share-prefix-starts c = omega (arith, weighed (linked c) .few-rows)
 
 slice-aggregate-place : tie.Need-slice-aggregate-place
-slice-aggregate-place c = let l = linked (c .before) in prefix-length _ (l .connect .last .1 .1 .1 .1 .1 .1 .1 .1 .1 .1 .0) (weighed l .starts-room)
+slice-aggregate-place c =
+    let l = linked (c .before) in
+    prefix-length _ (l .connect .last .1 .1 .1 .1 .1 .1 .1 .1 .1 .1 .0) (weighed l .starts-room)
 
 slice-reshare-prefix-place : tie.Need-slice-reshare-prefix-place
 slice-reshare-prefix-place c = weighed (linked (c .before)) .used-room
 
 slice-aggregate-place-2 : tie.Need-slice-aggregate-place-2
-slice-aggregate-place-2 c = let l = linked (c .before .before) in prefix-length _ (l .connect .last .1 .1 .1 .1 .0) (weighed l .used-room)
+slice-aggregate-place-2 c =
+    let l = linked (c .before .before) in prefix-length _ (l .connect .last .1 .1 .1 .1 .0) (weighed l .used-room)
 
 place-requires : tie.Need-place-requires
 place-requires c κs =
@@ -205,8 +237,11 @@ same-length-13 : tie.Need-same-length-13
 same-length-13 c =
     let done = c .before .before .before .before in
     let f = done .before .before .before .before .before .before .before .before .before in
-    let d = distinct (f .before .before .before .before .before .before .before .before .before .before .before) .before .before .before in
-    done .place .kept .1 .1 .1 .1 .1 .1 .1 .0 ∙ f .report-names .kept .1 .1 .1 .1 .1 .1 .0 ∙ d .report-doubles .kept .1 .1 .1 .1 .1 .1 .0
+    let d =
+    distinct
+    (known f) .before .before .before in
+    done .place .kept .1 .1 .1 .1 .1 .1 .1 .0 ∙ f .report-names .kept .1 .1 .1 .1 .1 .1 .0
+    ∙ d .report-doubles .kept .1 .1 .1 .1 .1 .1 .0
 
 same-length-14 : tie.Need-same-length-14
 same-length-14 c =
@@ -214,7 +249,9 @@ same-length-14 c =
     collected (few (hinted (distinct l .before .before .before))) .collect .kept .1 .1 .1 .0
 
 same-length-15 : tie.Need-same-length-15
-same-length-15 c = linked (c .before .before .before .before .before .before .before .before .before .before) .connect .kept .1 .1 .1 .1 .1 .1 .1 .1 .1 .0
+same-length-15 c =
+    let three = c .before .before .before .before .before .before .before .before .before .before in
+    linked three .connect .kept .1 .1 .1 .1 .1 .1 .1 .1 .1 .0
 
 same-length-16 : tie.Need-same-length-16
 same-length-16 c = c .before .before .before .before .place .kept .1 .1 .1 .1 .1 .0
@@ -234,12 +271,16 @@ returns-4 c =
     let at-hand = keyed (k .collect .ensures) (s .pre .0) (s .pre .1) (s .pre .2) (e .if1 .left) in
     let places = k .collect .last .1 .1 .1 .0 in
     let count = places-front (k .collect .ensures) (e .if1 .left) (s .pre .2) in
-    let placed = weighed-by (weighed l) (k .collect .result) (f .report-names .last .1 .1 .1 .1 .1 .1 .0) (a .placed .now) (done .place .ensures) places in
-    let clear = tested-none at-hand (l .connect .ensures) (s .pre .3 .rows-room) (f .report-names .ensures) places (a .placed .now) count
+    let placed = weighed-by (weighed l) (k .collect .result) (f .report-names .last .1 .1 .1 .1 .1 .1 .0)
+    (a .placed .now) (done .place .ensures) places in
+    let clear = tested-none at-hand (l .connect .ensures) (s .pre .3 .rows-room) (f .report-names .ensures) places
+    (a .placed .now) count
     (three .if3 .left) placed in
-    sheeted-few (k .collect .ensures) (a .lines .now) (a .bounds .now) (a .used .now) (a .faults .now) (a .rows .now) (a .placed .now)
+    sheeted-few (k .collect .ensures) (a .lines .now) (a .bounds .now) (a .used .now) (a .faults .now) (a .rows .now)
+    (a .placed .now)
     (e .if1 .left)
-    (distinct-none at-hand (d .report-doubles .ensures) (lent places (a .rows .now) (a .placed .now)) (two .if2 .left) clear)
+    (distinct-none at-hand (d .report-doubles .ensures) (lent places (a .rows .now) (a .placed .now))
+    (two .if2 .left) clear)
 
 pub run-spec : {M : Type 1} → statement M
 run-spec =
