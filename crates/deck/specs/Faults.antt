@@ -19,11 +19,6 @@ pub data Flaw : Type 0 where
   none : Flaw
   flaw : ℕ → Place → Flaw
 
--- the first flaw of two
-abbrev pub or-else : Flaw → Flaw → Flaw
-or-else none g = g
-or-else (flaw c p) g = flaw c p
-
 -- one of the lines has more than cardBytes bytes, byte 10 aside
 unfoldable pub anyLong : List Line → Bool
 anyLong [] = false

@@ -20,6 +20,7 @@ pub record Reserved : Type 0 where
 abbrev pub spelled : String → Word → Reserved
 spelled s w = record { spelling = bytes s; means = w }
 
+-- the list of them
 abbrev pub reserved : List Reserved
 reserved =
     spelled "CONST" CONST
