@@ -8,6 +8,7 @@ use native.Mathlib.Nat.{add-zero, zero-add}
 use native.Mathlib.Numerals.{add-one}
 use lib.ListN.{length, take, drop, set, length-append, length-map}
 use lib.Seq.{sets, sets-eq, take-at, take-suc-set, length-take-le}
+use Rattle.limits.specs.Limits.{faultBytes}
 use Rattle.laws.specs.Lists.{concat-map}
 use Rattle.laws.proofs.Lists.{concat-append}
 use Rattle.laws.proofs.Concats.{map-append}
@@ -157,7 +158,7 @@ module _ {text list₀ kinds args lines bounds list : List ℕ} {c : Cursor} {n 
   -- it has a fault: what is held stays, and the fault is listed behind those before it
   pub progress-faulty : (code : ℕ) (q : Place) → told (cardsAt text s k) d ≡ faulty code q → (kinds′ args′ list′ : List ℕ)
       → take (n .drafts) kinds′ ≡ take (n .drafts) kinds → take (n .drafts) args′ ≡ take (n .drafts) args
-      → list′ ≡ sets list (n .faults * 4) (lowBytes 2 f ++ (code ∷ 0 ∷ []))
+      → list′ ≡ sets list (n .faults * faultBytes) (lowBytes 2 f ++ (code ∷ 0 ∷ []))
       → Progress text list₀ nx (record { statements = n .statements; drafts = n .drafts; faults = n .faults + 1 }) kinds′ args′ lines bounds list′
   unfolding here concat-map faultEntry
   progress-faulty code q e kinds′ args′ list′ hk ha hl =
@@ -166,7 +167,7 @@ module _ {text list₀ kinds args lines bounds list : List ℕ} {c : Cursor} {n 
       let new : Fault = record { line = f; code = code; place = q } in
       let more : statementFaults done ≡ old ++ (new ∷ []) = faults-snoc (p .done) (here (faulty code q)) in
       let same : said done ≡ said (p .done) = said-snoc (p .done) (here (faulty code q)) ∙ append-nil (said (p .done)) in
-      let at : n .faults * 4 ≡ 0 + length (faultList old) = omega (arith, p .faults, list-length old) in
+      let at : n .faults * faultBytes ≡ 0 + length (faultList old) = omega (arith, p .faults, list-length old) in
       record {
         done = done;
         split = split-next e;

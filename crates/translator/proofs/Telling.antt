@@ -7,6 +7,7 @@ use native.Mathlib.Omega.{arith}
 use borrow.Author.Tests.{ne-eqb}
 use lib.ListN.{length, take, set, length-map}
 use lib.Seq.{sets}
+use Rattle.limits.specs.Limits.{faultBytes}
 use Rattle.laws.proofs.Sets.{sets-back}
 use Rattle.deck.specs.Lines.{Line}
 use Rattle.deck.specs.Faults.{Place, at-start, at-token, at-end, Flaw, flaw, sizeFlaw}
@@ -125,7 +126,7 @@ module _ {t : Told} {l u l′ u′ : List ℕ} {r : Answer} (n : Tally) (w : Tel
       go (faulty c q) (a, b, d) = absurd (let z : _≡_ {A = ℕ} 0 1 = cc in omega arith)
 
   -- where it has a fault, that is listed
-  pub adds-faulty : {code : ℕ} (first : ℕ) (ls bs fs fs′ : List ℕ) → r ≡ Faulty code → fs′ ≡ sets fs (n .faults * 4) (entryOf first code)
+  pub adds-faulty : {code : ℕ} (first : ℕ) (ls bs fs fs′ : List ℕ) → r ≡ Faulty code → fs′ ≡ sets fs (n .faults * faultBytes) (entryOf first code)
       → Adds t first n l u ls bs fs (record { statements = n .statements; drafts = n .drafts; faults = n .faults + 1 }) l′ u′ ls bs fs′
   adds-faulty {code} first ls bs fs fs′ e f = record { long-kinds = w .long-kinds; long-args = w .long-args; by-told = go t (w .by-told) }
     where
@@ -134,4 +135,4 @@ module _ {t : Told} {l u l′ u′ : List ℕ} {r : Answer} (n : Tally) (w : Tel
       go (says x) (a, b, c) = absurd (let z : _≡_ {A = ℕ} 0 1 = cc in omega arith)
       go (faulty c q) (a, b, d) =
           let k : code ≡ c = cc in
-          (refl, b, d, refl, refl, f ∙ ap (λ (c : ℕ). sets fs (n .faults * 4) (entryOf first c)) k)
+          (refl, b, d, refl, refl, f ∙ ap (λ (c : ℕ). sets fs (n .faults * faultBytes) (entryOf first c)) k)

@@ -6,7 +6,7 @@ use mathlib.Core.List.{List, [], _∷_, _++_, map}
 use lib.Dec.{ltb}
 use lib.ListN.{length, take, drop, set, replicate}
 use lib.Seq.{sets}
-use Rattle.limits.specs.Limits.{mostStatements, mostDefinitions, textBytes, faultRoom}
+use Rattle.limits.specs.Limits.{mostStatements, mostDefinitions, textBytes, faultRoom, faultBytes}
 use Rattle.deck.specs.declared.Cursor.{Cursor}
 use Rattle.bits.specs.Low.{lowBytes}
 use Rattle.deck.specs.Lines.{Line}
@@ -89,7 +89,7 @@ pub record Before (text : List ℕ) (start cards next code : ℕ) (ks us : List 
   pub room-kinds : p + length (joined (cardsAt text start cards)) ≤ length l
   pub room-args : p + length (joined (cardsAt text start cards)) ≤ length u
 
--- a fault's four bytes
+-- a fault's bytes: its line, its code, 0
 abbrev pub entryOf : ℕ → ℕ → List ℕ
 entryOf line code = lowBytes 2 line ++ (code ∷ 0 ∷ [])
 
@@ -121,7 +121,7 @@ AddsOf (faulty c q) first n l u ls bs fs r l′ u′ ls′ bs′ fs′ =
     × (take (n .drafts) u′ ≡ take (n .drafts) u)
     × (ls′ ≡ ls)
     × (bs′ ≡ bs)
-    × (fs′ ≡ sets fs (n .faults * 4) (entryOf first c))
+    × (fs′ ≡ sets fs (n .faults * faultBytes) (entryOf first c))
 
 -- by what was told, and by what stands in the buffers before and after
 pub record Adds (t : Told) (first : ℕ) (n : Tally) (l u ls bs fs : List ℕ) (r : Tally) (l′ u′ ls′ bs′ fs′ : List ℕ) : Type 0 where

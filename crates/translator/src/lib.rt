@@ -4,6 +4,7 @@ ghost use mathlib.Core.Bool.{Bool};
 ghost use mathlib.Core.List.{List};
 ghost use Prim.Native.Nat.{_*_, _<_};
 ghost use lib.Seq.{sets};
+ghost use Rattle.limits.specs.Limits.{faultBytes};
 ghost use Rattle.tokens.specs.Held.{heldRow};
 ghost use Rattle.tokens.specs.Row.{Placed, symbols, rowOf};
 ghost use Rattle.grammar.specs.Parser.{readRow};
@@ -20,6 +21,7 @@ mod room;
 use deck::Cursor;
 use deck::Found;
 use grammar::Parsed;
+use limits::FAULT_BYTES;
 use limits::FAULT_ROOM;
 use limits::STATEMENTS;
 use limits::TEXT_BYTES;
@@ -138,9 +140,10 @@ fn read_statement(
 // Writes a fault to the list, behind so many others.
 fn put_fault(list: &mut [u8], count: usize, line: usize, code: u8)
     requires { ⌜ (line < 65536) × (count < 65536) ⌝ }
-    ensures { λ _. ⌜ now (list .exit) ≡ sets (now (list .entry)) (count * 4) (entryOf line code) ⌝ }
+    ensures { λ _. ⌜ now (list .exit) ≡ sets (now (list .entry)) (count * faultBytes) (entryOf line code) ⌝ }
 {
-    bits::put_low(list, count * 4, 4, line as u64 + 65536 * code as u64);
+    let value = line as u64 + 65536 * code as u64;
+    bits::put_low(list, count * FAULT_BYTES, FAULT_BYTES, value);
 }
 
 // ---- all statements
