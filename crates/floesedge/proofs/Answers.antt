@@ -1,4 +1,5 @@
--- How large an answer is: its number is at most 4, its record number at most 4,096; so both keep their value in their fixed layout.
+-- How large an answer is: its number is at most 4, its record number that of a record; so both keep their value in their fixed
+-- layout.
 use Prim.Native.Nat.{ℕ, zero, suc, _+_, _/_, _%_, _≤_}
 use mathlib.Core.Path.{_≡_, refl, ap, _∙_}
 use mathlib.Core.Bool.{not, cond, _&&_, _||_}
@@ -16,12 +17,12 @@ use Rattle.records.specs.Record.{decodeFrom, decoded}
 use Rattle.translator.specs.declared.Verdict.{Verdict}
 use Rattle.translator.specs.declared.Verdict.the-variants.{Faulty, Translated}
 use Rattle.translator.specs.Contract.{numberIn, countIn, Translates}
-use Rattle.floesedge.specs.declared.Verdict.{Verdict as Given}
-use Rattle.floesedge.specs.Contract.{Translates as Gives}
-use Rattle.translator.specs.Verdict.{Outcome as Translation, translation, verdictOf, countOf}
+use Rattle.floesedge.specs.declared.Verdict.{Verdict as CVerdict}
+use Rattle.floesedge.specs.Contract.{Translates as Translates′}
+use Rattle.translator.specs.Verdict.{Translation, translation, verdictOf, countOf}
 use Rattle.translator.proofs.Counted.{few, count-few}
 use Rattle.translator.proofs.Verdicts.{by-number}
-use Rattle.evaluator.specs.Judge.{Judge, Verdict as Told, verdict, good, judged, anyOpen, judgeFrom}
+use Rattle.evaluator.specs.Judge.{Judge, Verdict as Refusal, verdict, good, judged, anyOpen, judgeFrom}
 use Rattle.evaluator.specs.Evaluate.{Outcome, outcome, refusal, evaluated, started, stepped}
 use Rattle.evaluator.specs.Contract.{told, Evaluated, Started, Stepped}
 use Rattle.evaluator.specs.declared.Answer.{Answer}
@@ -37,7 +38,7 @@ count-small text f p f′ p′ r e =
 -- ---- the answers of the judge
 
 -- number at most 4, record number at most n
-abbrev Small : ℕ → Told → Type 0
+abbrev Small : ℕ → Refusal → Type 0
 Small n a = (a .number ≤ 4) × (a .place ≤ n)
 
 judge-small : (n i : ℕ) (j : Judge) (xs : List Instr) → i + length xs ≤ n → Small n (judgeFrom i j xs)
@@ -66,14 +67,14 @@ refusal-small p v d =
     judge-small mostRecords 0 _ (decoded p) (omega (arith, h, decode-many p 0 n))))
 
 -- with or without refusal the answer is the refusal's
-answer-kept : (a : Told) (v d v′ d′ : List Float) → cond (eqb (a .number) 0) (outcome a v′ d′) (outcome a v d) .answer ≡ a
+answer-kept : (a : Refusal) (v d v′ d′ : List Float) → cond (eqb (a .number) 0) (outcome a v′ d′) (outcome a v d) .answer ≡ a
 answer-kept a v d v′ d′ =
     cond-ind (λ (o : Outcome). o .answer ≡ a) (eqb (a .number) 0) (outcome a v′ d′) (outcome a v d) (λ _. refl) (λ _. refl)
 
 small-by : (p : List ℕ) (v d : List Float) (r : Answer) → told r ≡ refusal p v d → (r .number ≤ 4) × (r .place ≤ mostRecords)
 small-by p v d r e =
     let s = refusal-small p v d in
-    (omega (arith, ap (λ (a : Told). a .number) e, s .0), omega (arith, ap (λ (a : Told). a .place) e, s .1))
+    (omega (arith, ap (λ (a : Refusal). a .number) e, s .0), omega (arith, ap (λ (a : Refusal). a .place) e, s .1))
 
 module _ {p : List ℕ} {v d : List Float} {r : Answer} {v′ d′ : List Float} where
   pub evaluated-small : Evaluated p v d r v′ d′ → (r .number ≤ 4) × (r .place ≤ mostRecords)
@@ -89,8 +90,8 @@ module _ {p : List ℕ} {v d : List Float} {r : Answer} {v′ d′ : List Float}
   stepped-small h w = small-by p v d r (ap (λ (o : Outcome). o .answer) (w .meets) ∙ answer-kept (refusal p v d) v d _ _)
 
 -- ---- the same answer in its fixed layout
-pub same-translation : (text f p f′ p′ : List ℕ) (r : Verdict) (v : Given) → Translates text f p r f′ p′ → v .number ≡ numberIn r → v .count ≡ countIn r
-    → Gives text f p v f′ p′
+pub same-translation : (text f p f′ p′ : List ℕ) (r : Verdict) (v : CVerdict) → Translates text f p r f′ p′ → v .number ≡ numberIn r → v .count ≡ countIn r
+    → Translates′ text f p v f′ p′
 same-translation text f p f′ p′ r v e n c = rw (n, c) (by-number text f p e)
 
 -- the count of each case

@@ -3,7 +3,7 @@ use Prim.Native.Nat.{ℕ}
 use mathlib.Core.Path.{_≡_}
 use mathlib.Core.List.{List}
 use lib.Ieee.{Float}
-use Rattle.translator.specs.Verdict.{Outcome, translation}
+use Rattle.translator.specs.Verdict.{Translation, translation}
 use Rattle.evaluator.specs.Judge.{verdict}
 use Rattle.evaluator.specs.Evaluate.{outcome, evaluated, started, stepped}
 use Rattle.floesedge.specs.declared.Verdict.{Verdict}
@@ -11,7 +11,8 @@ use Rattle.floesedge.specs.declared.Answer.{Answer}
 
 -- from a text and the lent buffers f and p: number, count and the buffers f′ and p′ are those of the translation
 abbrev pub Translates : List ℕ → List ℕ → List ℕ → Verdict → List ℕ → List ℕ → Type 0
-Translates text f p r f′ p′ = _≡_ {A = Outcome} (record { number = r .number; count = r .count; faults = f′; program = p′ }) (translation text f p)
+Translates text f p r f′ p′ =
+    _≡_ {A = Translation} (record { number = r .number; count = r .count; faults = f′; program = p′ }) (translation text f p)
 
 -- on program p, with values v and derivatives d lent: number, record and what the buffers then hold
 abbrev pub Evaluates : List ℕ → List Float → List Float → Answer → List Float → List Float → Type 0

@@ -1,6 +1,7 @@
 // The library that other languages link: the translator and the evaluator with answers of fixed layout.
 ghost use mathlib.Core.Path.{_≡_};
 ghost use Prim.Native.Nat.{_≤_};
+ghost use Rattle.limits.specs.Limits.{mostRecords};
 ghost use Rattle.translator.specs.Contract.{numberIn, countIn};
 ghost use Rattle.floesedge.specs.Contract.{Translates, Evaluates, Starts, Steps};
 
@@ -19,8 +20,8 @@ pub struct Answer {
 }
 
 // A verdict in its fixed layout.
-fn given(v: translator::Verdict) -> Verdict
-    requires { ⌜ countIn v ≤ 4096 ⌝ }
+fn fixed_verdict(v: translator::Verdict) -> Verdict
+    requires { ⌜ countIn v ≤ mostRecords ⌝ }
     ensures { λ r. ⌜ (r .number ≡ numberIn v) × (r .count ≡ countIn v) ⌝ }
 {
     match v {
@@ -44,12 +45,12 @@ fn given(v: translator::Verdict) -> Verdict
 pub extern "C" fn floesedge_translate(text: &[u8], faults: &mut [u8], program: &mut [u8]) -> Verdict
     ensures { λ r. ⌜ Translates (now (text .entry)) (now (faults .entry)) (now (program .entry)) r (now (faults .exit)) (now (program .exit)) ⌝ }
 {
-    given(translator::translate(text, faults, program))
+    fixed_verdict(translator::translate(text, faults, program))
 }
 
 // An answer in its fixed layout.
-fn told(a: evaluator::Answer) -> Answer
-    requires { ⌜ (a .number ≤ 4) × (a .place ≤ 4096) ⌝ }
+fn fixed_answer(a: evaluator::Answer) -> Answer
+    requires { ⌜ (a .number ≤ 4) × (a .place ≤ mostRecords) ⌝ }
     ensures { λ r. ⌜ (r .number ≡ a .number) × (r .record ≡ a .place) ⌝ }
 {
     Answer {
@@ -67,7 +68,7 @@ pub extern "C" fn floesedge_evaluate(
 ) -> Answer
     ensures { λ r. ⌜ Evaluates (now (program .entry)) (now (values .entry)) (now (derivs .entry)) r (now (values .exit)) (now (derivs .exit)) ⌝ }
 {
-    told(evaluator::evaluate(program, values, derivs))
+    fixed_answer(evaluator::evaluate(program, values, derivs))
 }
 
 // Starts a program: slot 0 is 0, and each state has its initial value.
@@ -75,7 +76,7 @@ pub extern "C" fn floesedge_evaluate(
 pub extern "C" fn floesedge_start(program: &[u8], values: &mut [f64], derivs: &mut [f64]) -> Answer
     ensures { λ r. ⌜ Starts (now (program .entry)) (now (values .entry)) (now (derivs .entry)) r (now (values .exit)) (now (derivs .exit)) ⌝ }
 {
-    told(evaluator::start(program, values, derivs))
+    fixed_answer(evaluator::start(program, values, derivs))
 }
 
 // One Euler step of h: evaluates, then moves each state and slot 0.
@@ -88,5 +89,5 @@ pub extern "C" fn floesedge_step(
 ) -> Answer
     ensures { λ r. ⌜ Steps (now (program .entry)) h (now (values .entry)) (now (derivs .entry)) r (now (values .exit)) (now (derivs .exit)) ⌝ }
 {
-    told(evaluator::step(program, h, values, derivs))
+    fixed_answer(evaluator::step(program, h, values, derivs))
 }

@@ -12,7 +12,7 @@ use Rattle.sheet.specs.Sheet.{faultList}
 use Rattle.model.proofs.FaultsListed.{list-length}
 use Rattle.records.specs.Record.{programBytes}
 use Rattle.translator.specs.Verdict.{Verdict, refused, faulty, translated, verdictOf}
-use Rattle.translator.specs.Verdict.{numberOf, countOf, faultsAfter, programAfter, Outcome, translation}
+use Rattle.translator.specs.Verdict.{numberOf, countOf, faultsAfter, programAfter, Translation, translation}
 use Rattle.translator.specs.declared.Verdict.{Verdict as Answer}
 use Rattle.translator.specs.Contract.{numberIn, countIn, Translates}
 use Rattle.translator.proofs.Deciding.{length-program}
@@ -49,14 +49,14 @@ module _ (text f p : List ℕ) (room-faults : faultRoom ≤ length f) (room-prog
     -- the count is small
     count-of : countIn r ≤ mostRecords
     unfolding translation
-    count-of = rw (ap (λ (o : Outcome). o .count) (by-number text f p e)) (count-few verdict (few text (length f) (length p)))
+    count-of = rw (ap (λ (o : Translation). o .count) (by-number text f p e)) (count-few verdict (few text (length f) (length p)))
 
     -- and what is written of that is what is listed
     listed-of : written (numberIn r) (countIn r) f′ p′ ≡ listed verdict
     unfolding translation
     listed-of =
         let o = by-number text f p e in
-        rw (ap (λ (x : Outcome). x .number) o, ap (λ (x : Outcome). x .count) o, ap (λ (x : Outcome). x .faults) o, ap (λ (x : Outcome). x .program) o)
+        rw (ap (λ (x : Translation). x .number) o, ap (λ (x : Translation). x .count) o, ap (λ (x : Translation). x .faults) o, ap (λ (x : Translation). x .program) o)
         (written-of verdict refl (fair text (length f) (length p)))
 
 -- ---- the bytes that are lent

@@ -14,7 +14,7 @@ use Rattle.evaluator.specs.Evaluate.{Outcome as RunOutcome, outcome}
 use Rattle.evaluator.specs.Contract.{told}
 use Rattle.evaluator.specs.Judge.{verdict}
 use Rattle.translator.specs.Contract.{Reply}
-use Rattle.translator.specs.Verdict.{Outcome}
+use Rattle.translator.specs.Verdict.{Translation}
 use Rattle.tally.specs.declared.Tally.{Tally}
 use Rattle.floesedge.specs.declared.Answer.{Answer as CAnswer}
 use Rattle.floesedge.specs.declared.Verdict.{Verdict as CVerdict}
@@ -162,9 +162,9 @@ library =
     record {
       translate = λ text f p r s a b c d x y.
           let h = x ∙ sym y in
-          let n : r .number ≡ s .number = ap (λ (o : Outcome). o .number) h in
-          let k : r .count ≡ s .count = ap (λ (o : Outcome). o .count) h in
-          (ap₂ (λ (i j : ℕ). record { number = i; count = j }) n k, ap (λ (o : Outcome). o .faults) h, ap (λ (o : Outcome). o .program) h);
+          let n : r .number ≡ s .number = ap (λ (o : Translation). o .number) h in
+          let k : r .count ≡ s .count = ap (λ (o : Translation). o .count) h in
+          (ap₂ (λ (i j : ℕ). record { number = i; count = j }) n k, ap (λ (o : Translation). o .faults) h, ap (λ (o : Translation). o .program) h);
       evaluate = λ p v d r s a b c e x y. library-runs r s a b c e (x ∙ sym y);
       start = λ p v d r s a b c e x y. library-runs r s a b c e (x ∙ sym y);
       step = λ p h v d r s a b c e x y. library-runs r s a b c e (x ∙ sym y);

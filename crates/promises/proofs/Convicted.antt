@@ -15,7 +15,7 @@ use Rattle.model.proofs.FaultsListed.{list-length}
 use Rattle.translator.specs.declared.Verdict.{Verdict}
 use Rattle.translator.specs.declared.Verdict.the-variants.{Refused, Faulty, Translated}
 use Rattle.translator.specs.Contract.{numberIn, countIn, Translates}
-use Rattle.translator.specs.Verdict.{verdictOf, Outcome, translation}
+use Rattle.translator.specs.Verdict.{verdictOf, Translation, translation}
 use Rattle.translator.proofs.Counted.{faults-few}
 use Rattle.translator.proofs.Verdicts.{by-number}
 use Rattle.promises.specs.Change.{textOf, Change, Admitted, closedSheet, faultsOf, Answered}
@@ -34,15 +34,15 @@ pub answered : (text f p f′ p′ : List ℕ) (r : Verdict) → faultRoom ≤ l
 answered text f p f′ p′ r room ok x xs e t =
     let o = by-number text f p t ∙ convicts text f p room ok x xs e in
     let fs : List Fault = x ∷ xs in
-    let written : f′ ≡ sets f 0 (faultList fs) = ap (λ (z : Outcome). z .faults) o in
+    let written : f′ ≡ sets f 0 (faultList fs) = ap (λ (z : Translation). z .faults) o in
     let few = faults-few (sheetOf text) in
     let most = ltb-false mostStatements (length (sheetOf text)) (sizes text (length f) (length p) room ok .2) in
     let long = list-length fs in
     let fits : 0 + length (faultList fs) ≤ length f = omega (arith, ap length e) in
     record {
-      answer = is-faulty r (length xs) (ap (λ (z : Outcome). z .number) o) (ap (λ (z : Outcome). z .count) o);
+      answer = is-faulty r (length xs) (ap (λ (z : Translation). z .number) o) (ap (λ (z : Translation). z .count) o);
       listed = rw (written, ← long) (sets-back f 0 (faultList fs) fits);
-      untouched = ap (λ (z : Outcome). z .program) o;
+      untouched = ap (λ (z : Translation). z .program) o;
     }
 
 -- a fault that stands before the change gives both texts verdict 5
@@ -54,6 +54,6 @@ both-convicted pre old new post f p c room ok ok′ x xs e =
     let w = local pre old new post f p c room ok ok′ in
     let b = w .front .faults in
     let all : (rest : List Fault) → statementFaults (closedSheet pre) ++ rest ≡ x ∷ (xs ++ rest) = λ rest. ap (λ (fs : List Fault). fs ++ rest) e in (
-      ap (λ (z : Outcome). z .number) (w .verdict-old x (xs ++ b .rest-old) (b .old ∙ all (b .rest-old))),
-      ap (λ (z : Outcome). z .number) (w .verdict-new x (xs ++ b .rest-new) (b .new ∙ all (b .rest-new))),
+      ap (λ (z : Translation). z .number) (w .verdict-old x (xs ++ b .rest-old) (b .old ∙ all (b .rest-old))),
+      ap (λ (z : Translation). z .number) (w .verdict-new x (xs ++ b .rest-new) (b .new ∙ all (b .rest-new))),
     )

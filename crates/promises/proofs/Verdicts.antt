@@ -17,7 +17,7 @@ use Rattle.model.specs.Definitions.{definitions}
 use Rattle.model.specs.Faults.{modelFaults, orderOf}
 use Rattle.model.specs.Text.{textDefinitions, lineAt}
 use Rattle.program.specs.Program.{program}
-use Rattle.translator.specs.Verdict.{Verdict, refused, faulty, translated, ifFaults, modelled, judged, verdictOf, numberOf, outcomeOf, translation}
+use Rattle.translator.specs.Verdict.{Verdict, refused, faulty, translated, ifFaults, modelled, judged, verdictOf, numberOf, translationOf, translation}
 use Rattle.promises.specs.Change.{Admitted, faultsOf, Convicts}
 
 -- a test that would give another number fails
@@ -52,7 +52,7 @@ pub convicts : (text f p : List ℕ) → faultRoom ≤ length f → Admitted (ve
 unfolding translation
 convicts text f p room ok x xs e =
     let v = by-faults text (length f) (length p) room ok ∙ ap (λ (fs : List Fault). ifFaults 5 fs (modelled (length p) (said (sheetOf text)))) e in
-    ap (λ (w : Verdict). outcomeOf w f p) v
+    ap (λ (w : Verdict). translationOf w f p) v
 
 -- the model gives no 5
 model-number : (room : ℕ) (ss : List Numbered) → numberOf (modelled room ss) ≡ 5 → ⊥

@@ -5,7 +5,7 @@ use mathlib.Core.List.{List}
 use lib.ListN.{take}
 use lib.Ieee.{Float}
 use Rattle.limits.specs.Limits.{recordBytes}
-use Rattle.translator.specs.Verdict.{Outcome as Translation}
+use Rattle.translator.specs.Verdict.{Translation}
 use Rattle.evaluator.specs.Judge.{verdict}
 use Rattle.evaluator.specs.Evaluate.{Outcome}
 use Rattle.model.specs.Text.{textDefinitions}

@@ -1,5 +1,5 @@
 -- How large a count is: at most one fault for each statement, so that the list holds them all, and no more records than there may be.
-use Prim.Native.Nat.{ℕ, zero, suc, _/_, _≤_}
+use Prim.Native.Nat.{ℕ, zero, suc, _+_, _/_, _≤_}
 use mathlib.Core.Path.{_≡_, refl, ap}
 use mathlib.Core.Bool.{Bool, true, false, _||_}
 use mathlib.Core.List.{List, [], _∷_, _++_}
@@ -87,23 +87,24 @@ model-few ss m h k =
     either (x ∷ f) g a b = a
 
 -- ---- the statements' faults, and what is said
-pub faults-few : (sheet : Sheet) → length (statementFaults sheet) ≤ length sheet
-faults-few sheet = concat-few _ (λ r. one (r .line) (r .what)) sheet
-  where
-    one : (l : ℕ) (t : Told) → length (faultBy l t) ≤ 1
-    one l (says x) = omega arith
-    one l (faulty c p) = omega arith
 
-said-few : (sheet : Sheet) → length (said sheet) ≤ length sheet
-said-few sheet = concat-few _ (λ r. one (r .line) (r .what)) sheet
+-- each report is a statement without fault, or a fault
+pub counts : (done : Sheet) → length (said done) + length (statementFaults done) ≡ length done
+unfolding concat-map
+counts [] = refl
+counts (r ∷ done) = go (r .what) (counts done)
   where
-    one : (l : ℕ) (t : Told) → length (saidBy l t) ≤ 1
-    one l (says x) = omega arith
-    one l (faulty c p) = omega arith
+    go : (t : Told) → length (said done) + length (statementFaults done) ≡ length done
+        → length (saidBy (r .line) t ++ said done) + length (faultBy (r .line) t ++ statementFaults done) ≡ suc (length done)
+    go (says x) h = omega arith
+    go (faulty c q) h = omega arith
+
+pub faults-few : (sheet : Sheet) → length (statementFaults sheet) ≤ length sheet
+faults-few sheet = omega (arith, counts sheet)
 
 -- ---- the verdict
 
--- faults are at most one for each of 256 statements, and records at most 4,096
+-- faults are at most one for each statement, and records as many as there may be
 abbrev Few : Verdict → Type 0
 Few (refused n) = Unit {0}
 Few (flawed n fs) = length fs ≤ mostStatements
@@ -131,7 +132,8 @@ few-judged room sheet =
     cond-ind Few (ltb mostStatements (length sheet)) (refused 4) _ (λ _. tt)
     (λ e.
     let h = ltb-false mostStatements (length sheet) e in
-    few-if 5 (statementFaults sheet) _ (omega (arith, h, faults-few sheet)) (few-modelled room (said sheet) (omega (arith, h, said-few sheet))))
+    few-if 5 (statementFaults sheet) _ (omega (arith, h, faults-few sheet))
+    (few-modelled room (said sheet) (omega (arith, h, counts sheet))))
 
 -- FEW: of every text, with whatever room
 pub few : (text : List ℕ) (faults room : ℕ) → Few (verdictOf text faults room)
@@ -141,7 +143,7 @@ few text faults room =
     (λ _. cond-ind Few (ltb textBytes (length text)) (refused 2) _ (λ _. tt)
     (λ _. cond-ind Few (ltb textLines (length (linesOf text))) (refused 3) _ (λ _. tt) (λ _. few-judged room (sheetOf text))))
 
--- the count is at most 4,096
+-- the count is at most that of the most records
 pub count-few : (v : Verdict) → Few v → countOf v ≤ mostRecords
 count-few (refused n) h = omega arith
 count-few (flawed n fs) h = omega arith

@@ -27,7 +27,7 @@ use Rattle.translator.specs.Verdict.{programmed, modelled}
 use Rattle.translator.specs.Contract.{reply, replyOf}
 use Rattle.translator.proofs.Concluding.{soundPlan, Conclusion, many, flawed, sound}
 
--- a record has 16 bytes
+-- the bytes of records
 pub length-program : (rs : List Rec) → length (programBytes rs) ≡ recordBytes * length rs
 unfolding programBytes concat-map recBytes lowBytes
 length-program [] = refl

@@ -8,6 +8,7 @@ use native.Mathlib.Nat.{add-zero, zero-add}
 use native.Mathlib.Numerals.{add-one}
 use lib.ListN.{length, take, drop, set, length-append, length-map}
 use lib.Seq.{sets, sets-eq, take-at, take-suc-set, length-take-le}
+use Rattle.limits.specs.Limits.{faultBytes}
 use Rattle.laws.specs.Lists.{concat-map}
 use Rattle.laws.proofs.Lists.{concat-append}
 use Rattle.laws.proofs.Concats.{map-append}
@@ -20,7 +21,6 @@ use Rattle.deck.specs.declared.Cursor.{Cursor}
 use Rattle.deck.proofs.Walking.{Walk}
 use Rattle.drafts.specs.Tree.{Says}
 use Rattle.drafts.specs.Drafts.{Draft, draftsOf}
-use Rattle.limits.specs.Limits.{faultBytes}
 use Rattle.sheet.specs.Sheet.{Told, says, faulty, Sheet, Numbered, said, Fault, statementFaults, entryOf, faultEntry, faultList}
 use Rattle.sheet.specs.Reader.{told, sheetOf}
 use Rattle.sheet.specs.Layout.{draftsIn, boundsFrom}

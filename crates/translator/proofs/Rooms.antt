@@ -7,7 +7,7 @@ use native.Mathlib.Omega.{arith}
 use native.Mathlib.Numerals.{add-one}
 use borrow.Author.Tests.{le-ltb}
 use lib.Dec.{ltb}
-use lib.ListN.{length, take, replicate, length-map, length-replicate}
+use lib.ListN.{length, take, replicate, length-map, length-take, length-replicate}
 use lib.Seq.{sets, length-sets}
 use Rattle.limits.specs.Limits.{mostStatements}
 use Rattle.laws.specs.Lists.{concat-map}
@@ -22,7 +22,7 @@ use Rattle.translator.specs.Contract.{reply, replyOf}
 use Rattle.translator.specs.Verdict.{ifFaults, modelled, judged}
 use Rattle.translator.specs.Working.{Read, Ready, Concludes, Taken, Room, Judges}
 use Rattle.translator.proofs.Fitting.{bounds-many, laid-fits}
-use Rattle.translator.proofs.Turns.{take-most, counts}
+use Rattle.translator.proofs.Counted.{counts}
 
 module _ {text list₀ kinds₀ args₀ lines₀ bounds₀ : List ℕ} (room : Room text list₀ kinds₀ args₀ lines₀ bounds₀)
     {n : Tally} {kinds args lines bounds list : List ℕ} (r : Read text list₀ n kinds args lines bounds list) where
@@ -72,10 +72,10 @@ module _ {text list₀ kinds₀ args₀ lines₀ bounds₀ : List ℕ} (room : R
   args-many = ap length (r .laid .args-held) ∙ length-map drafts (λ (d : Draft). d .arg) ∙ sym (r .drafts)
 
   pub kinds-enough : n .drafts ≤ length kinds
-  kinds-enough = omega (arith, kinds-many, take-most (n .drafts) kinds)
+  kinds-enough = omega (arith, kinds-many, length-take (n .drafts) kinds)
 
   pub args-enough : n .drafts ≤ length args
-  args-enough = omega (arith, args-many, take-most (n .drafts) args)
+  args-enough = omega (arith, args-many, length-take (n .drafts) args)
 
   pub bounds-laid : Laid (said (sheetOf text)) (take (n .drafts) kinds) (take (n .drafts) args) (take (n .statements) lines) (take (n .statements + 1) bounds)
   bounds-laid = rw add-one (r .laid)
@@ -84,13 +84,13 @@ module _ {text list₀ kinds₀ args₀ lines₀ bounds₀ : List ℕ} (room : R
   lines-many = ap length (r .laid .lines-held) ∙ length-map (said (sheetOf text)) (λ (s : Numbered). s .line) ∙ sym (r .statements)
 
   pub lines-enough : n .statements ≤ length lines
-  lines-enough = omega (arith, lines-many, take-most (n .statements) lines)
+  lines-enough = omega (arith, lines-many, length-take (n .statements) lines)
 
   pub bounds-count : length (take (n .statements + 1) bounds) ≡ n .statements + 1
   bounds-count = omega (arith, ap length (bounds-laid .bounds-held), bounds-many 0 (said (sheetOf text)), r .statements)
 
   pub bounds-enough : n .statements + 1 ≤ length bounds
-  bounds-enough = omega (arith, bounds-count, take-most (n .statements + 1) bounds)
+  bounds-enough = omega (arith, bounds-count, length-take (n .statements + 1) bounds)
 
   -- and all fits
   pub ready-so : {used : List ℕ} → length text ≤ length used

@@ -7,6 +7,7 @@ use native.Mathlib.Omega.{arith}
 use borrow.Author.Tests.{ne-eqb}
 use lib.ListN.{length, take, set, length-map}
 use lib.Seq.{sets}
+use Rattle.limits.specs.Limits.{faultBytes}
 use Rattle.laws.proofs.Sets.{sets-back}
 use Rattle.deck.specs.Lines.{Line}
 use Rattle.deck.specs.Faults.{Place, at-start, at-token, at-end, Flaw, flaw, sizeFlaw}
@@ -22,7 +23,6 @@ use Rattle.tokens.proofs.Answers.{ends-well, ends-badly}
 use Rattle.drafts.specs.Tree.{Says as Statement}
 use Rattle.drafts.specs.Drafts.{draftsOf}
 use Rattle.grammar.specs.Parser.{readRow}
-use Rattle.limits.specs.Limits.{faultBytes}
 use Rattle.sheet.specs.Sheet.{Told, says, faulty, entryOf}
 use Rattle.sheet.specs.Reader.{parsed, scanned, tokened, sized, told}
 use Rattle.translator.specs.declared.Told.{Told as Answer}

@@ -1,12 +1,11 @@
 -- One turn of reading after the other, in buffers that keep their lengths.
-use Prim.Native.Nat.{ℕ, zero, suc, _+_, _-_, _≤_, _<_}
+use Prim.Native.Nat.{ℕ, _+_, _-_, _≤_, _<_}
 use mathlib.Core.Path.{_≡_, refl, ap, _∙_}
 use mathlib.Core.Bool.{Bool, true, false}
 use mathlib.Core.List.{List, [], _∷_, _++_, map}
 use native.Mathlib.Omega.{arith}
-use lib.ListN.{length, take, replicate, length-append, length-set}
+use lib.ListN.{length, replicate, length-append, length-set}
 use lib.Seq.{length-sets}
-use Rattle.laws.specs.Lists.{concat-map}
 use Rattle.deck.specs.Joined.{joined}
 use Rattle.deck.specs.Reading.{Statement as Found}
 use Rattle.deck.specs.Codes.{sizeCode, joinedRoom}
@@ -15,30 +14,14 @@ use Rattle.deck.specs.Next.{foundFrom, statementsFrom, cardsAt}
 use Rattle.deck.specs.declared.Cursor.{Cursor}
 use Rattle.deck.specs.declared.Found.the-variants.{Statement, End}
 use Rattle.deck.proofs.Walking.{Walk, walk, walk-end}
-use Rattle.sheet.specs.Sheet.{Told, says, faulty, Sheet, saidBy, faultBy, said, statementFaults}
+use Rattle.sheet.specs.Sheet.{Told, says, faulty}
 use Rattle.sheet.specs.Reader.{told, sheetOf}
 use Rattle.translator.specs.declared.Tally.{Tally}
 use Rattle.translator.specs.Working.{Able, AddsOf, Adds, Progress, Room, Read}
+use Rattle.translator.proofs.Counted.{counts}
 use Rattle.translator.proofs.Parsing.{drafts-few}
 use Rattle.translator.proofs.Spans.{Span, span, alone, first-near}
 use Rattle.translator.proofs.Progress.{progress-first, progress-said, progress-faulty, progress-last}
-
--- a front is no longer than the list
-pub take-most : (n : ℕ) (l : List ℕ) → length (take n l) ≤ length l
-take-most zero l = omega arith
-take-most (suc n) [] = omega arith
-take-most (suc n) (x ∷ l) = omega (arith, take-most n l)
-
--- each report is a statement without fault, or a fault
-pub counts : (done : Sheet) → length (said done) + length (statementFaults done) ≡ length done
-unfolding concat-map
-counts [] = refl
-counts (r ∷ done) = go (r .what) (counts done)
-  where
-    go : (t : Told) → length (said done) + length (statementFaults done) ≡ length done
-        → length (saidBy (r .line) t ++ said done) + length (faultBy (r .line) t ++ statementFaults done) ≡ suc (length done)
-    go (says x) h = omega arith
-    go (faulty c q) h = omega arith
 
 -- a statement without fault for size is closed
 closed : (k : ℕ) (d long : Bool) → sizeCode k d long ≡ 0 → d ≡ true

@@ -15,8 +15,8 @@ use Rattle.deck.proofs.Tallies.{statements-le, lines-le}
 use Rattle.sheet.specs.Reader.{told, sheetOf}
 use Rattle.translator.specs.declared.Verdict.{Verdict}
 use Rattle.translator.specs.declared.Verdict.the-variants.{Refused}
-use Rattle.translator.specs.Contract.{Reply, outcome, replyOf, Translates, Gives}
-use Rattle.translator.specs.Verdict.{Verdict as Decision, refused, faulty, translated, judged, verdictOf, outcomeOf, translation}
+use Rattle.translator.specs.Contract.{Reply, byNumber, replyOf, Translates, Gives}
+use Rattle.translator.specs.Verdict.{Verdict as Decision, refused, faulty, translated, judged, verdictOf, translationOf, translation}
 use Rattle.translator.specs.Working.{Taken, Judges}
 
 -- a report for each statement
@@ -76,7 +76,8 @@ module _ (text f p : List ℕ) where
         says-judged r w = rw (enough, brief, lined) w
 
 -- the reply to a verdict has its number and count
-by-case : (v : Decision) (f p : List ℕ) → outcome (replyOf v f p .answer) (replyOf v f p .faults) (replyOf v f p .program) ≡ outcomeOf v f p
+by-case : (v : Decision) (f p : List ℕ)
+    → byNumber (replyOf v f p .answer) (replyOf v f p .faults) (replyOf v f p .program) ≡ translationOf v f p
 by-case (refused n) f p = refl
 by-case (faulty n fs) f p = refl
 by-case (translated rs ls) f p = refl
@@ -85,4 +86,4 @@ by-case (translated rs ls) f p = refl
 pub by-number : (text f p : List ℕ) {r : Verdict} {f′ p′ : List ℕ} → Translates text f p r f′ p′ → Gives text f p r f′ p′
 unfolding translation
 by-number text f p e =
-    ap (λ (x : Reply). outcome (x .answer) (x .faults) (x .program)) e ∙ by-case (verdictOf text (length f) (length p)) f p
+    ap (λ (x : Reply). byNumber (x .answer) (x .faults) (x .program)) e ∙ by-case (verdictOf text (length f) (length p)) f p

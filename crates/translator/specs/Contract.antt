@@ -6,7 +6,7 @@ use lib.ListN.{length}
 use Rattle.translator.specs.declared.Verdict.{Verdict}
 use Rattle.translator.specs.declared.Verdict.the-variants.{Refused, Faulty, Translated}
 use Rattle.translator.specs.Verdict.{Verdict as Decision, refused, faulty, translated, faultsAfter, programAfter, verdictOf}
-use Rattle.translator.specs.Verdict.{Outcome, translation}
+use Rattle.translator.specs.Verdict.{Translation, translation}
 
 -- ---- the paper's number and count for each case of the answer
 
@@ -43,8 +43,8 @@ abbrev pub Translates : List ℕ → List ℕ → List ℕ → Verdict → List 
 Translates text f p r f′ p′ = reply r f′ p′ ≡ replyOf (verdictOf text (length f) (length p)) f p
 
 -- ---- the same by number and count: all that the paper names (law `by-number`)
-abbrev pub outcome : Verdict → List ℕ → List ℕ → Outcome
-outcome v f p = record { number = numberIn v; count = countIn v; faults = f; program = p }
+abbrev pub byNumber : Verdict → List ℕ → List ℕ → Translation
+byNumber v f p = record { number = numberIn v; count = countIn v; faults = f; program = p }
 
 abbrev pub Gives : List ℕ → List ℕ → List ℕ → Verdict → List ℕ → List ℕ → Type 0
-Gives text f p r f′ p′ = outcome r f′ p′ ≡ translation text f p
+Gives text f p r f′ p′ = byNumber r f′ p′ ≡ translation text f p

@@ -26,7 +26,7 @@ abbrev pub ifFaults : ℕ → List Fault → Verdict → Verdict
 ifFaults n [] next = next
 ifFaults n (f ∷ fs) next = faulty n (f ∷ fs)
 
--- 8: records needed exceed 4,096 or the lent bytes divided by 16, rounded down; 0 otherwise
+-- 8: records needed exceed mostRecords or the lent bytes divided by recordBytes, rounded down; 0 otherwise
 abbrev pub fitted : ℕ → List Rec → List ℕ → Verdict
 fitted room rs ls = cond (ltb mostRecords (length rs) || ltb (room / recordBytes) (length rs)) (refused 8) (translated rs ls)
 
@@ -34,21 +34,21 @@ fitted room rs ls = cond (ltb mostRecords (length rs) || ltb (room / recordBytes
 abbrev pub programmed : ℕ → List Def → Verdict
 programmed room ds = fitted room (program ds (orderOf ds)) (map (λ (i : ℕ). equationAt ds i .line) (orderOf ds))
 
--- 6: over 255 definitions, doubles counted; 7: a model fault stands
+-- 6: over mostDefinitions definitions, doubles counted; 7: a model fault stands
 abbrev pub modelled : ℕ → List Numbered → Verdict
 modelled room ss =
     let next = programmed room (definitions ss) in
     let faults = ifFaults 7 (modelFaults ss) next in
     cond (ltb mostDefinitions (length (definitions ss))) (refused 6) faults
 
--- 4: over 256 statements; 5: a statement fault stands. By the sheet alone, whatever the reader was
+-- 4: over mostStatements statements; 5: a statement fault stands. By the sheet alone, whatever the reader was
 unfoldable pub judged : ℕ → Sheet → Verdict
 judged room sheet =
     let next = modelled room (said sheet) in
     let faults = ifFaults 5 (statementFaults sheet) next in
     cond (ltb mostStatements (length sheet)) (refused 4) faults
 
--- 1: lent fault list under 1,024 bytes; 2: text over 16,384 bytes; 3: over 512 lines
+-- 1: lent fault list under faultRoom bytes; 2: text over textBytes bytes; 3: over textLines lines
 unfoldable pub verdictOf : List ℕ → ℕ → ℕ → Verdict
 verdictOf text faults room =
     let next = judged room (sheetOf text) in
@@ -81,14 +81,14 @@ programAfter (faulty n fs) lent = lent
 programAfter (translated rs ls) lent = sets lent 0 (programBytes rs)
 
 -- ---- all that translating gives: number, count, and both lent buffers afterwards
-pub record Outcome : Type 0 where
+pub record Translation : Type 0 where
   pub number : ℕ
   pub count : ℕ
   pub faults : List ℕ
   pub program : List ℕ
 
-abbrev pub outcomeOf : Verdict → List ℕ → List ℕ → Outcome
-outcomeOf v f p = record { number = numberOf v; count = countOf v; faults = faultsAfter v f; program = programAfter v p }
+abbrev pub translationOf : Verdict → List ℕ → List ℕ → Translation
+translationOf v f p = record { number = numberOf v; count = countOf v; faults = faultsAfter v f; program = programAfter v p }
 
-unfoldable pub translation : List ℕ → List ℕ → List ℕ → Outcome
-translation text f p = outcomeOf (verdictOf text (length f) (length p)) f p
+unfoldable pub translation : List ℕ → List ℕ → List ℕ → Translation
+translation text f p = translationOf (verdictOf text (length f) (length p)) f p

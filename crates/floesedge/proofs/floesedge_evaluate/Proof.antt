@@ -4,15 +4,15 @@ use Rattle.floesedge.proofs.Answers.{evaluated-small}
 use Rattle.floesedge.proofs.floesedge_evaluate.Statement.{statement}
 use Rattle.floesedge.proofs.floesedge_evaluate.Tie as tie
 
-told-requires : tie.Need-told-requires
-told-requires c κs =
+fixed-answer-requires : tie.Need-fixed-answer-requires
+fixed-answer-requires c κs =
     let k = c .before .before .before .before in
     evaluated-small (k .evaluate .ensures)
 
 returns : tie.Need-returns
 returns c =
     let k = c .before .before .before .before .before in
-    rw (c .told .ensures .0, c .told .ensures .1) (k .evaluate .ensures .meets)
+    rw (c .fixed-answer .ensures .0, c .fixed-answer .ensures .1) (k .evaluate .ensures .meets)
 
 pub floesedge-evaluate-spec : {M : Type 1} → statement M
-floesedge-evaluate-spec = tie.close (tie.spec (λ c κs. search needs) told-requires (λ c. search needs) (λ c. search needs) returns)
+floesedge-evaluate-spec = tie.close (tie.spec (λ c κs. search needs) fixed-answer-requires (λ c. search needs) (λ c. search needs) returns)

@@ -1,8 +1,8 @@
 -- Each case by itself; the counts are small.
 use borrow.Author.Needs.{needs}
 use Rattle.floesedge.proofs.Answers.{faulty-count, translated-count}
-use Rattle.floesedge.proofs.given.Statement.{statement}
-use Rattle.floesedge.proofs.given.Tie as tie
+use Rattle.floesedge.proofs.fixed_verdict.Statement.{statement}
+use Rattle.floesedge.proofs.fixed_verdict.Tie as tie
 
 cast-t9 : tie.Need-cast-t9
 cast-t9 c =
@@ -14,8 +14,8 @@ cast-t10 c =
     let few = translated-count (c .before .v3 .given .1) (c .before .before .before .pre) in
     search (needs, few)
 
-pub given-spec : {M : Type 1} → statement M
-given-spec =
+pub fixed-verdict-spec : {M : Type 1} → statement M
+fixed-verdict-spec =
     tie.close
     (tie.spec
     (λ c. search needs)
