@@ -1,41 +1,23 @@
 -- What the judge has accepted is sound.
 use Prim.Native.Nat.{ℕ, zero, suc, _+_, _-_, _*_, _/_, _<_}
-use mathlib.Core.Path.{_≡_, _∙_}
+use mathlib.Core.Path.{_≡_, refl, _∙_}
 use mathlib.Core.Bool.{true}
 use mathlib.Core.List.{List, _∷_}
 use native.Mathlib.Omega.{arith}
 use borrow.Author.Tests.{leb-true}
-use lib.Dec.{leb, lit<}
+use lib.Dec.{leb}
 use lib.ListN.{length}
 use Rattle.limits.specs.Limits.{slots, stackPlaces, recordBytes}
-use Rattle.laws.proofs.Tests.{cond-ind, and-true}
+use Rattle.laws.proofs.Tests.{not-both, cond-ind, and-true}
 use Rattle.records.specs.declared.Instr.{Instr}
-use Rattle.records.specs.declared.Instr.the-variants.{Constant, Initial, Value, Slot, Add, Sub, Mul, Div, Neg, Insw, Limit, Compar, Store, Deriv, Bad}
-use Rattle.records.specs.Fields.{kindOf, operandOf}
+use Rattle.records.specs.declared.Instr.the-variants.{Bad}
+use Rattle.records.specs.Fields.{operandOf}
 use Rattle.records.specs.Record.{decodeAt, decodeFrom, decoded}
 use Rattle.records.specs.Decode.{readAt}
 use Rattle.records.proofs.Decoding.{slot-inside, read-at}
-use Rattle.records.proofs.Left.{left, left-next}
-use Rattle.evaluator.specs.Judge.{Judge, takes, gives, phaseOf, slotFine, good, judged, judge₀, Verdict, verdict, judgeFrom, judge}
+use Rattle.records.proofs.LeftRecords.{left, left-next}
+use Rattle.evaluator.specs.Judge.{Judge, takes, gives, phaseOf, good, judged, judge₀, Verdict, verdict, judgeFrom, judge}
 use Rattle.evaluator.specs.Sound.{Fits, Sound}
-
--- the refusal is never good
-no-refusal : (l : List ℕ) (h : ℕ) (x : Instr) → slotFine l h x ≡ true → 0 < kindOf x
-no-refusal l h (Constant s x) e = lit< tt
-no-refusal l h (Initial s x) e = lit< tt
-no-refusal l h (Value x) e = lit< tt
-no-refusal l h (Slot s) e = lit< tt
-no-refusal l h Add e = lit< tt
-no-refusal l h Sub e = lit< tt
-no-refusal l h Mul e = lit< tt
-no-refusal l h Div e = lit< tt
-no-refusal l h Neg e = lit< tt
-no-refusal l h Insw e = lit< tt
-no-refusal l h Limit e = lit< tt
-no-refusal l h Compar e = lit< tt
-no-refusal l h (Store s) e = lit< tt
-no-refusal l h (Deriv s) e = lit< tt
-no-refusal l h Bad e = let z : _≡_ {A = ℕ} 0 1 = cc in absurd (omega arith)
 
 -- a good record fits
 good-fits : (j : Judge) (x : Instr) → operandOf x < slots → good j x ≡ true → Fits (j .phase) (j .height) x
@@ -45,7 +27,7 @@ good-fits j x s e =
     let b = and-true (leb (j .height - takes x + gives x) stackPlaces) _ (a .1) in
     let c = and-true (leb (j .phase) (phaseOf x)) _ (b .1) in
     record {
-      known = no-refusal (j .marks) (j .height) x (c .1);
+      known = λ (q : x ≡ Bad). not-both (rw q at (c .1)) refl;
       slot = s;
       phase = leb-true (j .phase) (phaseOf x) (c .0);
       low = leb-true (takes x) (j .height) (a .0);

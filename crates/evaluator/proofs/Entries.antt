@@ -12,7 +12,8 @@ use Rattle.limits.specs.Limits.{slots, recordBytes, mostRecords}
 use Rattle.laws.proofs.Tests.{cond-ind}
 use Rattle.laws.proofs.Bools.{or-false}
 use Rattle.records.specs.Record.{decoded}
-use Rattle.evaluator.specs.Machine.{zero64, Machine, begun}
+use Rattle.records.specs.Shape.{zero64}
+use Rattle.evaluator.specs.Machine.{Machine, begun}
 use Rattle.evaluator.specs.Judge.{Verdict, verdict, judge}
 use Rattle.evaluator.specs.Evaluate.{outcome, refusal, unless, ran, evaluated, startAll, started, moveAll, advanced, stepped}
 use Rattle.evaluator.specs.Contract.{told, Evaluated, Started, Stepped}

@@ -15,11 +15,12 @@ use Rattle.laws.proofs.Counts.{once-other}
 use Rattle.laws.proofs.Tests.{eq-or-ne}
 use Rattle.records.specs.declared.Instr.{Instr}
 use Rattle.records.specs.Fields.{operandOf}
+use Rattle.records.specs.Shape.{shapeOf}
 use Rattle.records.specs.Record.{decodeAt, decoded}
 use Rattle.records.specs.Decode.{decodedAt}
 use Rattle.records.proofs.Decoding.{slot-inside, decoded-at}
-use Rattle.records.proofs.Left.{left, left-all, left-next, left-none}
-use Rattle.evaluator.specs.Judge.{good, judged, judge₀, anyOpen, verdict, judgeFrom, judge}
+use Rattle.records.proofs.LeftRecords.{left, left-all, left-next, left-none}
+use Rattle.evaluator.specs.Judge.{ruleOf, good, judged, judge₀, anyOpen, verdict, judgeFrom, judge}
 use Rattle.evaluator.specs.State.{state, known, Stands, Judges}
 use Rattle.evaluator.specs.declared.judge.State.{State}
 
@@ -57,10 +58,11 @@ pub ready : (p : List ℕ) (i : ℕ) {x : Instr} → i < length p / recordBytes 
 ready p i h e = rw (e, decoded-at p i h) (slot-inside p (i * recordBytes))
 
 module _ {p l : List ℕ} {t : State} {i : ℕ} (a : Judging p l t i) where
-  module _ {x : Instr} (h : i < length p / recordBytes) (e : x ≡ decodedAt p i) {r : State} {k : List ℕ} (j : Judges t l x r k) where
+  module _ {x : Instr} (h : i < length p / recordBytes) (e : x ≡ decodedAt p i) {r : State} {k : List ℕ}
+      (j : Judges t l (ruleOf (shapeOf x)) r k) where
     -- record i is bad
     pub refused : r .ok ≡ false → verdict 3 i ≡ judge (decoded p)
-    unfolding judgeFrom
+    unfolding judgeFrom good
     refused o =
         let f = e ∙ decoded-at p i h in
         let g : good (known t l) (decodeAt p (i * recordBytes)) ≡ false = rw f at (sym (j .fine) ∙ o) in
@@ -68,7 +70,7 @@ module _ {p l : List ℕ} {t : State} {i : ℕ} (a : Judging p l t i) where
 
     -- record i is good
     pub next : r .ok ≡ true → Judging p k r (i + 1)
-    unfolding judgeFrom
+    unfolding judgeFrom good
     next o =
         let f = e ∙ decoded-at p i h in
         let g : good (known t l) (decodeAt p (i * recordBytes)) ≡ true = rw f at (sym (j .fine) ∙ o) in

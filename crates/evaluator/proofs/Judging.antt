@@ -14,56 +14,55 @@ use Rattle.laws.proofs.Tests.{not-both, cond-ind, and-both}
 use Rattle.laws.proofs.Bools.{and-fails}
 use Rattle.laws.proofs.Stores.{count-set, count-most}
 use Rattle.records.specs.Fields.{operandOf}
+use Rattle.records.specs.Shape.{shapeOf}
 use Rattle.records.specs.declared.Instr.{Instr}
-use Rattle.records.specs.declared.Instr.the-variants.{Constant, Initial, Store, Deriv}
-use Rattle.evaluator.specs.Judge.{takes, gives, phaseOf, slotFine, marked, good}
+use Rattle.records.specs.declared.Instr.the-variants.{Value, Bad}
+use Rattle.evaluator.specs.Judge.{Rule, setRule, readRule, foldRule, storeRule, derivativeRule, badRule, ruleOf, goodBy}
 use Rattle.evaluator.specs.State.{state, stopped, pushed, folded, known, Stands, Judges}
 use Rattle.evaluator.specs.declared.judge.State.{State}
 
-module _ (x : Instr) {t : State} {l : List ℕ} {r : State} where
+module _ (q : Rule) {t : State} {l : List ℕ} {r : State} where
   -- the record is not good
-  stop : r ≡ stopped → good (known t l) x ≡ false → Judges t l x r l
-  stop q e =
-      rw q (record { fine = sym e; next = λ o. absurd (not-both o refl); stands = λ o. absurd (not-both o refl); long = refl })
+  stop : r ≡ stopped → goodBy (known t l) q ≡ false → Judges t l q r l
+  stop z e =
+      rw z
+      (record { fine = sym e; next = λ o. absurd (not-both o refl); stands = λ o. absurd (not-both o refl); long = refl })
 
   -- too few values
-  pub few : r ≡ stopped → t .height < takes x → Judges t l x r l
-  unfolding good
-  few q h = stop q (rw (lt-leb (takes x) (t .height) h))
+  few : r ≡ stopped → t .height < q .takes → Judges t l q r l
+  few z h = stop z (rw (lt-leb (q .takes) (t .height) h))
 
-  -- a sixty-eighth
-  pub many : r ≡ stopped → stackPlaces < t .height - takes x + gives x → Judges t l x r l
-  unfolding good
-  many q h = stop q (and-fails (leb (takes x) (t .height)) (λ _. rw (lt-leb (t .height - takes x + gives x) stackPlaces h)))
+  -- one too many
+  many : r ≡ stopped → stackPlaces < t .height - q .takes + q .gives → Judges t l q r l
+  many z h =
+      stop z
+      (and-fails (leb (q .takes) (t .height)) (λ _. rw (lt-leb (t .height - q .takes + q .gives) stackPlaces h)))
 
   -- after a later kind
-  pub late : r ≡ stopped → phaseOf x < t .phase → Judges t l x r l
-  unfolding good
-  late q h =
-      stop q
-      (and-fails (leb (takes x) (t .height))
-      (λ _. and-fails (leb (t .height - takes x + gives x) stackPlaces) (λ _. rw (lt-leb (t .phase) (phaseOf x) h))))
+  pub late : r ≡ stopped → q .phase < t .phase → Judges t l q r l
+  late z h =
+      stop z
+      (and-fails (leb (q .takes) (t .height))
+      (λ _. and-fails (leb (t .height - q .takes + q .gives) stackPlaces) (λ _. rw (lt-leb (t .phase) (q .phase) h))))
 
   -- the slot, or a count of values other than one
-  pub unfit : r ≡ stopped → slotFine l (t .height) x ≡ false → Judges t l x r l
-  unfolding good
-  unfit q e =
-      stop q
-      (and-fails (leb (takes x) (t .height))
-      (λ _. and-fails (leb (t .height - takes x + gives x) stackPlaces) (λ _. and-fails (leb (t .phase) (phaseOf x)) (λ _. e))))
+  pub unfit : r ≡ stopped → q .fine l (t .height) ≡ false → Judges t l q r l
+  unfit z e =
+      stop z
+      (and-fails (leb (q .takes) (t .height))
+      (λ _. and-fails (leb (t .height - q .takes + q .gives) stackPlaces)
+      (λ _. and-fails (leb (t .phase) (q .phase)) (λ _. e))))
 
-  -- none of these: the marks are k then, and o derivatives are owed
-  pub passed : (p h o : ℕ) {k : List ℕ} → r ≡ state p h o → p ≡ phaseOf x → h ≡ t .height - takes x + gives x → k ≡ marked l x
-      → length k ≡ length l → o ≡ count 2 k → Stands t l → takes x ≤ t .height → h ≤ stackPlaces → t .phase ≤ p → p ≤ 3
-      → slotFine l (t .height) x ≡ true → Judges t l x r k
-  unfolding good
-  passed p h o {k} q ep eh ek long w s low high late top e =
-      let b : t .height - takes x + gives x ≤ stackPlaces = omega arith in
-      let c : t .phase ≤ phaseOf x = omega arith in
-      rw q
+  -- none of these: so many values stand then, the marks are k, and o derivatives are owed
+  passed : (h o : ℕ) {k : List ℕ} → r ≡ state (q .phase) h o → h ≡ t .height - q .takes + q .gives → k ≡ q .marks l
+      → length k ≡ length l → o ≡ count 2 k → Stands t l → q .takes ≤ t .height → h ≤ stackPlaces
+      → t .phase ≤ q .phase → q .phase ≤ 3 → q .fine l (t .height) ≡ true → Judges t l q r k
+  passed h o {k} z eh ek long w s low high late top e =
+      let b : t .height - q .takes + q .gives ≤ stackPlaces = omega arith in
+      rw z
       (record {
-        fine = sym (and-both _ _ (le-leb _ _ low) (and-both _ _ (le-leb _ _ b) (and-both _ _ (le-leb _ _ c) e)));
-        next = λ _. rw (ep, eh, ek);
+        fine = sym (and-both _ _ (le-leb _ _ low) (and-both _ _ (le-leb _ _ b) (and-both _ _ (le-leb _ _ late) e)));
+        next = λ _. rw (eh, ek);
         stands = λ _. record { low = high; phase = top; owed = w; long = long ∙ s .long };
         long = long;
       })
@@ -71,7 +70,8 @@ module _ (x : Instr) {t : State} {l : List ℕ} {r : State} where
 -- ---- marks and derivatives owed
 
 -- a mark b for a mark a
-remarked : (l : List ℕ) (s a b : ℕ) → s < length l → getD l s 0 ≡ a → count 2 (set l s b) + once (eqb 2 a) ≡ count 2 l + once (eqb 2 b)
+remarked : (l : List ℕ) (s a b : ℕ) → s < length l → getD l s 0 ≡ a
+    → count 2 (set l s b) + once (eqb 2 a) ≡ count 2 l + once (eqb 2 b)
 remarked l s a b h e = rw e at (count-set 2 b l s h)
 
 module _ {t : State} {l : List ℕ} (w : Stands t l) where
@@ -87,57 +87,78 @@ module _ {t : State} {l : List ℕ} (w : Stands t l) where
   pub owing : (s : ℕ) → s < slots → getD l s 0 ≡ 2 → 1 ≤ t .owed
   owing s h e = omega (arith, remarked l s 2 3 (inside s h) e, w .owed)
 
--- ---- by kind
+-- ---- by rule
 
 module _ {t : State} {l : List ℕ} {r : State} (w : Stands t l) where
-  -- one value more
-  pub pushes : (x : Instr) → takes x ≡ 0 → gives x ≡ 1 → 3 ≡ phaseOf x → l ≡ marked l x → slotFine l (t .height) x ≡ true → r ≡ pushed t
-      → Judges t l x r l
-  pushes x z g p k e =
-      cond-ind (λ (u : State). r ≡ u → Judges t l x r l) (ltb (t .height) stackPlaces) (state 3 (t .height + 1) (t .owed)) stopped
-      (λ b q. passed x 3 (t .height + 1) (t .owed) q p (omega arith) k refl (w .owed) w (omega arith)
-      (omega (arith, ltb-true (t .height) stackPlaces b)) (w .phase) (lit≤ tt) e)
-      (λ b q. many x q (omega (arith, ltb-false (t .height) stackPlaces b)))
+  -- one value more, of a rule that wants nothing else
+  pushes : (q : Rule) → q .takes ≡ 0 → q .gives ≡ 1 → q .phase ≡ 3 → l ≡ q .marks l → q .fine l (t .height) ≡ true
+      → r ≡ pushed t → Judges t l q r l
+  pushes q z g p k e =
+      cond-ind (λ (u : State). r ≡ u → Judges t l q r l) (ltb (t .height) stackPlaces)
+      (state 3 (t .height + 1) (t .owed)) stopped
+      (λ b o. passed q (t .height + 1) (t .owed) (rw p o) (omega arith) k refl (w .owed) w (omega arith)
+      (omega (arith, ltb-true (t .height) stackPlaces b)) (omega (arith, w .phase)) (omega arith) e)
+      (λ b o. many q o (omega (arith, ltb-false (t .height) stackPlaces b)))
+
+  pub pushes-slot : (s : ℕ) → readRule s .fine l (t .height) ≡ true → r ≡ pushed t → Judges t l (readRule s) r l
+  pushes-slot s = pushes (readRule s) refl refl refl refl
 
   -- one value for n
-  pub folds : (x : Instr) (n : ℕ) → takes x ≡ n → 0 < n → gives x ≡ 1 → 3 ≡ phaseOf x → l ≡ marked l x → slotFine l (t .height) x ≡ true
-      → r ≡ folded t n → Judges t l x r l
-  folds x n z a g p k e =
-      cond-ind (λ (u : State). r ≡ u → Judges t l x r l) (leb n (t .height)) (state 3 (t .height - n + 1) (t .owed)) stopped
-      (λ b q. passed x 3 (t .height - n + 1) (t .owed) q p (omega arith) k refl (w .owed) w (omega (arith, leb-true n (t .height) b))
-      (omega (arith, w .low, leb-true n (t .height) b)) (w .phase) (lit≤ tt) e)
-      (λ b q. few x q (omega (arith, leb-false n (t .height) b)))
+  folds : (n : ℕ) → 0 < n → r ≡ folded t n → Judges t l (foldRule n) r l
+  folds n a =
+      cond-ind (λ (u : State). r ≡ u → Judges t l (foldRule n) r l) (leb n (t .height))
+      (state 3 (t .height - n + 1) (t .owed)) stopped
+      (λ b o. passed (foldRule n) (t .height - n + 1) (t .owed) o refl refl refl (w .owed) w (leb-true n (t .height) b)
+      (omega (arith, w .low, leb-true n (t .height) b)) (w .phase) (lit≤ tt) refl)
+      (λ b o. few (foldRule n) o (leb-false n (t .height) b))
 
   module _ (s : ℕ) (h : s < slots) where
     -- kinds 1, 2, 13 and 14, after their tests
-    pub constant : (x : Float) → r ≡ state 1 (t .height) (t .owed) → t .phase ≤ 1 → getD l s 0 ≡ 0 → Judges t l (Constant s x) r (set l s 1)
-    constant x q p e =
-        passed (Constant s x) 1 (t .height) (t .owed) q refl (omega arith) refl (length-set l s 1)
-        (omega (arith, remarked l s 0 1 (inside w s h) e, w .owed)) w zero-le (w .low) p (lit≤ tt) (eq-eqb (getD l s 0) 0 e)
+    pub constant : r ≡ state 1 (t .height) (t .owed) → t .phase ≤ 1 → getD l s 0 ≡ 0
+        → Judges t l (setRule 1 s 1) r (set l s 1)
+    constant q p e =
+        passed (setRule 1 s 1) (t .height) (t .owed) q (omega arith) refl (length-set l s 1)
+        (omega (arith, remarked l s 0 1 (inside w s h) e, w .owed)) w zero-le (w .low) p (lit≤ tt)
+        (eq-eqb (getD l s 0) 0 e)
 
-    pub initial : (x : Float) → r ≡ state 2 (t .height) (t .owed + 1) → t .phase ≤ 2 → getD l s 0 ≡ 0 → Judges t l (Initial s x) r (set l s 2)
-    initial x q p e =
-        passed (Initial s x) 2 (t .height) (t .owed + 1) q refl (omega arith) refl (length-set l s 2)
-        (omega (arith, remarked l s 0 2 (inside w s h) e, w .owed)) w zero-le (w .low) p (lit≤ tt) (eq-eqb (getD l s 0) 0 e)
+    pub initial : r ≡ state 2 (t .height) (t .owed + 1) → t .phase ≤ 2 → getD l s 0 ≡ 0
+        → Judges t l (setRule 2 s 2) r (set l s 2)
+    initial q p e =
+        passed (setRule 2 s 2) (t .height) (t .owed + 1) q (omega arith) refl (length-set l s 2)
+        (omega (arith, remarked l s 0 2 (inside w s h) e, w .owed)) w zero-le (w .low) p (lit≤ tt)
+        (eq-eqb (getD l s 0) 0 e)
 
-    pub store : r ≡ state 3 0 (t .owed) → t .height ≡ 1 → getD l s 0 ≡ 0 → Judges t l (Store s) r (set l s 1)
+    pub store : r ≡ state 3 0 (t .owed) → t .height ≡ 1 → getD l s 0 ≡ 0 → Judges t l (storeRule s) r (set l s 1)
     store q a e =
-        passed (Store s) 3 0 (t .owed) q refl (omega arith) refl (length-set l s 1)
+        passed (storeRule s) 0 (t .owed) q (omega arith) refl (length-set l s 1)
         (omega (arith, remarked l s 0 1 (inside w s h) e, w .owed)) w (omega arith) zero-le (w .phase) (lit≤ tt)
         (and-both _ _ (eq-eqb (t .height) 1 a) (eq-eqb (getD l s 0) 0 e))
 
-    pub deriv : r ≡ state 3 0 (t .owed - 1) → t .height ≡ 1 → getD l s 0 ≡ 2 → Judges t l (Deriv s) r (set l s 3)
+    pub deriv : r ≡ state 3 0 (t .owed - 1) → t .height ≡ 1 → getD l s 0 ≡ 2 → Judges t l (derivativeRule s) r (set l s 3)
     deriv q a e =
-        passed (Deriv s) 3 0 (t .owed - 1) q refl (omega arith) refl (length-set l s 3)
+        passed (derivativeRule s) 0 (t .owed - 1) q (omega arith) refl (length-set l s 3)
         (omega (arith, remarked l s 2 3 (inside w s h) e, w .owed)) w (omega arith) zero-le (w .phase) (lit≤ tt)
         (and-both _ _ (eq-eqb (t .height) 1 a) (eq-eqb (getD l s 0) 2 e))
 
--- ---- the instruction that a match has found
+-- ---- the instruction x, as which a match has found i
 
--- its slot
-pub slot-found : {i : Instr} (x : Instr) → i ≡ x → operandOf i < slots → operandOf x < slots
-slot-found x e h = rw e at h
+-- its slot is a place of what has one for each
+pub slot-found : {i x : Instr} {s n : ℕ} → i ≡ x → operandOf x ≡ s → operandOf i < slots → slots ≤ n → s < n
+slot-found {i} {x} e f h g = let b : operandOf x < slots = rw e at h in omega arith
 
--- what is judged of it
-pub found : {t : State} {l : List ℕ} {i x : Instr} {r : State} {k : List ℕ} → i ≡ x → Judges t l x r k → Judges t l i r k
-found e j = rw e j
+module _ {t : State} {l : List ℕ} {i : Instr} {r : State} where
+  -- what is judged of its rule
+  pub found : {x : Instr} {q : Rule} {k : List ℕ} → i ≡ x → Judges t l q r k → ruleOf (shapeOf x) ≡ q
+      → Judges t l (ruleOf (shapeOf i)) r k
+  found e j f = rw (e, f) j
+
+  -- a value is pushed, n give way to one, and the refusal is bad
+  pub found-value : {y : Float} → i ≡ Value y → Stands t l → r ≡ pushed t → Judges t l (ruleOf (shapeOf i)) r l
+  found-value e w z = rw e (pushes w (foldRule 0) refl refl refl refl refl z)
+
+  pub found-fold : {x : Instr} {n : ℕ} → i ≡ x → Stands t l → r ≡ folded t n → ruleOf (shapeOf x) ≡ foldRule n → 0 < n
+      → Judges t l (ruleOf (shapeOf i)) r l
+  found-fold {x} {n} e w z f h = rw (e, f) (folds w n h z)
+
+  pub found-bad : i ≡ Bad → r ≡ stopped → Judges t l (ruleOf (shapeOf i)) r l
+  found-bad e z = rw e (unfit badRule z refl)

@@ -9,7 +9,7 @@ use Rattle.limits.specs.Limits.{slots, stackPlaces, recordBytes}
 use Rattle.records.specs.declared.Instr.{Instr}
 use Rattle.records.specs.Decode.{readAt}
 use Rattle.records.specs.Record.{decodeAt, decoded}
-use Rattle.records.proofs.Left.{left, left-all, left-next, left-none}
+use Rattle.records.proofs.LeftRecords.{left, left-all, left-next, left-none}
 use Rattle.evaluator.specs.Judge.{phaseOf}
 use Rattle.evaluator.specs.Machine.{step, run}
 use Rattle.evaluator.specs.Evaluate.{ran}

@@ -1,15 +1,17 @@
 -- What every record of an accepted program can rely on.
 use Prim.Native.Nat.{ℕ, _+_, _-_, _≤_, _<_}
+use mathlib.Core.Path.{_≡_}
 use mathlib.Core.List.{List, [], _∷_}
 use Rattle.limits.specs.Limits.{slots, stackPlaces}
-use Rattle.records.specs.Fields.{kindOf, operandOf}
+use Rattle.records.specs.Fields.{operandOf}
 use Rattle.records.specs.declared.Instr.{Instr}
+use Rattle.records.specs.declared.Instr.the-variants.{Bad}
 use Rattle.evaluator.specs.Judge.{takes, gives, phaseOf}
 
--- after phase p and with h values on the stack, x is no refusal, its slot is one of the 256, it is not late, it finds what it takes, and no
--- sixty-eighth value comes to stand
+-- after phase p and with h values on the stack, x is no refusal, its slot is one of the slots, it is not late, it finds
+-- what it takes, and there is a place for each value that comes to stand
 pub record Fits (p h : ℕ) (x : Instr) : Type 0 where
-  pub known : 0 < kindOf x
+  pub known : x ≡ Bad → ⊥
   pub slot : operandOf x < slots
   pub phase : p ≤ phaseOf x
   pub low : takes x ≤ h

@@ -12,30 +12,22 @@ ghost use Prim.Native.Nat.{_≤_};
 ghost use lib.ListN.{length};
 ghost use Rattle.limits.specs.Limits.{slots};
 ghost use Rattle.records.specs.Record.{decoded};
-ghost use Rattle.evaluator.specs.Machine.{inswOf, limitOf, comparOf};
+ghost use Rattle.records.specs.Shape.{inswOf, limitOf, comparOf};
 ghost use Rattle.evaluator.specs.Evaluate.{ran};
 ghost use Rattle.evaluator.specs.Sound.{Sound};
-ghost use Rattle.evaluator.specs.Stack.{machine, emptied, below, Holds, Ready, Steps, Ran};
+ghost use Rattle.evaluator.specs.Stack.{machine, emptied, Ready, Steps, Ran};
 
 // INSW(P,A,B): A if P < 0, else B.
-fn insw(items: &[f64; STACK], count: usize) -> f64
-    requires { ⌜ Holds 3 (now items) count ⌝ }
-    ensures { λ r. ⌜ r ≡ inswOf (below (now (items .entry)) count 2) (below (now (items .entry)) count 1) (below (now (items .entry)) count 0) ⌝ }
+fn insw(p: f64, a: f64, b: f64) -> f64
+    ensures { λ r. ⌜ r ≡ inswOf p a b ⌝ }
 {
-    let p = peek(items, count, 2);
-    let a = peek(items, count, 1);
-    let b = peek(items, count, 0);
     if p < 0.0 { a } else { b }
 }
 
 // LIMIT(L,U,X): L if X < L, else U if X > U, else X.
-fn limit(items: &[f64; STACK], count: usize) -> f64
-    requires { ⌜ Holds 3 (now items) count ⌝ }
-    ensures { λ r. ⌜ r ≡ limitOf (below (now (items .entry)) count 2) (below (now (items .entry)) count 1) (below (now (items .entry)) count 0) ⌝ }
+fn limit(l: f64, u: f64, x: f64) -> f64
+    ensures { λ r. ⌜ r ≡ limitOf l u x ⌝ }
 {
-    let l = peek(items, count, 2);
-    let u = peek(items, count, 1);
-    let x = peek(items, count, 0);
     if x < l {
         return l;
     }
@@ -46,12 +38,9 @@ fn limit(items: &[f64; STACK], count: usize) -> f64
 }
 
 // COMPAR(A,B): 1 if A >= B, else 0.
-fn compar(items: &[f64; STACK], count: usize) -> f64
-    requires { ⌜ Holds 2 (now items) count ⌝ }
-    ensures { λ r. ⌜ r ≡ comparOf (below (now (items .entry)) count 1) (below (now (items .entry)) count 0) ⌝ }
+fn compar(a: f64, b: f64) -> f64
+    ensures { λ r. ⌜ r ≡ comparOf a b ⌝ }
 {
-    let a = peek(items, count, 1);
-    let b = peek(items, count, 0);
     if a >= b { 1.0 } else { 0.0 }
 }
 
@@ -80,9 +69,19 @@ fn run_step(
         Instr::Mul => put(items, n, 2, peek(items, n, 1) * peek(items, n, 0)),
         Instr::Div => put(items, n, 2, peek(items, n, 1) / peek(items, n, 0)),
         Instr::Neg => put(items, n, 1, -peek(items, n, 0)),
-        Instr::Insw => put(items, n, 3, insw(items, n)),
-        Instr::Limit => put(items, n, 3, limit(items, n)),
-        Instr::Compar => put(items, n, 2, compar(items, n)),
+        Instr::Insw => put(
+            items,
+            n,
+            3,
+            insw(peek(items, n, 2), peek(items, n, 1), peek(items, n, 0)),
+        ),
+        Instr::Limit => put(
+            items,
+            n,
+            3,
+            limit(peek(items, n, 2), peek(items, n, 1), peek(items, n, 0)),
+        ),
+        Instr::Compar => put(items, n, 2, compar(peek(items, n, 1), peek(items, n, 0))),
         Instr::Store(s) => {
             values[s as usize] = peek(items, n, 0);
             n - 1

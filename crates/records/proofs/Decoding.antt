@@ -15,10 +15,10 @@ use Rattle.laws.proofs.Tests.{eq-or-ne, cond-ind, and-true}
 use Rattle.laws.proofs.Every.{every-anywhere}
 use Rattle.records.specs.declared.Instr.{Instr}
 use Rattle.records.specs.declared.Instr.the-variants.{Bad}
-use Rattle.records.specs.Fields.{kindOf, operandOf, hasSlot, hasValue, kinds, byKind, inOrder, instrOf}
+use Rattle.records.specs.Fields.{operandOf, hasSlot, hasValue, kinds, byKind, inOrder, instrOf}
 use Rattle.records.specs.Record.{field, decodeAt}
 use Rattle.records.specs.Decode.{decodedAt, readAt, withFields}
-use Rattle.records.proofs.Words.{field-two}
+use Rattle.records.proofs.FieldParts.{field-two}
 
 -- no kind but 1 to 14 is known
 pub unknown : (k s : ℕ) (x : Float) → (k ≡ 0) ⊎ (15 ≤ k) → byKind k s x ≡ Bad
@@ -49,13 +49,13 @@ module _ (k z w s b : ℕ) (e : w ≡ k + 256 * z) where
       (λ d. sym (unknown-refused w s b (inr (omega arith))) ∙ rw (ne-eqb z 0 d)) (eq-or-ne z 0)
 
   -- a record that is not refused is what its kind says
-  unrefused : 0 < kindOf (instrOf k z s b) → byKind w s (ofBits binary64 b) ≡ instrOf k z s b
+  unrefused : (instrOf k z s b ≡ Bad → ⊥) → byKind w s (ofBits binary64 b) ≡ instrOf k z s b
   unfolding instrOf
   unrefused =
-      cond-ind (λ (i : Instr). 0 < kindOf i → byKind w s (ofBits binary64 b) ≡ i) (inOrder k z s b)
+      cond-ind (λ (i : Instr). (i ≡ Bad → ⊥) → byKind w s (ofBits binary64 b) ≡ i) (inOrder k z s b)
       (byKind k s (ofBits binary64 b)) Bad
       (λ t _. let f : w ≡ k = omega (arith, eqb-true z 0 (and-true (eqb z 0) _ t .0)) in rw f)
-      (λ _ l. absurd (omega arith))
+      (λ _ n. absurd (n refl))
 
 -- ---- the slot
 
@@ -100,8 +100,8 @@ module _ (p : List ℕ) where
       joined _ _ _ _ _ (field-two p (n * recordBytes) (omega arith)) ∙ sym (decoded-at n h)
 
   -- `read` answers the same, where that is no refusal
-  pub read-at : (n : ℕ) → n < length p / recordBytes → 0 < kindOf (decodeAt p (n * recordBytes))
+  pub read-at : (n : ℕ) → n < length p / recordBytes → (decodeAt p (n * recordBytes) ≡ Bad → ⊥)
       → readAt p n ≡ decodeAt p (n * recordBytes)
   unfolding decodeAt
-  read-at n h l =
-      rw (lt-ltb n (length p / recordBytes) h) (unrefused _ _ _ _ _ (field-two p (n * recordBytes) (omega arith)) l)
+  read-at n h k =
+      rw (lt-ltb n (length p / recordBytes) h) (unrefused _ _ _ _ _ (field-two p (n * recordBytes) (omega arith)) k)

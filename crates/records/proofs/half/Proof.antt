@@ -1,6 +1,6 @@
 use native.Mathlib.Omega.{arith}
 use borrow.Author.Needs.{needs}
-use Rattle.records.proofs.Words.{field-parts}
+use Rattle.records.proofs.FieldParts.{field-parts}
 use Rattle.records.proofs.half.Statement.{statement}
 use Rattle.records.proofs.half.Tie as tie
 

@@ -1,6 +1,6 @@
 use native.Mathlib.Omega.{arith}
 use borrow.Author.Needs.{needs}
-use Rattle.records.proofs.Words.{field-two}
+use Rattle.records.proofs.FieldParts.{field-two}
 use Rattle.records.proofs.pair.Statement.{statement}
 use Rattle.records.proofs.pair.Tie as tie
 

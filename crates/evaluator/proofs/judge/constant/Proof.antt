@@ -1,21 +1,23 @@
 use borrow.Author.Tests.{ne-eqb}
-use Rattle.records.specs.declared.Instr.the-variants.{Constant}
+use Rattle.evaluator.specs.Judge.{setRule}
 use borrow.Author.Needs.{needs}
 use Rattle.evaluator.proofs.Judging.{late, unfit, constant}
 use Rattle.evaluator.proofs.judge.constant.Statement.{statement}
 use Rattle.evaluator.proofs.judge.constant.Tie as tie
 
 returns : tie.Need-returns
-returns c x = late (Constant (c .before .before .before .args .s) x) (c .bad .ensures) (c .before .if1 .taken)
+returns c = late (setRule 1 (c .before .before .before .args .s) 1) (c .bad .ensures) (c .before .if1 .taken)
 
 returns-2 : tie.Need-returns-2
-returns-2 c x = unfit (Constant (c .before .before .before .before .before .args .s) x) (c .bad2 .ensures) (ne-eqb _ 0 (c .before .if2 .taken))
+returns-2 c =
+    let a = c .before .before .before .before .before in
+    unfit (setRule 1 (a .args .s) 1) (c .bad2 .ensures) (ne-eqb _ 0 (c .before .if2 .taken))
 
 returns-3 : tie.Need-returns-3
-returns-3 c x =
+returns-3 c =
     let f = c .before .before .before in
     let a = f .before .before in
-    constant (a .pre .0) (a .args .s) (a .pre .1) x (c .fine .ensures) (f .if1 .left) (c .before .if2 .left)
+    constant (a .pre .0) (a .args .s) (a .pre .1) (c .fine .ensures) (f .if1 .left) (c .before .if2 .left)
 
 pub constant-spec : {M : Type 1} → statement M
 constant-spec =

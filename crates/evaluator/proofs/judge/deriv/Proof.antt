@@ -1,19 +1,19 @@
 use borrow.Author.Tests.{ne-eqb}
 use lib.Dec.{eqb}
 use Rattle.laws.proofs.Bools.{and-fails}
-use Rattle.records.specs.declared.Instr.the-variants.{Deriv}
+use Rattle.evaluator.specs.Judge.{derivativeRule}
 use borrow.Author.Needs.{needs}
 use Rattle.evaluator.proofs.Judging.{unfit, deriv, owing}
 use Rattle.evaluator.proofs.judge.deriv.Statement.{statement}
 use Rattle.evaluator.proofs.judge.deriv.Tie as tie
 
 returns : tie.Need-returns
-returns c = unfit (Deriv (c .before .before .before .args .s)) (c .bad .ensures) (rw (ne-eqb _ 1 (c .before .if1 .taken)))
+returns c = unfit (derivativeRule (c .before .before .before .args .s)) (c .bad .ensures) (rw (ne-eqb _ 1 (c .before .if1 .taken)))
 
 returns-2 : tie.Need-returns-2
 returns-2 c =
     let a = c .before .before .before .before .before in
-    unfit (Deriv (a .args .s)) (c .bad2 .ensures) (and-fails (eqb (a .args .t .height) 1) (λ _. ne-eqb _ 2 (c .before .if2 .taken)))
+    unfit (derivativeRule (a .args .s)) (c .bad2 .ensures) (and-fails (eqb (a .args .t .height) 1) (λ _. ne-eqb _ 2 (c .before .if2 .taken)))
 
 sub-fine : tie.Need-sub-fine
 sub-fine c =
