@@ -10,35 +10,36 @@ use Rattle.records.specs.declared.Instr.{Instr}
 use Rattle.records.specs.Shape.{zero64, Shape, constant, initial, push, fold, store, derivative, bad, shapeOf}
 use Rattle.records.specs.Record.{decoded}
 use Rattle.evaluator.specs.Machine.{Machine, run, begun}
-use Rattle.evaluator.specs.Judge.{Verdict, verdict, judge}
+use Rattle.evaluator.specs.Judge.{answer, judge}
+use Rattle.evaluator.specs.declared.Answer.{Answer}
 
-pub record Outcome : Type 0 where
-  pub answer : Verdict
+pub record RunOutcome : Type 0 where
+  pub answer : Answer
   pub values : List Float
   pub derivs : List Float
 
-abbrev pub outcome : Verdict → List Float → List Float → Outcome
-outcome a v d = record { answer = a; values = v; derivs = d }
+abbrev pub runOutcome : Answer → List Float → List Float → RunOutcome
+runOutcome a v d = record { answer = a; values = v; derivs = d }
 
 -- ---- refusals, in their order: 1 either has fewer places than there are slots; 2 the program isn't a multiple of a
 -- record's bytes or exceeds the most records; then those of the judge, 3 and 4. 0 is no refusal
 
-unfoldable pub refusal : List ℕ → List Float → List Float → Verdict
+unfoldable pub refusal : List ℕ → List Float → List Float → Answer
 refusal p v d =
-    cond (ltb (length v) slots || ltb (length d) slots) (verdict 1 0)
-    (cond (not (eqb (length p % recordBytes) 0) || ltb mostRecords (length p / recordBytes)) (verdict 2 0)
+    cond (ltb (length v) slots || ltb (length d) slots) (answer 1 0)
+    (cond (not (eqb (length p % recordBytes) 0) || ltb mostRecords (length p / recordBytes)) (answer 2 0)
     (judge (decoded p)))
 
 -- a refusal writes nothing; without one the buffers hold what `done` gives
-abbrev pub unless : Verdict → List Float → List Float → Machine → Outcome
-unless a v d done = cond (eqb (a .number) 0) (outcome a (done .values) (done .derivs)) (outcome a v d)
+abbrev pub unless : Answer → List Float → List Float → Machine → RunOutcome
+unless a v d done = cond (eqb (a .number) 0) (runOutcome a (done .values) (done .derivs)) (runOutcome a v d)
 
 -- ---- evaluating: writes constants and stored slots and the derivatives of states; other places stay
 
 abbrev pub ran : List ℕ → List Float → List Float → Machine
 ran p v d = run (begun v d) (decoded p)
 
-unfoldable pub evaluated : List ℕ → List Float → List Float → Outcome
+unfoldable pub evaluated : List ℕ → List Float → List Float → RunOutcome
 evaluated p v d =
     let m = ran p v d in
     unless (refusal p v d) v d m
@@ -65,7 +66,7 @@ eachState f v (x ∷ xs) = eachState f (initially (f v) v (shapeOf x)) xs
 abbrev pub startAll : List Float → List Instr → List Float
 startAll v xs = eachState set v xs
 
-unfoldable pub started : List ℕ → List Float → List Float → Outcome
+unfoldable pub started : List ℕ → List Float → List Float → RunOutcome
 started p v d =
     let m = begun (startAll (set v 0 zero64) (decoded p)) d in
     unless (refusal p v d) v d m
@@ -83,7 +84,7 @@ moveAll h d v xs = eachState (moved h d) v xs
 abbrev pub advanced : Float → List Float → List Float
 advanced h v = set v 0 (add binary64 (getD v 0 nan) h)
 
-unfoldable pub stepped : List ℕ → Float → List Float → List Float → Outcome
+unfoldable pub stepped : List ℕ → Float → List Float → List Float → RunOutcome
 stepped p h v d =
     let m = ran p v d in
     let n = begun (advanced h (moveAll h (m .derivs) (m .values) (decoded p))) (m .derivs) in

@@ -8,6 +8,7 @@ use Rattle.limits.specs.Limits.{slots, stackPlaces}
 use Rattle.records.specs.declared.Instr.{Instr}
 use Rattle.records.specs.Shape.{value, slot, operands}
 use Rattle.records.specs.Shape.{Shape, constant, initial, push, fold, store, derivative, bad, shapeOf}
+use Rattle.evaluator.specs.declared.Answer.{Answer}
 
 -- ---- one record
 
@@ -90,7 +91,8 @@ pub record Judge : Type 0 where
 abbrev pub goodBy : Judge → Rule → Bool
 goodBy j q =
     leb (q .takes) (j .height)
-    && (leb (j .height - q .takes + q .gives) stackPlaces && (leb (j .phase) (q .phase) && q .fine (j .marks) (j .height)))
+    && (leb (j .height - q .takes + q .gives) stackPlaces
+    && (leb (j .phase) (q .phase) && q .fine (j .marks) (j .height)))
 
 abbrev pub judgedBy : Judge → Rule → Judge
 judgedBy j q = record { phase = q .phase; height = j .height - q .takes + q .gives; marks = q .marks (j .marks) }
@@ -113,20 +115,16 @@ anyOpen [] = false
 anyOpen (m ∷ ms) = eqb m 2 || anyOpen ms
 
 -- the answer: a number, and a record number, 0 but for 3
-pub record Verdict : Type 0 where
-  pub number : ℕ
-  pub place : ℕ
-
-abbrev pub verdict : ℕ → ℕ → Verdict
-verdict n i = record { number = n; place = i }
+abbrev pub answer : ℕ → ℕ → Answer
+answer n i = record { number = n; place = i }
 
 -- 3, bad record, with the number of the first from i; 4, the end finds a value on the stack or a state without
 -- derivative; else 0
-unfoldable pub judgeFrom : ℕ → Judge → List Instr → Verdict
-judgeFrom i j [] = cond (eqb (j .height) 0 && not (anyOpen (j .marks))) (verdict 0 0) (verdict 4 0)
+unfoldable pub judgeFrom : ℕ → Judge → List Instr → Answer
+judgeFrom i j [] = cond (eqb (j .height) 0 && not (anyOpen (j .marks))) (answer 0 0) (answer 4 0)
 judgeFrom i j (x ∷ xs) =
     let r = judgeFrom (suc i) (judged j x) xs in
-    cond (good j x) r (verdict 3 i)
+    cond (good j x) r (answer 3 i)
 
-abbrev pub judge : List Instr → Verdict
+abbrev pub judge : List Instr → Answer
 judge xs = judgeFrom 0 judge₀ xs

@@ -1,4 +1,4 @@
--- The stack of 67 places and the machine that it stands for.
+-- The stack in its array, and the machine that it stands for.
 use Prim.Native.Nat.{ℕ, zero, suc, _+_, _-_, _≤_, _<_}
 use mathlib.Core.Path.{_≡_}
 use mathlib.Core.List.{List, [], _∷_}
@@ -56,7 +56,8 @@ pub record Ready (x : Instr) (l : List Float) (n : ℕ) (v d : List Float) : Typ
   pub derivs : slots ≤ length d
 
 -- it made one step of the machine
-pub record Steps (x : Instr) (l : List Float) (n : ℕ) (v d : List Float) (l′ : List Float) (r : ℕ) (v′ d′ : List Float) : Type 0 where
+pub record Steps (x : Instr) (l : List Float) (n : ℕ) (v d : List Float) (l′ : List Float) (r : ℕ) (v′ d′ : List Float)
+    : Type 0 where
   pub same : machine l′ r v′ d′ ≡ step (machine l n v d) x
   pub count : r ≡ n - takes x + gives x
   pub full : length l′ ≡ stackPlaces

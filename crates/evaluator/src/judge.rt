@@ -12,7 +12,6 @@ ghost use Rattle.limits.specs.Limits.{slots, stackPlaces};
 ghost use Rattle.records.specs.Fields.{operandOf};
 ghost use Rattle.records.specs.Shape.{shapeOf};
 ghost use Rattle.records.specs.Record.{decoded};
-ghost use Rattle.evaluator.specs.Contract.{told};
 ghost use Rattle.evaluator.specs.Judge.{setRule, readRule, storeRule, derivativeRule, ruleOf, judge};
 ghost use Rattle.evaluator.specs.State.{state, stopped, pushed, folded, Stands, Judges};
 
@@ -169,7 +168,7 @@ fn judge_step(t: State, marks: &mut [u8; SLOTS], ins: Instr) -> State
 
 // The judge's answer on a program.
 pub fn judge(program: &[u8]) -> Answer
-    ensures { λ r. ⌜ told r ≡ judge (decoded (now (program .entry))) ⌝ }
+    ensures { λ r. ⌜ r ≡ judge (decoded (now (program .entry))) ⌝ }
 {
     let mut marks = [0u8; SLOTS];
     marks[0] = 1;

@@ -8,13 +8,9 @@ use limits::STACK;
 use records::Instr;
 use records::read;
 ghost use mathlib.Core.Path.{_≡_};
-ghost use Prim.Native.Nat.{_≤_};
-ghost use lib.ListN.{length};
-ghost use Rattle.limits.specs.Limits.{slots};
-ghost use Rattle.records.specs.Record.{decoded};
 ghost use Rattle.records.specs.Shape.{inswOf, limitOf, comparOf};
 ghost use Rattle.evaluator.specs.Evaluate.{ran};
-ghost use Rattle.evaluator.specs.Sound.{Sound};
+ghost use Rattle.evaluator.specs.Sound.{Granted};
 ghost use Rattle.evaluator.specs.Stack.{machine, emptied, Ready, Steps, Ran};
 
 // INSW(P,A,B): A if P < 0, else B.
@@ -53,8 +49,8 @@ fn run_step(
     ins: Instr,
 ) -> usize
     requires { ⌜ Ready ins (now items) n (now values) (now derivs) ⌝ }
-    ensures { λ r. ⌜ Steps ins (now (items .entry)) n (now (values .entry)) (now (derivs .entry)) (now (items .exit)) r (now (values .exit))
-        (now (derivs .exit)) ⌝ }
+    ensures { λ r. ⌜ Steps ins (now (items .entry)) n (now (values .entry)) (now (derivs .entry)) (now (items .exit)) r
+        (now (values .exit)) (now (derivs .exit)) ⌝ }
 {
     match ins {
         Instr::Constant(s, x) => {
@@ -96,8 +92,7 @@ fn run_step(
 
 // Runs all records, on a stack that goes in and comes back.
 fn run(begin: Stack, program: &[u8], values: &mut [f64], derivs: &mut [f64]) -> Stack
-    requires { ⌜ (begin ≡ emptied) × Sound 1 0 (decoded (now program)) ⌝ }
-    requires room { ⌜ (slots ≤ length (now values)) × (slots ≤ length (now derivs)) ⌝ }
+    requires { ⌜ (begin ≡ emptied) × Granted (now program) (now values) (now derivs) ⌝ }
     ensures { λ r. ⌜ machine (r .items) (r .count) (now (values .exit)) (now (derivs .exit))
         ≡ ran (now (program .entry)) (now (values .entry)) (now (derivs .entry)) ⌝ }
 {
@@ -116,9 +111,9 @@ fn run(begin: Stack, program: &[u8], values: &mut [f64], derivs: &mut [f64]) -> 
 
 // Evaluates: constants, stored slots and derivatives are written.
 pub fn run_all(program: &[u8], values: &mut [f64], derivs: &mut [f64])
-    requires { ⌜ Sound 1 0 (decoded (now program)) ⌝ }
-    requires room { ⌜ (slots ≤ length (now values)) × (slots ≤ length (now derivs)) ⌝ }
-    ensures { λ _. ⌜ Ran (ran (now (program .entry)) (now (values .entry)) (now (derivs .entry))) (now (values .exit)) (now (derivs .exit)) ⌝ }
+    requires { ⌜ Granted (now program) (now values) (now derivs) ⌝ }
+    ensures { λ _. ⌜ Ran (ran (now (program .entry)) (now (values .entry)) (now (derivs .entry))) (now (values .exit))
+        (now (derivs .exit)) ⌝ }
 {
     run(empty(), program, values, derivs);
 }

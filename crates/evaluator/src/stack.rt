@@ -1,4 +1,5 @@
-// The stack of working values: a fixed array with their count. Its array is lent inside a run, so that nothing is copied.
+// The stack of working values: a fixed array with their count. Its array is lent inside a run, so that nothing is
+// copied.
 use limits::STACK;
 ghost use mathlib.Core.Path.{_≡_};
 ghost use Rattle.evaluator.specs.Stack.{emptied, below, Reaches, Room, Yields};

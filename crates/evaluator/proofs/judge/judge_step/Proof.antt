@@ -1,6 +1,6 @@
 use borrow.Author.Needs.{needs}
 use lib.Dec.{lit<}
-use Rattle.evaluator.proofs.Judging.{slot-found, found, found-value, found-fold, found-bad}
+use Rattle.evaluator.proofs.JudgedRecord.{slot-found, found, found-value, found-fold, found-bad}
 use Rattle.evaluator.proofs.judge.judge_step.Statement.{statement}
 use Rattle.evaluator.proofs.judge.judge_step.Tie as tie
 

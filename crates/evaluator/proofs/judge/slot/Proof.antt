@@ -1,14 +1,11 @@
-use borrow.Author.Tests.{ne-eqb}
-use Rattle.evaluator.specs.Judge.{readRule}
 use borrow.Author.Needs.{needs}
-use Rattle.evaluator.proofs.Judging.{unfit, pushes-slot}
+use borrow.Author.Tests.{ne-eqb}
+use Rattle.evaluator.proofs.JudgedRecord.{unfit, pushes-slot}
 use Rattle.evaluator.proofs.judge.slot.Statement.{statement}
 use Rattle.evaluator.proofs.judge.slot.Tie as tie
 
 returns : tie.Need-returns
-returns c =
-    let a = c .before .before .before in
-    unfit (readRule (a .args .s)) (c .bad .ensures) (rw (c .before .if1 .taken))
+returns c = unfit _ (c .bad .ensures) (rw (c .before .if1 .taken))
 
 returns-2 : tie.Need-returns-2
 returns-2 c =
@@ -16,4 +13,11 @@ returns-2 c =
     pushes-slot (a .pre .0) (a .args .s) (rw (ne-eqb _ 0 (c .before .if1 .left))) (c .push .ensures)
 
 pub slot-spec : {M : Type 1} → statement M
-slot-spec = tie.close (tie.spec (λ c. search needs) (λ c κs. search needs) returns (λ c κs. search needs) returns-2)
+slot-spec =
+    tie.close
+    (tie.spec
+    (λ c. search needs)
+    (λ c κs. search needs)
+    returns
+    (λ c κs. search needs)
+    returns-2)

@@ -1,8 +1,9 @@
 use borrow.Author.Needs.{needs}
 use lib.Ieee.{binary64, add, sub, mul, div, neg}
 use Rattle.records.specs.Shape.{inswOf, limitOf, comparOf}
-use Rattle.evaluator.proofs.Steps.{reach, room, in-values, in-derivs, one-less, constant-step, initial-step, bad-step}
-use Rattle.evaluator.proofs.Steps.{store-step, deriv-step, value-step, slot-step, one-step, two-step, three-step}
+use Rattle.evaluator.proofs.RunRecord.{reach, room, in-values, in-derivs, one-less}
+use Rattle.evaluator.proofs.RunRecord.{constant-step, initial-step, bad-step, store-step, deriv-step}
+use Rattle.evaluator.proofs.RunRecord.{value-step, slot-step, one-step, two-step, three-step}
 use Rattle.evaluator.proofs.run.run_step.Statement.{statement}
 use Rattle.evaluator.proofs.run.run_step.Tie as tie
 

@@ -1,7 +1,7 @@
 use borrow.Author.Needs.{needs}
 use lib.ListN.{set}
-use Rattle.evaluator.proofs.Judging.{slot-found}
-use Rattle.evaluator.proofs.Passes.{later-passes, constant-passes, initial-passes}
+use Rattle.evaluator.proofs.JudgedRecord.{slot-found}
+use Rattle.evaluator.proofs.StatePasses.{later-passes, constant-passes, initial-passes}
 use Rattle.evaluator.proofs.states.start_step.Statement.{statement}
 use Rattle.evaluator.proofs.states.start_step.Tie as tie
 

@@ -2,10 +2,10 @@
 -- can follow.
 use Prim.Native.Nat.{ℕ, zero-le, _+_, _-_, _*_, _/_, _≤_, _<_}
 use mathlib.Core.Path.{_≡_, refl, sym, ap, _∙_}
-use mathlib.Core.Bool.{Bool, true, false}
+use mathlib.Core.Bool.{Bool, true, false, not}
 use mathlib.Core.List.{List, [], _∷_}
 use native.Mathlib.Omega.{arith}
-use borrow.Author.Tests.{leb-false}
+use borrow.Author.Tests.{leb-false, not-true}
 use denote.Enum.Declared.{tagOf}
 use types.Run.{OneOf, miss}
 use lib.ListN.{length}
@@ -24,7 +24,7 @@ use Rattle.evaluator.specs.Judge.{ruleOf, takes, gives, phaseOf}
 use Rattle.evaluator.specs.Evaluate.{initially, eachState}
 use Rattle.evaluator.specs.Sound.{Sound}
 use Rattle.evaluator.specs.State.{Passes}
-use Rattle.evaluator.proofs.Accepted.{sound-next}
+use Rattle.evaluator.proofs.AcceptedSound.{sound-next}
 
 -- ---- one record
 
@@ -124,12 +124,12 @@ module _ {f : List Float → ℕ → Float → List Float} {p : List ℕ} {v₀ 
             }
 
         -- it is of phase 3, and the pass ends
-        pub over : r ≡ false → w ≡ eachState f v₀ (decoded p)
+        pub over : not r ≡ true → w ≡ eachState f v₀ (decoded p)
         unfolding eachState
         over z =
             let n = sound-next (a .sound) h e in
             let xs = left p (i + 1) in
-            let l = leb-false (phaseOf x) 2 (sym (b .early) ∙ z) in
+            let l = leb-false (phaseOf x) 2 (sym (b .early) ∙ not-true _ z) in
             let q : w ≡ initially (f v) v (shapeOf (decodeAt p (i * recordBytes))) = rw (n .is) at (b .same) in
             late f (phaseOf x) (a .height - takes x + gives x) w xs l (n .sound)
             ∙ ap (λ (u : List Float). eachState f u xs) q

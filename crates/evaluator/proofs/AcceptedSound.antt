@@ -16,7 +16,8 @@ use Rattle.records.specs.Record.{decodeAt, decodeFrom, decoded}
 use Rattle.records.specs.Decode.{readAt}
 use Rattle.records.proofs.Decoding.{slot-inside, read-at}
 use Rattle.records.proofs.LeftRecords.{left, left-next}
-use Rattle.evaluator.specs.Judge.{Judge, takes, gives, phaseOf, good, judged, judge₀, Verdict, verdict, judgeFrom, judge}
+use Rattle.evaluator.specs.Judge.{takes, gives, phaseOf, Judge, good, judged, judge₀, answer, judgeFrom, judge}
+use Rattle.evaluator.specs.declared.Answer.{Answer}
 use Rattle.evaluator.specs.Sound.{Fits, Sound}
 
 -- a good record fits
@@ -35,16 +36,19 @@ good-fits j x s e =
     }
 
 -- k records from record i on
-sound-from : (p : List ℕ) (i k : ℕ) (j : Judge) → judgeFrom i j (decodeFrom p i k) .number ≡ 0 → Sound (j .phase) (j .height) (decodeFrom p i k)
+sound-from : (p : List ℕ) (i k : ℕ) (j : Judge) → judgeFrom i j (decodeFrom p i k) .number ≡ 0
+    → Sound (j .phase) (j .height) (decodeFrom p i k)
 unfolding Sound judgeFrom decodeFrom
 sound-from p i zero j e = tt
 sound-from p i (suc k) j e =
     let x = decodeAt p (i * recordBytes) in
     let xs = decodeFrom p (suc i) k in
-    cond-ind (λ (v : Verdict). v .number ≡ 0 → Sound (j .phase) (j .height) (decodeFrom p i (suc k))) (good j x) (judgeFrom (suc i) (judged j x) xs)
-    (verdict 3 i) (λ g f. (good-fits j x (slot-inside p (i * recordBytes)) g, sound-from p (suc i) k (judged j x) f)) (λ _ f. absurd (omega arith)) e
+    cond-ind (λ (a : Answer). a .number ≡ 0 → Sound (j .phase) (j .height) (x ∷ xs)) (good j x)
+    (judgeFrom (suc i) (judged j x) xs) (answer 3 i)
+    (λ g f. (good-fits j x (slot-inside p (i * recordBytes)) g, sound-from p (suc i) k (judged j x) f))
+    (λ _ f. absurd (omega arith)) e
 
--- THE LAW. No record of an accepted program finds too few values, holds a sixty-eighth, or names a slot past 255
+-- THE LAW. No record of an accepted program finds too few values or no place for its value, or names no slot
 pub accepted-sound : (p : List ℕ) → judge (decoded p) .number ≡ 0 → Sound 1 0 (decoded p)
 unfolding decoded
 accepted-sound p e = sound-from p 0 (length p / recordBytes) judge₀ e
@@ -58,7 +62,8 @@ pub record Next (p : List ℕ) (q h i : ℕ) (x : Instr) : Type 0 where
   pub sound : Sound (phaseOf x) (h - takes x + gives x) (left p (i + 1))
 
 -- it is read as it was decoded, and fits
-pub sound-next : {p : List ℕ} {q h i : ℕ} {x : Instr} → Sound q h (left p i) → i < length p / recordBytes → x ≡ readAt p i → Next p q h i x
+pub sound-next : {p : List ℕ} {q h i : ℕ} {x : Instr} → Sound q h (left p i) → i < length p / recordBytes
+    → x ≡ readAt p i → Next p q h i x
 unfolding Sound
 sound-next {p} {q} {h} {i} {x} s l e =
     let t : Sound q h (decodeAt p (i * recordBytes) ∷ left p (i + 1)) = rw (left-next p i l) at s in

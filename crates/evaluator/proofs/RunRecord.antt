@@ -12,7 +12,7 @@ use Rattle.records.specs.declared.Instr.the-variants.{Constant, Initial, Value,
 use Rattle.evaluator.specs.Judge.{ruleOf, takes, gives}
 use Rattle.evaluator.specs.Machine.{step}
 use Rattle.evaluator.specs.Stack.{below, Reaches, Room, Yields, Ready, Steps}
-use Rattle.evaluator.proofs.Stacks.{down-drop}
+use Rattle.evaluator.proofs.StackValues.{down-drop}
 
 -- ---- what the instruction x finds, as which a match has found i
 

@@ -32,7 +32,9 @@ pub down-at : (l : List Float) (n k : ℕ) → k < n → getD l (n - (k + 1)) na
 unfolding down
 down-at l zero k h = absurd (omega arith)
 down-at l (suc n) zero h = let e : suc n - (0 + 1) ≡ n = omega arith in rw e
-down-at l (suc n) (suc k) h = let e : suc n - (suc k + 1) ≡ n - (k + 1) = omega arith in rw e (down-at l n k (omega arith))
+down-at l (suc n) (suc k) h =
+    let e : suc n - (suc k + 1) ≡ n - (k + 1) = omega arith in
+    rw e (down-at l n k (omega arith))
 
 -- x is put for the k topmost
 pub put-done : (k : ℕ) (l : List Float) (n : ℕ) (x : Float) → Room k l n → Yields k l n x (set l (n - k) x) (n - k + 1)

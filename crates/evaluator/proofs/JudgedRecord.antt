@@ -17,7 +17,8 @@ use Rattle.records.specs.Fields.{operandOf}
 use Rattle.records.specs.Shape.{shapeOf}
 use Rattle.records.specs.declared.Instr.{Instr}
 use Rattle.records.specs.declared.Instr.the-variants.{Value, Bad}
-use Rattle.evaluator.specs.Judge.{Rule, setRule, readRule, foldRule, storeRule, derivativeRule, badRule, ruleOf, goodBy}
+use Rattle.evaluator.specs.Judge.{Rule, setRule, readRule, foldRule, storeRule, derivativeRule, badRule}
+use Rattle.evaluator.specs.Judge.{ruleOf, goodBy}
 use Rattle.evaluator.specs.State.{state, stopped, pushed, folded, known, Stands, Judges}
 use Rattle.evaluator.specs.declared.judge.State.{State}
 
@@ -26,7 +27,12 @@ module _ (q : Rule) {t : State} {l : List ℕ} {r : State} where
   stop : r ≡ stopped → goodBy (known t l) q ≡ false → Judges t l q r l
   stop z e =
       rw z
-      (record { fine = sym e; next = λ o. absurd (not-both o refl); stands = λ o. absurd (not-both o refl); long = refl })
+      (record {
+        fine = sym e;
+        next = λ o. absurd (not-both o refl);
+        stands = λ o. absurd (not-both o refl);
+        long = refl;
+      })
 
   -- too few values
   few : r ≡ stopped → t .height < q .takes → Judges t l q r l
@@ -134,7 +140,8 @@ module _ {t : State} {l : List ℕ} {r : State} (w : Stands t l) where
         (omega (arith, remarked l s 0 1 (inside w s h) e, w .owed)) w (omega arith) zero-le (w .phase) (lit≤ tt)
         (and-both _ _ (eq-eqb (t .height) 1 a) (eq-eqb (getD l s 0) 0 e))
 
-    pub deriv : r ≡ state 3 0 (t .owed - 1) → t .height ≡ 1 → getD l s 0 ≡ 2 → Judges t l (derivativeRule s) r (set l s 3)
+    pub deriv : r ≡ state 3 0 (t .owed - 1) → t .height ≡ 1 → getD l s 0 ≡ 2
+        → Judges t l (derivativeRule s) r (set l s 3)
     deriv q a e =
         passed (derivativeRule s) 0 (t .owed - 1) q (omega arith) refl (length-set l s 3)
         (omega (arith, remarked l s 2 3 (inside w s h) e, w .owed)) w (omega arith) zero-le (w .phase) (lit≤ tt)
