@@ -14,31 +14,31 @@ pub record Machine : Type 0 where
   pub derivs : List Float
 
 -- the value that k others stand on
-abbrev pub at : Machine → ℕ → Float
+abbrev at : Machine → ℕ → Float
 at m k = getD (m .stack) k nan
 
 -- the k topmost values give way to x
-abbrev pub yield : Machine → ℕ → Float → Machine
+abbrev yield : Machine → ℕ → Float → Machine
 yield m k x = record { stack = x ∷ drop k (m .stack); values = m .values; derivs = m .derivs }
 
 -- what is pushed
-abbrev pub pushed : Machine → Source → Float
-pushed m (value x) = x
-pushed m (slot s) = getD (m .values) s nan
+abbrev given : Machine → Source → Float
+given m (value x) = x
+given m (slot s) = getD (m .values) s nan
 
 -- what is done for each shape
-abbrev pub done : Machine → Shape → Machine
-done m (constant s x) = record { stack = m .stack; values = set (m .values) s x; derivs = m .derivs }
-done m (initial s x) = m
-done m (push p) = yield m 0 (pushed m p)
-done m (fold o) = yield m (operands o) (applied o (at m))
-done m (store s) = record { stack = drop 1 (m .stack); values = set (m .values) s (at m 0); derivs = m .derivs }
-done m (derivative s) = record { stack = drop 1 (m .stack); values = m .values; derivs = set (m .derivs) s (at m 0) }
-done m bad = m
+abbrev act : Machine → Shape → Machine
+act m (constant s x) = record { stack = m .stack; values = set (m .values) s x; derivs = m .derivs }
+act m (initial s x) = m
+act m (push p) = yield m 0 (given m p)
+act m (fold o) = yield m (operands o) (applied o (at m))
+act m (store s) = record { stack = drop 1 (m .stack); values = set (m .values) s (at m 0); derivs = m .derivs }
+act m (derivative s) = record { stack = drop 1 (m .stack); values = m .values; derivs = set (m .derivs) s (at m 0) }
+act m bad = m
 
 -- one instruction
 unfoldable pub step : Machine → Instr → Machine
-step m x = done m (shapeOf x)
+step m x = act m (shapeOf x)
 
 unfoldable pub run : Machine → List Instr → Machine
 run m [] = m

@@ -1,7 +1,7 @@
 -- How large an answer is: its number is at most 4, its record number at most 4,096; so both keep their value in their fixed layout.
 use Prim.Native.Nat.{ℕ, zero, suc, _+_, _/_, _%_, _≤_}
-use mathlib.Core.Path.{_≡_, refl, sym, ap, _∙_}
-use mathlib.Core.Bool.{Bool, true, false, not, cond, _&&_, _||_}
+use mathlib.Core.Path.{_≡_, refl, ap, _∙_}
+use mathlib.Core.Bool.{not, cond, _&&_, _||_}
 use mathlib.Core.List.{List, [], _∷_}
 use native.Mathlib.Omega.{arith}
 use borrow.Author.Tests.{ltb-false}
@@ -21,7 +21,7 @@ use Rattle.floesedge.specs.Contract.{Translates as Gives}
 use Rattle.translator.specs.Verdict.{Outcome as Translation, translation, verdictOf, countOf}
 use Rattle.translator.proofs.Counted.{few, count-few}
 use Rattle.translator.proofs.Verdicts.{by-number}
-use Rattle.evaluator.specs.Judge.{Judge, answer, good, judged, anyOpen, judgeFrom, judge}
+use Rattle.evaluator.specs.Judge.{Judge, answer, good, judged, anyOpen, judgeFrom}
 use Rattle.evaluator.specs.Evaluate.{RunOutcome, runOutcome, refusal, evaluated, started, stepped}
 use Rattle.evaluator.specs.Contract.{Evaluated, Started, Stepped}
 use Rattle.evaluator.specs.declared.Answer.{Answer}

@@ -1,9 +1,7 @@
 -- Any two outcomes that the contract of an open entry allows are equal.
 use Prim.Native.Nat.{ℕ}
-use mathlib.Core.Path.{_≡_, refl, sym, ap, ap₂, _∙_}
+use mathlib.Core.Path.{_≡_, sym, ap, ap₂, _∙_}
 use mathlib.Core.List.{List}
-use native.Mathlib.Omega.{arith}
-use lib.ListN.{length}
 use lib.Ieee.{Float}
 use Rattle.grammar.specs.Contract.{Outcome as ParseOutcome}
 use Rattle.grammar.specs.declared.Parsed.{Parsed}
@@ -14,9 +12,7 @@ use Rattle.evaluator.specs.Evaluate.{RunOutcome, runOutcome}
 use Rattle.evaluator.specs.Judge.{answer}
 use Rattle.translator.specs.Contract.{Reply}
 use Rattle.translator.specs.Verdict.{Outcome}
-use Rattle.tally.specs.declared.Tally.{Tally}
 use Rattle.floesedge.specs.declared.Answer.{Answer as CAnswer}
-use Rattle.floesedge.specs.declared.Verdict.{Verdict as CVerdict}
 use Rattle.promises.specs.Agreement.{Agree2, Bits, Deck, Tokens, Grammar, Order, Records, Model, Program, Evaluator}
 use Rattle.promises.specs.Agreement.{Translator, Listing, Library, Counting}
 

@@ -1,12 +1,12 @@
 -- Decoding: what is known of a record that is not refused.
 use Prim.Native.Nat.{ℕ, zero-le, _+_, _*_, _/_, _≤_, _<_}
 use mathlib.Core.Path.{_≡_, refl, sym, _∙_}
-use mathlib.Core.Bool.{Bool, _||_}
+use mathlib.Core.Bool.{Bool, true, false, not, _||_}
 use mathlib.Core.List.{List}
 use mathlib.Core.Logic.{_⊎_, inr, ⊎-elim}
 use native.Mathlib.Nat.{le-refl}
 use native.Mathlib.Omega.{arith}
-use borrow.Author.Tests.{ne-eqb, lt-ltb, eqb-true, ltb-true}
+use borrow.Author.Tests.{ne-eqb, lt-ltb, le-ltb, eqb-true, ltb-true, not-true, not-false}
 use lib.Dec.{eqb, ltb, lit<}
 use lib.ListN.{length, getD, List·getD-eq-default}
 use lib.Ieee.{Float, binary64, ofBits}
@@ -31,6 +31,28 @@ unfolding instrOf
 unknown-refused k s b h =
     rw (unknown k s (ofBits binary64 b) h)
     (cond-ind (λ (i : Instr). Bad ≡ i) (inOrder k 0 s b) Bad Bad (λ _. refl) (λ _. refl))
+
+-- ---- a kind that uses these fields, or not
+
+module _ (slotted valued : Bool) (k s b : ℕ) where
+  module _ {o : Bool} (e : o ≡ (slotted || eqb s 0)) where
+    -- the operand is not 0, though unused
+    pub operand-unused : not o ≡ true → Bad ≡ withFields slotted valued k s b
+    operand-unused n = rw (sym e ∙ not-true _ n)
+
+    module _ {q : Bool} (f : q ≡ (valued || eqb b 0)) (n : not o ≡ false) where
+      -- the bits are not 0, though unused
+      pub bits-unused : not q ≡ true → Bad ≡ withFields slotted valued k s b
+      bits-unused m = rw (sym e ∙ not-false _ n, sym f ∙ not-true _ m)
+
+      -- the slot is none
+      pub no-slot : not q ≡ false → slots ≤ s → Bad ≡ withFields slotted valued k s b
+      no-slot m h = rw (sym e ∙ not-false _ n, sym f ∙ not-false _ m, le-ltb s slots h)
+
+      -- all is in order
+      pub in-order : {r : Instr} {x : Float} → not q ≡ false → s < slots → r ≡ byKind k s x → x ≡ ofBits binary64 b
+          → r ≡ withFields slotted valued k s b
+      in-order m h i j = i ∙ rw (j, sym e ∙ not-false _ n, sym f ∙ not-false _ m, lt-ltb s slots h)
 
 -- what a kind that uses these fields holds
 pub uses : (k s b : ℕ) (slotted valued : Bool) → hasSlot k ≡ slotted → hasValue k ≡ valued
@@ -92,12 +114,19 @@ module _ (p : List ℕ) where
   decoded-at n h = rw (lt-ltb n (length p / recordBytes) h)
 
   -- what is read of it, checked, is that record
-  pub checked-at : (n : ℕ) → n < length p / recordBytes
-      → instrOf (field p (n * recordBytes) 2) 0 (field p (n * recordBytes + 2) 2) (field p (n * recordBytes + 8) 8)
-      ≡ decodedAt p n
+  pub checked-at : (n : ℕ) {w s b : ℕ} {r : Instr} → n < length p / recordBytes → w ≡ field p (n * recordBytes) 2
+      → s ≡ field p (n * recordBytes + 2) 2 → b ≡ field p (n * recordBytes + 8) 8 → r ≡ instrOf w 0 s b
+      → r ≡ decodedAt p n
   unfolding decodeAt
-  checked-at n h =
-      joined _ _ _ _ _ (field-two p (n * recordBytes) (omega arith)) ∙ sym (decoded-at n h)
+  checked-at n h k i j e =
+      e ∙ rw (k, i, j) (joined _ _ _ _ _ (field-two p (n * recordBytes) (omega arith)) ∙ sym (decoded-at n h))
+
+  -- past the last there is none
+  pub none-decoded : (n : ℕ) → length p / recordBytes ≤ n → Bad ≡ decodedAt p n
+  none-decoded n h = rw (le-ltb n (length p / recordBytes) h)
+
+  pub none-read : (n : ℕ) → length p / recordBytes ≤ n → Bad ≡ readAt p n
+  none-read n h = rw (le-ltb n (length p / recordBytes) h)
 
   -- `read` answers the same, where that is no refusal
   pub read-at : (n : ℕ) → n < length p / recordBytes → (decodeAt p (n * recordBytes) ≡ Bad → ⊥)

@@ -16,7 +16,7 @@ abbrev pub decodedAt : List ℕ → ℕ → Instr
 decodedAt p n = cond (ltb n (length p / recordBytes)) (decodeAt p (n * recordBytes)) Bad
 
 -- the same as the kind alone has it, with byte 1 as the kind's high byte; the unused fields are not looked at
-abbrev pub kindAt : List ℕ → ℕ → Instr
+abbrev kindAt : List ℕ → ℕ → Instr
 kindAt p o = byKind (field p o 2) (field p (o + 2) 2) (ofBits binary64 (field p (o + 8) 8))
 
 abbrev pub readAt : List ℕ → ℕ → Instr

@@ -1,5 +1,4 @@
 use Prim.Native.Nat.{_-_}
-use native.Mathlib.Omega.{arith}
 use borrow.Author.Needs.{needs}
 use Rattle.evaluator.proofs.JudgedProgram.{Judging, first, ready, refused, next, tall, owing, well}
 use Rattle.evaluator.proofs.judge.judge.Statement.{statement}
@@ -35,8 +34,8 @@ judge-spec =
     (λ c κs. search (needs, ready))
     (λ c κs. search needs)
     (λ c. search refused)
-    (λ c. omega arith)
-    (λ c. omega arith)
+    (λ c. search needs)
+    (λ c. search needs)
     loop-again
     (λ c κs. search needs)
     (λ c. search tall)

@@ -1,5 +1,4 @@
 use Prim.Native.Nat.{_-_}
-use native.Mathlib.Omega.{arith}
 use borrow.Author.Needs.{needs}
 use Rattle.evaluator.proofs.RunProgram.{Running, first, ready, next, last}
 use Rattle.evaluator.proofs.run.run.Statement.{statement}
@@ -35,8 +34,8 @@ run-spec =
     (λ c. search first)
     (λ c κs. search needs)
     (λ c κs. search ready)
-    (λ c. omega arith)
-    (λ c. omega arith)
+    (λ c. search needs)
+    (λ c. search needs)
     loop-again
     same-length
     same-length-2

@@ -1,6 +1,5 @@
 use Prim.Native.Nat.{_-_}
 use mathlib.Core.Path.{_∙_}
-use native.Mathlib.Omega.{arith}
 use borrow.Author.Needs.{needs}
 use Rattle.evaluator.specs.Evaluate.{moved}
 use Rattle.evaluator.proofs.StatePasses.{Passing, first, ready, next, over, done}
@@ -40,8 +39,8 @@ move-all-spec =
     (λ c κs. search (needs, ready))
     same-length
     (λ c. search over)
-    (λ c. omega arith)
-    (λ c. omega arith)
+    (λ c. search needs)
+    (λ c. search needs)
     loop-again
     same-length-2
     (λ c. search done))
