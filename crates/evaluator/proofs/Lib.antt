@@ -1,8 +1,8 @@
-pub mod Stacks
-pub mod Steps
-pub mod Judging
-pub mod Judged
-pub mod Accepted
-pub mod Runs
-pub mod Passes
-pub mod Entries
+pub mod StackValues
+pub mod AcceptedSound
+pub mod JudgedRecord
+pub mod JudgedProgram
+pub mod RunRecord
+pub mod RunProgram
+pub mod StatePasses
+pub mod EntryAnswers

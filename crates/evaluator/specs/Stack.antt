@@ -1,4 +1,4 @@
--- The stack of 67 places and the machine that it stands for.
+-- The stack in its array, and the machine that it stands for.
 use Prim.Native.Nat.{ℕ, zero, suc, _+_, _-_, _≤_, _<_}
 use mathlib.Core.Path.{_≡_}
 use mathlib.Core.List.{List, [], _∷_}
@@ -7,7 +7,8 @@ use lib.Ieee.{Float, nan}
 use Rattle.limits.specs.Limits.{slots, stackPlaces}
 use Rattle.records.specs.Fields.{operandOf}
 use Rattle.records.specs.declared.Instr.{Instr}
-use Rattle.evaluator.specs.Machine.{zero64, Machine, step}
+use Rattle.records.specs.Shape.{zero64}
+use Rattle.evaluator.specs.Machine.{Machine, step}
 use Rattle.evaluator.specs.Judge.{takes, gives}
 use Rattle.evaluator.specs.declared.stack.Stack.{Stack}
 
@@ -27,14 +28,19 @@ emptied = record { items = replicate stackPlaces zero64; count = 0 }
 abbrev pub below : List Float → ℕ → ℕ → Float
 below l n k = getD (down l n) k nan
 
--- there are n values, k at least
-pub record Holds (k : ℕ) (l : List Float) (n : ℕ) : Type 0 where
-  pub low : k ≤ n
+-- of n values one stands under k others
+pub record Reaches (k n : ℕ) : Type 0 where
+  pub low : k < n
   pub tall : n ≤ stackPlaces
+
+-- the k topmost of n values can give way to one
+pub record Room (k : ℕ) (l : List Float) (n : ℕ) : Type 0 where
+  pub low : k ≤ n
+  pub high : n - k < stackPlaces
   pub full : length l ≡ stackPlaces
 
--- the k topmost of n values gave way to x, and there are r
-pub record Put (k : ℕ) (l : List Float) (n : ℕ) (x : Float) (l′ : List Float) (r : ℕ) : Type 0 where
+-- they gave way to x, and there are r
+pub record Yields (k : ℕ) (l : List Float) (n : ℕ) (x : Float) (l′ : List Float) (r : ℕ) : Type 0 where
   pub stack : down l′ r ≡ x ∷ drop k (down l n)
   pub count : r ≡ n - k + 1
   pub full : length l′ ≡ stackPlaces
@@ -50,7 +56,8 @@ pub record Ready (x : Instr) (l : List Float) (n : ℕ) (v d : List Float) : Typ
   pub derivs : slots ≤ length d
 
 -- it made one step of the machine
-pub record Steps (x : Instr) (l : List Float) (n : ℕ) (v d : List Float) (l′ : List Float) (r : ℕ) (v′ d′ : List Float) : Type 0 where
+pub record Steps (x : Instr) (l : List Float) (n : ℕ) (v d : List Float) (l′ : List Float) (r : ℕ) (v′ d′ : List Float)
+    : Type 0 where
   pub same : machine l′ r v′ d′ ≡ step (machine l n v d) x
   pub count : r ≡ n - takes x + gives x
   pub full : length l′ ≡ stackPlaces

@@ -1,14 +1,18 @@
--- The judge as the code has it: beside the marks a state, which counts the states without derivative.
+-- The judge as the code has it: beside the marks a state, which counts the states without derivative. And the passes
+-- over the states.
 use Prim.Native.Nat.{ℕ, _+_, _-_, _≤_}
 use mathlib.Core.Path.{_≡_}
-use mathlib.Core.Bool.{true, false, cond}
+use mathlib.Core.Bool.{Bool, true, false, cond}
 use mathlib.Core.List.{List}
 use lib.Dec.{leb, ltb}
 use lib.ListN.{length}
+use lib.Ieee.{Float}
 use Rattle.limits.specs.Limits.{slots, stackPlaces}
 use Rattle.laws.specs.Counts.{count}
 use Rattle.records.specs.declared.Instr.{Instr}
-use Rattle.evaluator.specs.Judge.{Judge, good, judged}
+use Rattle.records.specs.Shape.{shapeOf}
+use Rattle.evaluator.specs.Judge.{Rule, phaseOf, Judge, goodBy, judgedBy}
+use Rattle.evaluator.specs.Evaluate.{initially}
 use Rattle.evaluator.specs.declared.judge.State.{State}
 
 -- after a good record: the phase reached, the count of values, the count of derivatives owed
@@ -37,9 +41,15 @@ pub record Stands (t : State) (l : List ℕ) : Type 0 where
   pub owed : t .owed ≡ count 2 l
   pub long : length l ≡ slots
 
--- one record, from t and l to r and k: r says whether it is good, and then is where the definition goes
-pub record Judges (t : State) (l : List ℕ) (x : Instr) (r : State) (k : List ℕ) : Type 0 where
-  pub fine : r .ok ≡ good (known t l) x
-  pub next : r .ok ≡ true → known r k ≡ judged (known t l) x
+-- one record by its rule, from t and l to r and k: r says whether it is good, and then is where the definition goes
+pub record Judges (t : State) (l : List ℕ) (q : Rule) (r : State) (k : List ℕ) : Type 0 where
+  pub fine : r .ok ≡ goodBy (known t l) q
+  pub next : r .ok ≡ true → known r k ≡ judgedBy (known t l) q
   pub stands : r .ok ≡ true → Stands r k
   pub long : length k ≡ length l
+
+-- one record of a pass, from the values v to w: r says whether the next can have an initial value
+pub record Passes (f : List Float → ℕ → Float → List Float) (v : List Float) (x : Instr) (w : List Float) (r : Bool) :
+    Type 0 where
+  pub same : w ≡ initially (f v) v (shapeOf x)
+  pub early : r ≡ leb (phaseOf x) 2

@@ -8,16 +8,15 @@ use records::Instr;
 use records::decode;
 ghost use mathlib.Core.Path.{_≡_};
 ghost use Prim.Native.Nat.{_<_, _≤_};
-ghost use lib.Ieee.{Float};
 ghost use Rattle.limits.specs.Limits.{slots, stackPlaces};
 ghost use Rattle.records.specs.Fields.{operandOf};
+ghost use Rattle.records.specs.Shape.{shapeOf};
 ghost use Rattle.records.specs.Record.{decoded};
-ghost use Rattle.evaluator.specs.Contract.{told};
-ghost use Rattle.evaluator.specs.Judge.{judge};
+ghost use Rattle.evaluator.specs.Judge.{setRule, readRule, storeRule, derivativeRule, ruleOf, judge};
 ghost use Rattle.evaluator.specs.State.{state, stopped, pushed, folded, Stands, Judges};
 
-// What is known between two records, beside the marks of the slots: the phase reached, the count of values on the stack and the count of
-// states without derivative; or that the record was bad.
+// What is known between two records, beside the marks of the slots: the phase reached, the count of values on the stack
+// and the count of states without derivative; or that the record was bad.
 pub struct State {
     pub ok: bool,
     pub phase: usize,
@@ -75,7 +74,7 @@ fn fold(t: State, k: usize) -> State
 // Kind 1: its slot is not set yet, and no other kind stood before.
 fn constant(t: State, marks: &mut [u8; SLOTS], s: u16) -> State
     requires { ⌜ Stands t (now marks) × (s < slots) ⌝ }
-    ensures { λ r. ⌜ ((x : Float) → Judges t (now (marks .entry)) (Instr.Constant s x) r (now (marks .exit))) ⌝ }
+    ensures { λ r. ⌜ Judges t (now (marks .entry)) (setRule 1 s 1) r (now (marks .exit)) ⌝ }
 {
     if 1 < t.phase {
         return bad();
@@ -90,7 +89,7 @@ fn constant(t: State, marks: &mut [u8; SLOTS], s: u16) -> State
 // Kind 2: its slot is not set yet, and kinds 3 to 14 did not stand before.
 fn initial(t: State, marks: &mut [u8; SLOTS], s: u16) -> State
     requires { ⌜ Stands t (now marks) × (s < slots) ⌝ }
-    ensures { λ r. ⌜ ((x : Float) → Judges t (now (marks .entry)) (Instr.Initial s x) r (now (marks .exit))) ⌝ }
+    ensures { λ r. ⌜ Judges t (now (marks .entry)) (setRule 2 s 2) r (now (marks .exit)) ⌝ }
 {
     if 2 < t.phase {
         return bad();
@@ -105,7 +104,7 @@ fn initial(t: State, marks: &mut [u8; SLOTS], s: u16) -> State
 // Kind 4: its slot is set.
 fn slot(t: State, marks: &mut [u8; SLOTS], s: u16) -> State
     requires { ⌜ Stands t (now marks) × (s < slots) ⌝ }
-    ensures { λ r. ⌜ Judges t (now (marks .entry)) (Instr.Slot s) r (now (marks .exit)) ⌝ }
+    ensures { λ r. ⌜ Judges t (now (marks .entry)) (readRule s) r (now (marks .exit)) ⌝ }
 {
     if marks[s as usize] == 0 {
         return bad();
@@ -116,7 +115,7 @@ fn slot(t: State, marks: &mut [u8; SLOTS], s: u16) -> State
 // Kind 13: there is one value, and the slot is not set yet.
 fn store(t: State, marks: &mut [u8; SLOTS], s: u16) -> State
     requires { ⌜ Stands t (now marks) × (s < slots) ⌝ }
-    ensures { λ r. ⌜ Judges t (now (marks .entry)) (Instr.Store s) r (now (marks .exit)) ⌝ }
+    ensures { λ r. ⌜ Judges t (now (marks .entry)) (storeRule s) r (now (marks .exit)) ⌝ }
 {
     if t.height != 1 {
         return bad();
@@ -131,7 +130,7 @@ fn store(t: State, marks: &mut [u8; SLOTS], s: u16) -> State
 // Kind 14: there is one value, and the slot is a state without derivative.
 fn deriv(t: State, marks: &mut [u8; SLOTS], s: u16) -> State
     requires { ⌜ Stands t (now marks) × (s < slots) ⌝ }
-    ensures { λ r. ⌜ Judges t (now (marks .entry)) (Instr.Deriv s) r (now (marks .exit)) ⌝ }
+    ensures { λ r. ⌜ Judges t (now (marks .entry)) (derivativeRule s) r (now (marks .exit)) ⌝ }
 {
     if t.height != 1 {
         return bad();
@@ -146,7 +145,7 @@ fn deriv(t: State, marks: &mut [u8; SLOTS], s: u16) -> State
 // One record.
 fn judge_step(t: State, marks: &mut [u8; SLOTS], ins: Instr) -> State
     requires { ⌜ Stands t (now marks) × (operandOf ins < slots) ⌝ }
-    ensures { λ r. ⌜ Judges t (now (marks .entry)) ins r (now (marks .exit)) ⌝ }
+    ensures { λ r. ⌜ Judges t (now (marks .entry)) (ruleOf (shapeOf ins)) r (now (marks .exit)) ⌝ }
 {
     match ins {
         Instr::Constant(s, _) => constant(t, marks, s),
@@ -169,7 +168,7 @@ fn judge_step(t: State, marks: &mut [u8; SLOTS], ins: Instr) -> State
 
 // The judge's answer on a program.
 pub fn judge(program: &[u8]) -> Answer
-    ensures { λ r. ⌜ told r ≡ judge (decoded (now (program .entry))) ⌝ }
+    ensures { λ r. ⌜ r ≡ judge (decoded (now (program .entry))) ⌝ }
 {
     let mut marks = [0u8; SLOTS];
     marks[0] = 1;

@@ -8,34 +8,22 @@ use limits::STACK;
 use records::Instr;
 use records::read;
 ghost use mathlib.Core.Path.{_≡_};
-ghost use Prim.Native.Nat.{_≤_};
-ghost use lib.ListN.{length};
-ghost use Rattle.limits.specs.Limits.{slots};
-ghost use Rattle.records.specs.Record.{decoded};
-ghost use Rattle.evaluator.specs.Machine.{inswOf, limitOf, comparOf};
+ghost use Rattle.records.specs.Shape.{inswOf, limitOf, comparOf};
 ghost use Rattle.evaluator.specs.Evaluate.{ran};
-ghost use Rattle.evaluator.specs.Sound.{Sound};
-ghost use Rattle.evaluator.specs.Stack.{machine, emptied, below, Holds, Ready, Steps, Ran};
+ghost use Rattle.evaluator.specs.Sound.{Granted};
+ghost use Rattle.evaluator.specs.Stack.{machine, emptied, Ready, Steps, Ran};
 
 // INSW(P,A,B): A if P < 0, else B.
-fn insw(items: &[f64; STACK], count: usize) -> f64
-    requires { ⌜ Holds 3 (now items) count ⌝ }
-    ensures { λ r. ⌜ r ≡ inswOf (below (now (items .entry)) count 2) (below (now (items .entry)) count 1) (below (now (items .entry)) count 0) ⌝ }
+fn insw(p: f64, a: f64, b: f64) -> f64
+    ensures { λ r. ⌜ r ≡ inswOf p a b ⌝ }
 {
-    let p = peek(items, count, 2);
-    let a = peek(items, count, 1);
-    let b = peek(items, count, 0);
     if p < 0.0 { a } else { b }
 }
 
 // LIMIT(L,U,X): L if X < L, else U if X > U, else X.
-fn limit(items: &[f64; STACK], count: usize) -> f64
-    requires { ⌜ Holds 3 (now items) count ⌝ }
-    ensures { λ r. ⌜ r ≡ limitOf (below (now (items .entry)) count 2) (below (now (items .entry)) count 1) (below (now (items .entry)) count 0) ⌝ }
+fn limit(l: f64, u: f64, x: f64) -> f64
+    ensures { λ r. ⌜ r ≡ limitOf l u x ⌝ }
 {
-    let l = peek(items, count, 2);
-    let u = peek(items, count, 1);
-    let x = peek(items, count, 0);
     if x < l {
         return l;
     }
@@ -46,12 +34,9 @@ fn limit(items: &[f64; STACK], count: usize) -> f64
 }
 
 // COMPAR(A,B): 1 if A >= B, else 0.
-fn compar(items: &[f64; STACK], count: usize) -> f64
-    requires { ⌜ Holds 2 (now items) count ⌝ }
-    ensures { λ r. ⌜ r ≡ comparOf (below (now (items .entry)) count 1) (below (now (items .entry)) count 0) ⌝ }
+fn compar(a: f64, b: f64) -> f64
+    ensures { λ r. ⌜ r ≡ comparOf a b ⌝ }
 {
-    let a = peek(items, count, 1);
-    let b = peek(items, count, 0);
     if a >= b { 1.0 } else { 0.0 }
 }
 
@@ -64,8 +49,8 @@ fn run_step(
     ins: Instr,
 ) -> usize
     requires { ⌜ Ready ins (now items) n (now values) (now derivs) ⌝ }
-    ensures { λ r. ⌜ Steps ins (now (items .entry)) n (now (values .entry)) (now (derivs .entry)) (now (items .exit)) r (now (values .exit))
-        (now (derivs .exit)) ⌝ }
+    ensures { λ r. ⌜ Steps ins (now (items .entry)) n (now (values .entry)) (now (derivs .entry)) (now (items .exit)) r
+        (now (values .exit)) (now (derivs .exit)) ⌝ }
 {
     match ins {
         Instr::Constant(s, x) => {
@@ -80,9 +65,19 @@ fn run_step(
         Instr::Mul => put(items, n, 2, peek(items, n, 1) * peek(items, n, 0)),
         Instr::Div => put(items, n, 2, peek(items, n, 1) / peek(items, n, 0)),
         Instr::Neg => put(items, n, 1, -peek(items, n, 0)),
-        Instr::Insw => put(items, n, 3, insw(items, n)),
-        Instr::Limit => put(items, n, 3, limit(items, n)),
-        Instr::Compar => put(items, n, 2, compar(items, n)),
+        Instr::Insw => put(
+            items,
+            n,
+            3,
+            insw(peek(items, n, 2), peek(items, n, 1), peek(items, n, 0)),
+        ),
+        Instr::Limit => put(
+            items,
+            n,
+            3,
+            limit(peek(items, n, 2), peek(items, n, 1), peek(items, n, 0)),
+        ),
+        Instr::Compar => put(items, n, 2, compar(peek(items, n, 1), peek(items, n, 0))),
         Instr::Store(s) => {
             values[s as usize] = peek(items, n, 0);
             n - 1
@@ -97,8 +92,7 @@ fn run_step(
 
 // Runs all records, on a stack that goes in and comes back.
 fn run(begin: Stack, program: &[u8], values: &mut [f64], derivs: &mut [f64]) -> Stack
-    requires { ⌜ (begin ≡ emptied) × Sound 1 0 (decoded (now program)) ⌝ }
-    requires room { ⌜ (slots ≤ length (now values)) × (slots ≤ length (now derivs)) ⌝ }
+    requires { ⌜ (begin ≡ emptied) × Granted (now program) (now values) (now derivs) ⌝ }
     ensures { λ r. ⌜ machine (r .items) (r .count) (now (values .exit)) (now (derivs .exit))
         ≡ ran (now (program .entry)) (now (values .entry)) (now (derivs .entry)) ⌝ }
 {
@@ -117,9 +111,9 @@ fn run(begin: Stack, program: &[u8], values: &mut [f64], derivs: &mut [f64]) -> 
 
 // Evaluates: constants, stored slots and derivatives are written.
 pub fn run_all(program: &[u8], values: &mut [f64], derivs: &mut [f64])
-    requires { ⌜ Sound 1 0 (decoded (now program)) ⌝ }
-    requires room { ⌜ (slots ≤ length (now values)) × (slots ≤ length (now derivs)) ⌝ }
-    ensures { λ _. ⌜ Ran (ran (now (program .entry)) (now (values .entry)) (now (derivs .entry))) (now (values .exit)) (now (derivs .exit)) ⌝ }
+    requires { ⌜ Granted (now program) (now values) (now derivs) ⌝ }
+    ensures { λ _. ⌜ Ran (ran (now (program .entry)) (now (values .entry)) (now (derivs .entry))) (now (values .exit))
+        (now (derivs .exit)) ⌝ }
 {
     run(empty(), program, values, derivs);
 }

@@ -1,9 +1,8 @@
-// The stack of working values: a fixed array with their count. Its array is lent inside a run, so that nothing is copied.
+// The stack of working values: a fixed array with their count. Its array is lent inside a run, so that nothing is
+// copied.
 use limits::STACK;
 ghost use mathlib.Core.Path.{_≡_};
-ghost use Prim.Native.Nat.{_-_, _≤_, _<_};
-ghost use Rattle.limits.specs.Limits.{stackPlaces};
-ghost use Rattle.evaluator.specs.Stack.{emptied, below, Holds, Put};
+ghost use Rattle.evaluator.specs.Stack.{emptied, below, Reaches, Room, Yields};
 
 pub struct Stack {
     pub items: [f64; STACK],
@@ -22,7 +21,7 @@ pub fn empty() -> Stack
 
 // The value that k others stand on.
 pub fn peek(items: &[f64; STACK], count: usize, k: usize) -> f64
-    requires { ⌜ (k < count) × (count ≤ stackPlaces) ⌝ }
+    requires { ⌜ Reaches k count ⌝ }
     ensures { λ r. ⌜ r ≡ below (now (items .entry)) count k ⌝ }
 {
     items[count - (k + 1)]
@@ -30,8 +29,8 @@ pub fn peek(items: &[f64; STACK], count: usize, k: usize) -> f64
 
 // The k topmost values give way to x. The new count is returned.
 pub fn put(items: &mut [f64; STACK], count: usize, k: usize, x: f64) -> usize
-    requires { ⌜ Holds k (now items) count × (count - k < stackPlaces) ⌝ }
-    ensures { λ r. ⌜ Put k (now (items .entry)) count x (now (items .exit)) r ⌝ }
+    requires { ⌜ Room k (now items) count ⌝ }
+    ensures { λ r. ⌜ Yields k (now (items .entry)) count x (now (items .exit)) r ⌝ }
 {
     let at = count - k;
     items[at] = x;

@@ -22,9 +22,9 @@ use Rattle.floesedge.specs.Contract.{Translates as Translates′}
 use Rattle.translator.specs.Verdict.{Translation, translation, verdictOf, countOf}
 use Rattle.translator.proofs.Counted.{few, count-few}
 use Rattle.translator.proofs.Verdicts.{by-number}
-use Rattle.evaluator.specs.Judge.{Judge, Verdict as Refusal, verdict, good, judged, anyOpen, judgeFrom}
-use Rattle.evaluator.specs.Evaluate.{Outcome, outcome, refusal, evaluated, started, stepped}
-use Rattle.evaluator.specs.Contract.{told, Evaluated, Started, Stepped}
+use Rattle.evaluator.specs.Judge.{Judge, answer, good, judged, anyOpen, judgeFrom}
+use Rattle.evaluator.specs.Evaluate.{RunOutcome, runOutcome, refusal, evaluated, started, stepped}
+use Rattle.evaluator.specs.Contract.{Evaluated, Started, Stepped}
 use Rattle.evaluator.specs.declared.Answer.{Answer}
 
 -- ---- the count of a verdict
@@ -38,16 +38,16 @@ count-small text f p f′ p′ r e =
 -- ---- the answers of the judge
 
 -- number at most 4, record number at most n
-abbrev Small : ℕ → Refusal → Type 0
+abbrev Small : ℕ → Answer → Type 0
 Small n a = (a .number ≤ 4) × (a .place ≤ n)
 
 judge-small : (n i : ℕ) (j : Judge) (xs : List Instr) → i + length xs ≤ n → Small n (judgeFrom i j xs)
 unfolding judgeFrom
 judge-small n i j [] h =
-    cond-ind (Small n) (eqb (j .height) 0 && not (anyOpen (j .marks))) (verdict 0 0) (verdict 4 0) (λ _. (omega arith, omega arith))
+    cond-ind (Small n) (eqb (j .height) 0 && not (anyOpen (j .marks))) (answer 0 0) (answer 4 0) (λ _. (omega arith, omega arith))
     (λ _. (omega arith, omega arith))
 judge-small n i j (x ∷ xs) h =
-    cond-ind (Small n) (good j x) (judgeFrom (suc i) (judged j x) xs) (verdict 3 i) (λ _. judge-small n (suc i) (judged j x) xs (omega arith))
+    cond-ind (Small n) (good j x) (judgeFrom (suc i) (judged j x) xs) (answer 3 i) (λ _. judge-small n (suc i) (judged j x) xs (omega arith))
     (λ _. (omega arith, omega arith))
 
 decode-many : (p : List ℕ) (i n : ℕ) → length (decodeFrom p i n) ≡ n
@@ -58,8 +58,8 @@ decode-many p i (suc n) = ap suc (decode-many p (suc i) n)
 refusal-small : (p : List ℕ) (v d : List Float) → Small mostRecords (refusal p v d)
 unfolding refusal decoded
 refusal-small p v d =
-    cond-ind (Small mostRecords) (ltb (length v) slots || ltb (length d) slots) (verdict 1 0) _ (λ _. (omega arith, omega arith))
-    (λ _. cond-ind (Small mostRecords) (not (eqb (length p % recordBytes) 0) || ltb mostRecords (length p / recordBytes)) (verdict 2 0) _
+    cond-ind (Small mostRecords) (ltb (length v) slots || ltb (length d) slots) (answer 1 0) _ (λ _. (omega arith, omega arith))
+    (λ _. cond-ind (Small mostRecords) (not (eqb (length p % recordBytes) 0) || ltb mostRecords (length p / recordBytes)) (answer 2 0) _
     (λ _. (omega arith, omega arith))
     (λ e.
     let n = length p / recordBytes in
@@ -67,27 +67,27 @@ refusal-small p v d =
     judge-small mostRecords 0 _ (decoded p) (omega (arith, h, decode-many p 0 n))))
 
 -- with or without refusal the answer is the refusal's
-answer-kept : (a : Refusal) (v d v′ d′ : List Float) → cond (eqb (a .number) 0) (outcome a v′ d′) (outcome a v d) .answer ≡ a
+answer-kept : (a : Answer) (v d v′ d′ : List Float) → cond (eqb (a .number) 0) (runOutcome a v′ d′) (runOutcome a v d) .answer ≡ a
 answer-kept a v d v′ d′ =
-    cond-ind (λ (o : Outcome). o .answer ≡ a) (eqb (a .number) 0) (outcome a v′ d′) (outcome a v d) (λ _. refl) (λ _. refl)
+    cond-ind (λ (o : RunOutcome). o .answer ≡ a) (eqb (a .number) 0) (runOutcome a v′ d′) (runOutcome a v d) (λ _. refl) (λ _. refl)
 
-small-by : (p : List ℕ) (v d : List Float) (r : Answer) → told r ≡ refusal p v d → (r .number ≤ 4) × (r .place ≤ mostRecords)
+small-by : (p : List ℕ) (v d : List Float) (r : Answer) → r ≡ refusal p v d → (r .number ≤ 4) × (r .place ≤ mostRecords)
 small-by p v d r e =
     let s = refusal-small p v d in
-    (omega (arith, ap (λ (a : Refusal). a .number) e, s .0), omega (arith, ap (λ (a : Refusal). a .place) e, s .1))
+    (omega (arith, ap (λ (a : Answer). a .number) e, s .0), omega (arith, ap (λ (a : Answer). a .place) e, s .1))
 
 module _ {p : List ℕ} {v d : List Float} {r : Answer} {v′ d′ : List Float} where
   pub evaluated-small : Evaluated p v d r v′ d′ → (r .number ≤ 4) × (r .place ≤ mostRecords)
   unfolding evaluated
-  evaluated-small w = small-by p v d r (ap (λ (o : Outcome). o .answer) (w .meets) ∙ answer-kept (refusal p v d) v d _ _)
+  evaluated-small w = small-by p v d r (ap (λ (o : RunOutcome). o .answer) (w .meets) ∙ answer-kept (refusal p v d) v d _ _)
 
   pub started-small : Started p v d r v′ d′ → (r .number ≤ 4) × (r .place ≤ mostRecords)
   unfolding started
-  started-small w = small-by p v d r (ap (λ (o : Outcome). o .answer) (w .meets) ∙ answer-kept (refusal p v d) v d _ _)
+  started-small w = small-by p v d r (ap (λ (o : RunOutcome). o .answer) (w .meets) ∙ answer-kept (refusal p v d) v d _ _)
 
   pub stepped-small : (h : Float) → Stepped p h v d r v′ d′ → (r .number ≤ 4) × (r .place ≤ mostRecords)
   unfolding stepped
-  stepped-small h w = small-by p v d r (ap (λ (o : Outcome). o .answer) (w .meets) ∙ answer-kept (refusal p v d) v d _ _)
+  stepped-small h w = small-by p v d r (ap (λ (o : RunOutcome). o .answer) (w .meets) ∙ answer-kept (refusal p v d) v d _ _)
 
 -- ---- the same answer in its fixed layout
 pub same-translation : (text f p f′ p′ : List ℕ) (r : Verdict) (v : CVerdict) → Translates text f p r f′ p′ → v .number ≡ numberIn r → v .count ≡ countIn r

@@ -4,8 +4,8 @@ use mathlib.Core.Path.{_≡_}
 use mathlib.Core.List.{List}
 use lib.Ieee.{Float}
 use Rattle.translator.specs.Verdict.{Translation, translation}
-use Rattle.evaluator.specs.Judge.{verdict}
-use Rattle.evaluator.specs.Evaluate.{outcome, evaluated, started, stepped}
+use Rattle.evaluator.specs.Judge.{answer}
+use Rattle.evaluator.specs.Evaluate.{runOutcome, evaluated, started, stepped}
 use Rattle.floesedge.specs.declared.Verdict.{Verdict}
 use Rattle.floesedge.specs.declared.Answer.{Answer}
 
@@ -16,10 +16,10 @@ Translates text f p r f′ p′ =
 
 -- on program p, with values v and derivatives d lent: number, record and what the buffers then hold
 abbrev pub Evaluates : List ℕ → List Float → List Float → Answer → List Float → List Float → Type 0
-Evaluates p v d r v′ d′ = outcome (verdict (r .number) (r .record)) v′ d′ ≡ evaluated p v d
+Evaluates p v d r v′ d′ = runOutcome (answer (r .number) (r .record)) v′ d′ ≡ evaluated p v d
 
 abbrev pub Starts : List ℕ → List Float → List Float → Answer → List Float → List Float → Type 0
-Starts p v d r v′ d′ = outcome (verdict (r .number) (r .record)) v′ d′ ≡ started p v d
+Starts p v d r v′ d′ = runOutcome (answer (r .number) (r .record)) v′ d′ ≡ started p v d
 
 abbrev pub Steps : List ℕ → Float → List Float → List Float → Answer → List Float → List Float → Type 0
-Steps p h v d r v′ d′ = outcome (verdict (r .number) (r .record)) v′ d′ ≡ stepped p h v d
+Steps p h v d r v′ d′ = runOutcome (answer (r .number) (r .record)) v′ d′ ≡ stepped p h v d

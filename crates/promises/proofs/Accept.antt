@@ -23,7 +23,7 @@ use Rattle.model.proofs.KeyPlaces.{Once, equationKeys, count-keys}
 use Rattle.records.specs.declared.Instr.the-variants.{Store, Deriv}
 use Rattle.records.specs.Record.{instrs}
 use Rattle.program.specs.Program.{lastInstr, program}
-use Rattle.evaluator.specs.Judge.{judge₀, verdict, judge}
+use Rattle.evaluator.specs.Judge.{judge₀, answer, judge}
 use Rattle.promises.proofs.Fold.{judgeAt, Leads, leads-append, leads-one, leads-accepted, none-open}
 use Rattle.promises.proofs.Postfix.{steps, AllSet, judge-tree}
 use Rattle.promises.proofs.Settle.{heldKeys}
@@ -276,7 +276,7 @@ module _ (ds : List Def) where
         }
 
     -- THE PROGRAM of a good order is accepted
-    pub takes-program : (q : List ℕ) → GoodOrder ds q → judge (instrs (program ds q)) ≡ verdict 0 0
+    pub takes-program : (q : List ℕ) → GoodOrder ds q → judge (instrs (program ds q)) ≡ answer 0 0
     takes-program q g =
         let C = instrs (constantPart ds ds) in
         let I = instrs (initialPart ds ds) in

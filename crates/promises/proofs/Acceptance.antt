@@ -23,7 +23,7 @@ use Rattle.records.specs.Record.{Rec, programBytes, instrs, decoded}
 use Rattle.program.specs.Program.{initialValue}
 use Rattle.translator.specs.Verdict.{translated, verdictOf, translation}
 use Rattle.translator.proofs.Deciding.{length-program}
-use Rattle.evaluator.specs.Judge.{verdict, judge}
+use Rattle.evaluator.specs.Judge.{answer, judge}
 use Rattle.evaluator.specs.Evaluate.{refusal}
 use Rattle.model.specs.Text.{textDefinitions}
 use Rattle.promises.specs.Meaning.{definitionAt, Resolved}
@@ -69,11 +69,11 @@ module _ {text : List ℕ} {room : ℕ} {rs : List Rec} (c : Clear text room rs)
   read-back = program-back rs (rw (c .written) (readable ds once (c .few) (definitions-fit text) known (orderOf ds) ordered))
 
   -- and judged good
-  judged-good : judge (decoded (programBytes rs)) ≡ verdict 0 0
+  judged-good : judge (decoded (programBytes rs)) ≡ answer 0 0
   judged-good = ap judge (read-back ∙ ap instrs (c .written)) ∙ takes-program ds once (c .few) known low (orderOf ds) ordered
 
   -- they are whole records, and not too many
-  pub not-refused : (v d : List Float) → slots ≤ length v → slots ≤ length d → refusal (programBytes rs) v d ≡ verdict 0 0
+  pub not-refused : (v d : List Float) → slots ≤ length v → slots ≤ length d → refusal (programBytes rs) v d ≡ answer 0 0
   unfolding refusal
   not-refused v d hv hd =
       let n = length-program rs in
@@ -90,12 +90,12 @@ module _ {text : List ℕ} {room : ℕ} {rs : List Rec} (c : Clear text room rs)
 
 -- ACCEPTED: the judge takes every program from a verdict 0
 pub accepted : (text : List ℕ) (faults room : ℕ) (rs : List Rec) (ls : List ℕ) → verdictOf text faults room ≡ translated rs ls
-    → judge (decoded (programBytes rs)) ≡ verdict 0 0
+    → judge (decoded (programBytes rs)) ≡ answer 0 0
 accepted text faults room rs ls e = judged-good (clear text faults room rs ls e)
 
 -- so evaluating does not refuse it, whatever values and derivatives are lent, if they are long enough
 pub accepted-program : (text : List ℕ) (faults room : ℕ) (rs : List Rec) (ls : List ℕ) → verdictOf text faults room ≡ translated rs ls
-    → (v d : List Float) → slots ≤ length v → slots ≤ length d → refusal (programBytes rs) v d ≡ verdict 0 0
+    → (v d : List Float) → slots ≤ length v → slots ≤ length d → refusal (programBytes rs) v d ≡ answer 0 0
 accepted-program text faults room rs ls e = not-refused (clear text faults room rs ls e)
 
 -- what was written stands in the lent buffer, and nothing else in that part of it
@@ -109,7 +109,7 @@ handed-on text f p z =
 
 -- ACCEPTED, AS LENT: after a translation with number 0, evaluating does not refuse the lent program buffer cut to its count of records
 pub accepted-lent : (text f p : List ℕ) → translation text f p .number ≡ 0
-    → (v d : List Float) → slots ≤ length v → slots ≤ length d → refusal (handedOn (translation text f p)) v d ≡ verdict 0 0
+    → (v d : List Float) → slots ≤ length v → slots ≤ length d → refusal (handedOn (translation text f p)) v d ≡ answer 0 0
 accepted-lent text f p z v d hv hd =
     let r = handed-on text f p z in
     ap (λ (b : List ℕ). refusal b v d) (r .3) ∙ accepted-program text (length f) (length p) (r .0) (r .1) (r .2) v d hv hd

@@ -1,23 +1,18 @@
 -- Any two outcomes that the contract of an open entry allows are equal.
 use Prim.Native.Nat.{ℕ}
-use mathlib.Core.Path.{_≡_, refl, sym, ap, ap₂, _∙_}
+use mathlib.Core.Path.{_≡_, sym, ap, ap₂, _∙_}
 use mathlib.Core.List.{List}
-use native.Mathlib.Omega.{arith}
-use lib.ListN.{length}
 use lib.Ieee.{Float}
 use Rattle.grammar.specs.Contract.{ParseOutcome}
 use Rattle.grammar.specs.declared.Parsed.{Parsed}
 use Rattle.model.specs.Plan.{PlanOutcome}
 use Rattle.program.specs.Program.{program}
 use Rattle.evaluator.specs.declared.Answer.{Answer}
-use Rattle.evaluator.specs.Evaluate.{Outcome as RunOutcome, outcome}
-use Rattle.evaluator.specs.Contract.{told}
-use Rattle.evaluator.specs.Judge.{verdict}
+use Rattle.evaluator.specs.Evaluate.{RunOutcome, runOutcome}
+use Rattle.evaluator.specs.Judge.{answer}
 use Rattle.translator.specs.Contract.{Reply}
 use Rattle.translator.specs.Verdict.{Translation}
-use Rattle.tally.specs.declared.Tally.{Tally}
 use Rattle.floesedge.specs.declared.Answer.{Answer as CAnswer}
-use Rattle.floesedge.specs.declared.Verdict.{Verdict as CVerdict}
 use Rattle.promises.specs.Agreement.{Agree2, Bits, Deck, Tokens, Drafts, Grammar, Order, Records, Sheet, Model, Program, Evaluator}
 use Rattle.promises.specs.Agreement.{Translator, Listing, Library, Counting}
 
@@ -114,15 +109,10 @@ programs = record { count-records = λ kinds. one _; put-program = λ places row
 
 -- ---- the evaluator's three
 
--- an answer is its number and its record number
-runs : (r s : Answer) (v w d e : List Float) → outcome (told r) v d ≡ outcome (told s) w e → (r ≡ s) × (v ≡ w) × (d ≡ e)
+-- an outcome is the answer and both buffers
+runs : (r s : Answer) (v w d e : List Float) → runOutcome r v d ≡ runOutcome s w e → (r ≡ s) × (v ≡ w) × (d ≡ e)
 runs r s v w d e h =
-    let n : r .number ≡ s .number = ap (λ (o : RunOutcome). o .answer .number) h in
-    let p : r .place ≡ s .place = ap (λ (o : RunOutcome). o .answer .place) h in (
-      ap₂ (λ (a b : ℕ). record { number = a; place = b }) n p,
-      ap (λ (o : RunOutcome). o .values) h,
-      ap (λ (o : RunOutcome). o .derivs) h,
-    )
+    (ap (λ (o : RunOutcome). o .answer) h, ap (λ (o : RunOutcome). o .values) h, ap (λ (o : RunOutcome). o .derivs) h)
 
 -- evaluate, start and step
 pub evaluator : Evaluator
@@ -147,8 +137,8 @@ pub listing : Listing
 listing = record { list = λ text out r s a b x y. (x .needed ∙ sym (y .needed), x .held ∙ sym (y .held)) }
 
 -- ---- the library: an answer is its two numbers
-library-runs : (r s : CAnswer) (a b c d : List Float) → outcome (verdict (r .number) (r .record)) a c ≡ outcome (verdict (s .number) (s .record)) b d
-    → (r ≡ s) × (a ≡ b) × (c ≡ d)
+library-runs : (r s : CAnswer) (a b c d : List Float)
+    → runOutcome (answer (r .number) (r .record)) a c ≡ runOutcome (answer (s .number) (s .record)) b d → (r ≡ s) × (a ≡ b) × (c ≡ d)
 library-runs r s a b c d h =
     let n : r .number ≡ s .number = ap (λ (o : RunOutcome). o .answer .number) h in
     let p : r .record ≡ s .record = ap (λ (o : RunOutcome). o .answer .place) h in (

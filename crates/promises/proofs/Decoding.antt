@@ -16,7 +16,8 @@ use Rattle.bits.specs.Low.{lowBytes, lowWord}
 use Rattle.bits.proofs.Lows.{word-bytes}
 use Rattle.records.specs.declared.Instr.{Instr}
 use Rattle.records.specs.declared.Instr.the-variants.{Constant, Initial, Value, Slot, Add, Sub, Mul, Div, Neg, Insw, Limit, Compar, Store, Deriv, Bad}
-use Rattle.records.specs.Fields.{kindOf, operandOf, bitsOf, byKind, instrOf}
+use Rattle.records.specs.Shape.{value, slot, Shape, constant, initial, push, fold, store, derivative, bad, shapeOf}
+use Rattle.records.specs.Fields.{fieldsOf, kindOf, operandOf, bitsOf, byKind, instrOf}
 use Rattle.records.specs.Record.{Rec, recBytes, programBytes, instrs, field, decodeAt, decodeFrom, decoded}
 use Rattle.translator.proofs.Deciding.{length-program}
 
@@ -24,23 +25,20 @@ use Rattle.translator.proofs.Deciding.{length-program}
 abbrev pub Double : Float → Type 0
 Double x = T (fits binary64 x)
 
--- an instruction that a record can hold: its slot is one of the 256, its value an f64, and it is no refusal
+-- what a record can hold: a slot is one of the slots, a value an f64, and it is no refusal
+abbrev ProperAs : Shape → Type 0
+ProperAs (constant s x) = (s < slots) × Double x
+ProperAs (initial s x) = (s < slots) × Double x
+ProperAs (push (value x)) = Double x
+ProperAs (push (slot s)) = s < slots
+ProperAs (fold o) = Unit {0}
+ProperAs (store s) = s < slots
+ProperAs (derivative s) = s < slots
+ProperAs bad = ⊥
+
+-- an instruction that one can hold
 abbrev pub Proper : Instr → Type 0
-Proper (Constant s x) = (s < slots) × Double x
-Proper (Initial s x) = (s < slots) × Double x
-Proper (Value x) = Double x
-Proper (Slot s) = s < slots
-Proper Add = Unit {0}
-Proper Sub = Unit {0}
-Proper Mul = Unit {0}
-Proper Div = Unit {0}
-Proper Neg = Unit {0}
-Proper Insw = Unit {0}
-Proper Limit = Unit {0}
-Proper Compar = Unit {0}
-Proper (Store s) = s < slots
-Proper (Deriv s) = s < slots
-Proper Bad = ⊥
+Proper x = ProperAs (shapeOf x)
 
 -- its fields are the instruction again
 fields-back : (x : Instr) → Proper x → instrOf (kindOf x) 0 (operandOf x) (bitsOf x) ≡ x
@@ -61,41 +59,27 @@ fields-back (Store s) h = rw (lt-ltb s slots h)
 fields-back (Deriv s) h = rw (lt-ltb s slots h)
 fields-back Bad h = absurd h
 
--- a slot has at most two bytes, and the bits at most eight
-slot-small : (x : Instr) → Proper x → operandOf x < 256
-slot-small (Constant s x) h = h .0
-slot-small (Initial s x) h = h .0
-slot-small (Value x) h = lit< tt
-slot-small (Slot s) h = h
-slot-small Add h = lit< tt
-slot-small Sub h = lit< tt
-slot-small Mul h = lit< tt
-slot-small Div h = lit< tt
-slot-small Neg h = lit< tt
-slot-small Insw h = lit< tt
-slot-small Limit h = lit< tt
-slot-small Compar h = lit< tt
-slot-small (Store s) h = h
-slot-small (Deriv s) h = h
-slot-small Bad h = absurd h
+-- a slot has at most two bytes
+slot-small : (s : Shape) → ProperAs s → fieldsOf s .operand < 256 ^ 2
+slot-small (constant s x) h = omega (arith, h .0)
+slot-small (initial s x) h = omega (arith, h .0)
+slot-small (push (value x)) h = lit< tt
+slot-small (push (slot s)) h = omega arith
+slot-small (fold o) h = lit< tt
+slot-small (store s) h = omega arith
+slot-small (derivative s) h = omega arith
+slot-small bad h = absurd h
 
 -- the bits have at most eight
-bits-small : (x : Instr) → Proper x → bitsOf x < 256 ^ 8
-bits-small (Constant s x) h = toBits-lt binary64 x (h .1)
-bits-small (Initial s x) h = toBits-lt binary64 x (h .1)
-bits-small (Value x) h = toBits-lt binary64 x h
-bits-small (Slot s) h = lit< tt
-bits-small Add h = lit< tt
-bits-small Sub h = lit< tt
-bits-small Mul h = lit< tt
-bits-small Div h = lit< tt
-bits-small Neg h = lit< tt
-bits-small Insw h = lit< tt
-bits-small Limit h = lit< tt
-bits-small Compar h = lit< tt
-bits-small (Store s) h = lit< tt
-bits-small (Deriv s) h = lit< tt
-bits-small Bad h = absurd h
+bits-small : (s : Shape) → ProperAs s → fieldsOf s .bits < 256 ^ 8
+bits-small (constant s x) h = toBits-lt binary64 x (h .1)
+bits-small (initial s x) h = toBits-lt binary64 x (h .1)
+bits-small (push (value x)) h = toBits-lt binary64 x h
+bits-small (push (slot s)) h = lit< tt
+bits-small (fold o) h = lit< tt
+bits-small (store s) h = lit< tt
+bits-small (derivative s) h = lit< tt
+bits-small bad h = absurd h
 
 -- a record's bytes behind others, and before others
 module _ (front : List ℕ) (r : Rec) (back : List ℕ) where
@@ -127,7 +111,8 @@ module _ (front : List ℕ) (r : Rec) (back : List ℕ) where
   record-back : Proper (r .instr) → decodeAt all (length front) ≡ r .instr
   unfolding decodeAt
   record-back h =
-      rw (kind-back, one-back, operand-back (omega (arith, slot-small (r .instr) h)), bits-back (bits-small (r .instr) h)) (fields-back (r .instr) h)
+      let s = shapeOf (r .instr) in
+      rw (kind-back, one-back, operand-back (slot-small s h), bits-back (bits-small s h)) (fields-back (r .instr) h)
 
 -- ---- programs
 

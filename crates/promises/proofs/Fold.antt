@@ -10,7 +10,7 @@ use lib.Ieee.{Float}
 use Rattle.limits.specs.Limits.{stackPlaces}
 use Rattle.records.specs.declared.Instr.{Instr}
 use Rattle.evaluator.specs.Machine.{Machine}
-use Rattle.evaluator.specs.Judge.{takes, gives, phaseOf, slotFine, marked, Judge, good, judged, anyOpen, verdict, judgeFrom}
+use Rattle.evaluator.specs.Judge.{takes, gives, phaseOf, slotFine, marked, Judge, good, judged, anyOpen, answer, judgeFrom}
 
 -- the machine with these working values, values and derivatives
 abbrev pub machine : List Float → List Float → List Float → Machine
@@ -46,7 +46,7 @@ leads-op x p h g l a b c d e f m =
 
 -- a program that leads to an empty stack and no open state is accepted
 pub leads-accepted : (i : ℕ) (j k : Judge) (xs : List Instr) → Leads j xs k → k .height ≡ 0 → anyOpen (k .marks) ≡ false
-    → judgeFrom i j xs ≡ verdict 0 0
+    → judgeFrom i j xs ≡ answer 0 0
 unfolding judgeFrom
 leads-accepted i j k [] a h o = rw (a, h, o)
 leads-accepted i j k (x ∷ xs) a h o = rw (a .0) (leads-accepted (suc i) (judged j x) k xs (a .1) h o)

@@ -13,10 +13,11 @@ use Rattle.laws.proofs.Concats.{map-append}
 use Rattle.drafts.specs.Tree.{Two, plus, minus, times, over, compar, Three, insw, limit, Tree, value, named, time, negated, two, three, names}
 use Rattle.drafts.specs.Items.{postfix, negate, apply-two, apply-three}
 use Rattle.grammar.proofs.Stack.{peak}
+use Rattle.records.specs.Shape.{zero64, one64}
 use Rattle.records.specs.declared.Instr.{Instr}
 use Rattle.records.specs.declared.Instr.the-variants.{Value, Slot, Add, Sub, Mul, Div, Neg, Insw, Limit, Compar}
 use Rattle.program.specs.Program.{instrTwo, instrThree, instrItem}
-use Rattle.evaluator.specs.Machine.{step, run, zero64, one64}
+use Rattle.evaluator.specs.Machine.{step, run}
 use Rattle.promises.specs.Meaning.{nought, unity, valueTwo, valueThree, valueOf}
 use Rattle.promises.proofs.Fold.{machine, judgeAt, Leads, leads-append, leads-op}
 

@@ -18,8 +18,8 @@ use Rattle.records.specs.declared.Instr.{Instr}
 use Rattle.records.specs.Record.{Rec, programBytes, instrs}
 use Rattle.program.specs.Program.{instrTwo, instrThree, initialValue, constantRecs, initialRecs, lastInstr, program}
 use Rattle.translator.specs.Verdict.{translated, verdictOf, translation}
-use Rattle.evaluator.specs.Machine.{zero64}
-use Rattle.evaluator.specs.Evaluate.{startStep, startAll, started as starting}
+use Rattle.records.specs.Shape.{zero64, shapeOf}
+use Rattle.evaluator.specs.Evaluate.{initially, eachState, startAll, started as starting}
 use Rattle.model.specs.Text.{textDefinitions}
 use Rattle.promises.specs.Meaning.{definitionAt, Resolved, Begins, Beginning}
 use Rattle.promises.specs.Outcomes.{handedOn, Starts}
@@ -29,14 +29,18 @@ use Rattle.promises.proofs.Runs.{instrs-append, constantPart, initialPa
 use Rattle.promises.proofs.Zero.{clear}
 use Rattle.promises.proofs.Acceptance.{once, initials, read-back, not-refused, handed-on}
 
+-- one record
+abbrev startOne : List Float → Instr → List Float
+startOne v x = initially (set v) v (shapeOf x)
+
 -- one list after another
 start-append : (v : List Float) (x y : List Instr) → startAll v (x ++ y) ≡ startAll (startAll v x) y
-unfolding startAll
+unfolding eachState
 start-append v [] y = refl
-start-append v (a ∷ x) y = start-append (startStep v a) x y
+start-append v (a ∷ x) y = start-append (startOne v a) x y
 
 -- ---- only initials set anything: not operations
-start-two : (o : Two) (v : List Float) → startStep v (instrTwo o) ≡ v
+start-two : (o : Two) (v : List Float) → startOne v (instrTwo o) ≡ v
 start-two plus v = refl
 start-two minus v = refl
 start-two times v = refl
@@ -44,13 +48,13 @@ start-two over v = refl
 start-two compar v = refl
 
 -- on three values
-start-three : (o : Three) (v : List Float) → startStep v (instrThree o) ≡ v
+start-three : (o : Three) (v : List Float) → startOne v (instrThree o) ≡ v
 start-three insw v = refl
 start-three limit v = refl
 
 -- not expressions
 start-tree : (slot : ℕ → ℕ) (e : Tree) (v : List Float) → startAll v (steps slot e) ≡ v
-unfolding steps startAll
+unfolding steps eachState
 start-tree slot (value x) v = refl
 start-tree slot (named k) v = refl
 start-tree slot time v = refl
@@ -66,13 +70,13 @@ module _ (ds : List Def) where
   slot = slotIn ds
 
   -- not the last record of an equation
-  start-last : (b : Bool) (s : ℕ) (v : List Float) → startStep v (lastInstr ds b s) ≡ v
+  start-last : (b : Bool) (s : ℕ) (v : List Float) → startOne v (lastInstr ds b s) ≡ v
   start-last false s v = refl
   start-last true s v = refl
 
   -- so no equation
   start-ordered : (q : List ℕ) (v : List Float) → startAll v (instrs (orderedPart ds q)) ≡ v
-  unfolding concat-map startAll
+  unfolding concat-map eachState
   start-ordered [] v = refl
   start-ordered (i ∷ q) v =
       let e = equationAt ds i in
@@ -86,7 +90,7 @@ module _ (ds : List Def) where
 
   -- and no constant
   start-constants : (es : List Def) (v : List Float) → startAll v (instrs (constantPart ds es)) ≡ v
-  unfolding concat-map startAll
+  unfolding concat-map eachState
   start-constants [] v = refl
   start-constants (a ∷ es) v =
       rw (instrs-append (constantRecs ds a (a .what)) (constantPart ds es), start-append v (instrs (constantRecs ds a (a .what))), by (a .what))
@@ -149,7 +153,7 @@ module _ (ds : List Def) where
 
   -- the first and the others
   after-first : (a : Def) (es : List Def) (v : List Float) → after (a ∷ es) v ≡ after es (put (slot (a .key)) (a .what) v)
-  unfolding concat-map startAll
+  unfolding concat-map eachState
   after-first a es v = rw (instrs-append (initialRecs ds a (a .what)) (initialPart ds es)) (by (a .what))
     where
       by : (w : What) → startAll v (instrs (initialRecs ds a w) ++ instrs (initialPart ds es)) ≡ after es (put (slot (a .key)) w v)
@@ -159,7 +163,7 @@ module _ (ds : List Def) where
 
   -- as many values as before
   after-long : (es : List Def) (v : List Float) → length (after es v) ≡ length v
-  unfolding concat-map startAll
+  unfolding concat-map eachState
   after-long [] v = refl
   after-long (a ∷ es) v = ap length (after-first a es v) ∙ after-long es (put (slot (a .key)) (a .what) v) ∙ put-long (slot (a .key)) (a .what) v
 
@@ -169,7 +173,7 @@ module _ (ds : List Def) where
 
   -- a place that is none of their slots stays
   after-other : (es : List Def) (v : List Float) (p : ℕ) → ((j : ℕ) → j < length es → slotOf es j ≡ p → ⊥) → getD (after es v) p nan ≡ getD v p nan
-  unfolding concat-map startAll
+  unfolding concat-map eachState
   after-other [] v p h = refl
   after-other (a ∷ es) v p h =
       ap (λ (z : List Float). getD z p nan) (after-first a es v)

@@ -9,8 +9,8 @@ use Rattle.model.specs.Faults.{orderOf}
 use Rattle.records.specs.Record.{Rec, programBytes, instrs}
 use Rattle.translator.specs.Verdict.{translated, verdictOf, translation}
 use Rattle.evaluator.specs.Machine.{run, begun}
-use Rattle.evaluator.specs.Judge.{verdict}
-use Rattle.evaluator.specs.Evaluate.{outcome, ran, evaluated}
+use Rattle.evaluator.specs.Judge.{answer}
+use Rattle.evaluator.specs.Evaluate.{runOutcome, ran, evaluated}
 use Rattle.model.specs.Text.{textDefinitions}
 use Rattle.promises.specs.Meaning.{Solution}
 use Rattle.promises.specs.Outcomes.{handedOn, Evaluates}
@@ -22,7 +22,7 @@ use Rattle.promises.proofs.Acceptance.{once, ordered, read-back, not-re
 module _ {text : List ℕ} {room : ℕ} {rs : List Rec} (c : Clear text room rs) (v d : List Float)
     (hv : slots ≤ length v) (hd : slots ≤ length d) where
   -- evaluating runs the program
-  evaluated-ran : evaluated (programBytes rs) v d ≡ outcome (verdict 0 0) (ran (programBytes rs) v d .values) (ran (programBytes rs) v d .derivs)
+  evaluated-ran : evaluated (programBytes rs) v d ≡ runOutcome (answer 0 0) (ran (programBytes rs) v d .values) (ran (programBytes rs) v d .derivs)
   unfolding evaluated
   evaluated-ran = rw (not-refused c v d hv hd)
 

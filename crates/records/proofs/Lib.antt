@@ -1,3 +1,3 @@
-pub mod Words
+pub mod FieldParts
 pub mod Decoding
-pub mod Left
+pub mod LeftRecords

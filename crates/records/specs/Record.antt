@@ -1,4 +1,5 @@
--- Records of 16 bytes: kind, 0, operand (two bytes, low first), first line of the statement (four, low first), f64 bits (eight, low first).
+-- The bytes of a record: kind, 0, operand (two bytes, low first), first line of the statement (four, low first),
+-- f64 bits (eight, low first).
 use Prim.Native.Nat.{ℕ, zero, suc, _+_, _*_, _/_}
 use mathlib.Core.List.{List, [], _∷_, _++_, map}
 use lib.ListN.{length, take, drop, getD}
@@ -19,7 +20,9 @@ rec l x = record { line = l; instr = x }
 -- ---- writing
 
 unfoldable pub recBytes : Rec → List ℕ
-recBytes r = kindOf (r .instr) ∷ 0 ∷ (lowBytes 2 (operandOf (r .instr)) ++ (lowBytes 4 (r .line) ++ lowBytes 8 (bitsOf (r .instr))))
+recBytes r =
+    kindOf (r .instr) ∷ 0
+    ∷ (lowBytes 2 (operandOf (r .instr)) ++ (lowBytes 4 (r .line) ++ lowBytes 8 (bitsOf (r .instr))))
 
 -- no header
 unfoldable pub programBytes : List Rec → List ℕ

@@ -1,13 +1,16 @@
-// Records: fixed 16 bytes each, and the instruction that one holds.
+// Records, each of so many bytes, and the instruction that one holds.
 use bits::float_of;
+use bits::reads::wide;
 use limits::RECORD_BYTES;
 use limits::SLOTS;
 ghost use mathlib.Core.Path.{_≡_};
+ghost use mathlib.Core.Bool.{_||_};
 ghost use Prim.Native.Nat.{_+_, _*_, _≤_, _<_};
+ghost use lib.Dec.{eqb};
 ghost use lib.ListN.{length};
-ghost use Rattle.records.specs.Fields.{byKind};
+ghost use Rattle.records.specs.Fields.{byKind, instrOf};
 ghost use Rattle.records.specs.Record.{field};
-ghost use Rattle.records.specs.Decode.{slotRoom, mostBits, checkedOf, readAt, decodedAt};
+ghost use Rattle.records.specs.Decode.{readAt, decodedAt, withFields};
 
 // What a record does, with its slot or value; or the refusal, where it is none.
 pub enum Instr {
@@ -26,13 +29,6 @@ pub enum Instr {
     Store(u16),
     Deriv(u16),
     Bad,
-}
-
-// A byte as a larger number.
-fn wide(b: u8) -> u64
-    ensures { λ r. ⌜ (r ≡ b) × (r < 256) ⌝ }
-{
-    b as u64
 }
 
 // The number of two bytes.
@@ -62,26 +58,6 @@ fn word(p: &[u8], o: usize) -> u64
     half(p, o) + 4294967296 * half(p, o + 4)
 }
 
-// How many slots a kind's operand can name. Kinds 3 and 5 to 12 leave that field 0.
-fn slot_room(kind: u64) -> u64
-    ensures { λ r. ⌜ r ≡ slotRoom kind ⌝ }
-{
-    match kind {
-        3 | 5..=12 => 1,
-        _ => SLOTS as u64,
-    }
-}
-
-// The largest bits of a kind's value. Kinds 4 to 14 leave that field 0.
-fn most_bits(kind: u64) -> u64
-    ensures { λ r. ⌜ r ≡ mostBits kind ⌝ }
-{
-    match kind {
-        4..=14 => 0,
-        _ => 0xffff_ffff_ffff_ffff,
-    }
-}
-
 // The instruction of a kind, its slot and value: kinds 1 to 14, and all others.
 fn by_kind(kind: u64, slot: u16, x: f64) -> Instr
     ensures { λ r. ⌜ r ≡ byKind kind slot x ⌝ }
@@ -105,7 +81,8 @@ fn by_kind(kind: u64, slot: u16, x: f64) -> Instr
     }
 }
 
-// The instruction of record n as its kind has it. Its unused fields are not looked at: it is for records that are known to be in order.
+// The instruction of record n as its kind has it. Its unused fields are not looked at: it is for records that are known
+// to be in order.
 pub fn read(program: &[u8], n: usize) -> Instr
     ensures { λ r. ⌜ r ≡ readAt (now (program .entry)) n ⌝ }
 {
@@ -119,21 +96,45 @@ pub fn read(program: &[u8], n: usize) -> Instr
     by_kind(kind, slot as u16, float_of(bits))
 }
 
-// The instruction of a kind, its slot and the bits of its value, or the refusal.
-fn checked(kind: u64, slot: u64, bits: u64) -> Instr
-    requires { ⌜ slot < 65536 ⌝ }
-    ensures { λ r. ⌜ r ≡ checkedOf kind slot bits ⌝ }
+// Whether a field is used, or else 0.
+fn allowed(used: bool, field: u64) -> bool
+    ensures { λ r. ⌜ r ≡ (used || eqb field 0) ⌝ }
 {
-    if slot_room(kind) <= slot {
+    if used { true } else { field == 0 }
+}
+
+// The instruction of a kind with its operand and bits, of which it uses these, or the refusal.
+fn with_fields(slotted: bool, valued: bool, kind: u64, slot: u64, bits: u64) -> Instr
+    ensures { λ r. ⌜ r ≡ withFields slotted valued kind slot bits ⌝ }
+{
+    if !allowed(slotted, slot) {
         return Instr::Bad;
     }
-    if most_bits(kind) < bits {
+    if !allowed(valued, bits) {
+        return Instr::Bad;
+    }
+    if SLOTS as u64 <= slot {
         return Instr::Bad;
     }
     by_kind(kind, slot as u16, float_of(bits))
 }
 
-// The instruction of record n, or the refusal. Each known kind has an arm, so that what it is checked for is fixed there.
+// The same, where the kind decides what it uses: kinds 1 and 2 slot and value, 3 the value, 4, 13 and 14 the slot, 5 to
+// 12 neither. No other kind is known.
+fn checked(kind: u64, slot: u64, bits: u64) -> Instr
+    ensures { λ r. ⌜ r ≡ instrOf kind 0 slot bits ⌝ }
+{
+    match kind {
+        1..=2 => with_fields(true, true, kind, slot, bits),
+        3 => with_fields(false, true, kind, slot, bits),
+        4 => with_fields(true, false, kind, slot, bits),
+        5..=12 => with_fields(false, false, kind, slot, bits),
+        13..=14 => with_fields(true, false, kind, slot, bits),
+        _ => Instr::Bad,
+    }
+}
+
+// The instruction of record n, or the refusal.
 pub fn decode(program: &[u8], n: usize) -> Instr
     ensures { λ r. ⌜ r ≡ decodedAt (now (program .entry)) n ⌝ }
 {
@@ -144,21 +145,5 @@ pub fn decode(program: &[u8], n: usize) -> Instr
     let kind = pair(program, o);
     let slot = pair(program, o + 2);
     let bits = word(program, o + 8);
-    match kind {
-        1 => checked(1, slot, bits),
-        2 => checked(2, slot, bits),
-        3 => checked(3, slot, bits),
-        4 => checked(4, slot, bits),
-        5 => checked(5, slot, bits),
-        6 => checked(6, slot, bits),
-        7 => checked(7, slot, bits),
-        8 => checked(8, slot, bits),
-        9 => checked(9, slot, bits),
-        10 => checked(10, slot, bits),
-        11 => checked(11, slot, bits),
-        12 => checked(12, slot, bits),
-        13 => checked(13, slot, bits),
-        14 => checked(14, slot, bits),
-        _ => checked(kind, slot, bits),
-    }
+    checked(kind, slot, bits)
 }

@@ -8,6 +8,7 @@ use crate::lent::of_values;
 use crate::lent::record;
 use crate::lent::records;
 use crate::lent::sevens;
+use limits::SLOTS;
 use tally::Tally;
 use tally::number;
 
@@ -38,8 +39,8 @@ fn computes(t0: Tally) -> Tally {
     t = at(t, &v, 5, 0x4044_0000_0000_0000);
     t = at(t, &v, 6, 0x4004_0000_0000_0000);
     t = at(t, &v, 7, 0xc024_0000_0000_0000);
-    t = number(t, kept(&v), 249);
-    number(t, kept(&d), 256)
+    t = number(t, kept(&v), SLOTS - 7);
+    number(t, kept(&d), SLOTS)
 }
 
 // Slot 4 is 4. Slots 1 to 3 are INSW(TIME,2,3), COMPAR(TIME,4) and COMPAR(4,TIME).
@@ -82,8 +83,8 @@ fn chooses(t0: Tally) -> Tally {
     chooses_at(t, 0.0 / 0.0, three, 0, 0)
 }
 
-// 0.1 + 0.2 is 1.33333333333338 (base 16) times 2^-2, halfway, and rounds to the even ..34. 1 / 3 is 1.5555.. and rounds down.
-// 1 / 0 is infinite, and 0 / 0 the NaN.
+// 0.1 + 0.2 is 1.33333333333338 (base 16) times 2^-2, halfway, and rounds to the even ..34. 1 / 3 is 1.5555.. and
+// rounds down. 1 / 0 is infinite, and 0 / 0 the NaN.
 fn rounds(t0: Tally) -> Tally {
     let mut p = [0u8; 256];
     let one = 0x3ff0_0000_0000_0000;
@@ -108,8 +109,8 @@ fn rounds(t0: Tally) -> Tally {
     at(t, &v, 4, 0x7ff8_0000_0000_0000)
 }
 
-// A state of -1 with the derivative 1 - 2^-27, stepped by h = 1 + 2^-27: the product 1 - 2^-54 lies halfway and rounds to 1, so the state is 0.
-// Rounded once, or with h times the sum, it would not be.
+// A state of -1 with the derivative 1 - 2^-27, stepped by h = 1 + 2^-27: the product 1 - 2^-54 lies halfway and rounds
+// to 1, so the state is 0. Rounded once, or with h times the sum, it would not be.
 fn rounds_twice(t0: Tally) -> Tally {
     let mut p = [0u8; 48];
     record(&mut p, 0, 2, 1, 0xbff0_0000_0000_0000);
@@ -142,7 +143,7 @@ fn reads(t0: Tally) -> Tally {
     t = at(t, &v, 2, 0x7ff8_0000_0000_0000);
     t = at(t, &v, 3, 0x8000_0000_0000_0000);
     t = at(t, &v, 255, 0xfff0_0000_0000_0000);
-    number(t, kept(&v), 252)
+    number(t, kept(&v), SLOTS - 4)
 }
 
 // 67 ones are pushed, 66 additions leave their sum, 67. Lent places past 255 stay.
@@ -167,11 +168,11 @@ fn nothing(t0: Tally) -> Tally {
     let mut d = sevens();
     let a = evaluator::evaluate(&p, &mut v, &mut d);
     let mut t = number(t0, a.number, 0);
-    t = number(t, kept(&v), 256);
+    t = number(t, kept(&v), SLOTS);
     let b = evaluator::step(&p, 0.5, &mut v, &mut d);
     t = number(t, b.number, 0);
     t = at(t, &v, 0, 0x401e_0000_0000_0000);
-    number(t, kept(&d), 256)
+    number(t, kept(&d), SLOTS)
 }
 
 // All of these.

@@ -1,7 +1,10 @@
 // Comparisons, lent buffers and records.
+use limits::RECORD_BYTES;
+use limits::SLOTS;
 use tally::Tally;
 use tally::right;
 ghost use Prim.Native.Nat.{_≤_, _<_};
+ghost use Rattle.limits.specs.Limits.{slots, mostRecords};
 
 // A float has the wanted bits. A NaN has those of the one NaN.
 pub fn float(t: Tally, got: f64, wanted: u64) -> Tally {
@@ -9,19 +12,19 @@ pub fn float(t: Tally, got: f64, wanted: u64) -> Tally {
 }
 
 // A place of a lent buffer has the wanted bits.
-pub fn at(t: Tally, values: &[f64; 256], i: usize, wanted: u64) -> Tally
-    requires { ⌜ i < 256 ⌝ }
+pub fn at(t: Tally, values: &[f64; SLOTS], i: usize, wanted: u64) -> Tally
+    requires { ⌜ i < slots ⌝ }
 {
     float(t, values[i], wanted)
 }
 
 // What lent buffers hold: 7 at each place.
-pub fn sevens() -> [f64; 256] {
-    [7.0; 256]
+pub fn sevens() -> [f64; SLOTS] {
+    [7.0; SLOTS]
 }
 
 // How many places still hold 7.
-pub fn kept(values: &[f64; 256]) -> usize {
+pub fn kept(values: &[f64; SLOTS]) -> usize {
     kept_in(values)
 }
 
@@ -42,9 +45,9 @@ pub fn kept_in(values: &[f64]) -> usize
 
 // Writes record i of a program: its kind with byte 1 above it, line 1, slot and bits.
 pub fn record(p: &mut [u8], i: usize, kind: u64, slot: u64, value: u64)
-    requires { ⌜ i < 4096 ⌝ }
+    requires { ⌜ i < mostRecords ⌝ }
 {
-    let o = i * 16;
+    let o = i * RECORD_BYTES;
     bits::put_low(p, o, 2, kind);
     bits::put_low(p, o + 2, 2, slot);
     bits::put_low(p, o + 4, 4, 1);
@@ -53,7 +56,7 @@ pub fn record(p: &mut [u8], i: usize, kind: u64, slot: u64, value: u64)
 
 // The same record from place i up to place e.
 pub fn records(p: &mut [u8], i0: usize, e: usize, kind: u64, slot: u64, value: u64)
-    requires { ⌜ e < 4096 ⌝ }
+    requires { ⌜ e < mostRecords ⌝ }
 {
     let mut i = i0;
     while i < e {

@@ -1,4 +1,5 @@
-// Evaluates, starts and steps small programs, compares the bits with values worked out by hand, and prints a line for each that differs.
+// Evaluates, starts and steps small programs, compares the bits with values worked out by hand, and prints a line for
+// each that differs.
 mod accepted;
 mod lent;
 mod refused;

@@ -4,6 +4,7 @@ use crate::lent::kept_in;
 use crate::lent::record;
 use crate::lent::records;
 use crate::lent::sevens;
+use limits::SLOTS;
 use tally::Tally;
 use tally::number;
 
@@ -45,8 +46,8 @@ fn refused(t0: Tally, p: &[u8], wanted: usize, place: usize) -> Tally {
     t = number(t, b.place, place);
     t = number(t, c.number, wanted);
     t = number(t, c.place, place);
-    t = number(t, kept(&v), 256);
-    number(t, kept(&d), 256)
+    t = number(t, kept(&v), SLOTS);
+    number(t, kept(&d), SLOTS)
 }
 
 // A program of one record, which is bad.
@@ -192,10 +193,10 @@ fn sizes(t0: Tally) -> Tally {
     refused(t, &more, 2, 0)
 }
 
-// 1: values of 255 places, which comes before a bad size.
+// 1: values of one place too few, which comes before a bad size.
 fn short_values(t0: Tally) -> Tally {
     let odd = [0u8; 17];
-    let mut v = [7.0; 255];
+    let mut v = [7.0; SLOTS - 1];
     let mut d = sevens();
     let a = evaluator::evaluate(&odd, &mut v, &mut d);
     let b = evaluator::start(&odd, &mut v, &mut d);
@@ -203,23 +204,23 @@ fn short_values(t0: Tally) -> Tally {
     t = number(t, a.place, 0);
     t = number(t, b.number, 1);
     t = number(t, b.place, 0);
-    t = number(t, kept_in(&v), 255);
-    number(t, kept(&d), 256)
+    t = number(t, kept_in(&v), SLOTS - 1);
+    number(t, kept(&d), SLOTS)
 }
 
-// 1: derivatives of 255 places.
+// 1: derivatives of one place too few.
 fn short_derivs(t0: Tally) -> Tally {
     let odd = [0u8; 17];
     let mut v = sevens();
-    let mut d = [7.0; 255];
+    let mut d = [7.0; SLOTS - 1];
     let a = evaluator::evaluate(&odd, &mut v, &mut d);
     let b = evaluator::step(&odd, 0.5, &mut v, &mut d);
     let mut t = number(t0, a.number, 1);
     t = number(t, a.place, 0);
     t = number(t, b.number, 1);
     t = number(t, b.place, 0);
-    t = number(t, kept(&v), 256);
-    number(t, kept_in(&d), 255)
+    t = number(t, kept(&v), SLOTS);
+    number(t, kept_in(&d), SLOTS - 1)
 }
 
 // All of these.

@@ -4,6 +4,7 @@ use crate::lent::kept;
 use crate::lent::of_slots;
 use crate::lent::record;
 use crate::lent::sevens;
+use limits::SLOTS;
 use tally::Tally;
 use tally::number;
 
@@ -45,11 +46,12 @@ fn starts(t0: Tally) -> Tally {
     t = number(t, a.place, 0);
     t = at(t, &v, 0, 0);
     t = at(t, &v, 3, 0x3ff0_0000_0000_0000);
-    t = number(t, kept(&v), 254);
-    number(t, kept(&d), 256)
+    t = number(t, kept(&v), SLOTS - 2);
+    number(t, kept(&d), SLOTS)
 }
 
-// At TIME = 0 and H = 1: K = 2, Q = 2 * 1 = 2, F = 0, which is neither below 0 nor above 3, and the derivative is 0 - 2 = -2.
+// At TIME = 0 and H = 1: K = 2, Q = 2 * 1 = 2, F = 0, which is neither below 0 nor above 3, and the derivative is
+// 0 - 2 = -2.
 fn evaluates(t0: Tally) -> Tally {
     let p = program();
     let mut v = sevens();
@@ -64,8 +66,8 @@ fn evaluates(t0: Tally) -> Tally {
     t = at(t, &v, 3, 0x3ff0_0000_0000_0000);
     t = at(t, &v, 4, 0);
     t = at(t, &d, 3, 0xc000_0000_0000_0000);
-    t = number(t, kept(&v), 251);
-    number(t, kept(&d), 255)
+    t = number(t, kept(&v), SLOTS - 5);
+    number(t, kept(&d), SLOTS - 1)
 }
 
 // A first step of 0.5, from TIME = 0 and H = 1: the derivative is -2, H = 1 + 0.5 * -2 = 0, and TIME = 0.5.
@@ -80,8 +82,8 @@ fn steps(t0: Tally) -> Tally {
     t = at(t, &v, 3, 0);
     t = at(t, &v, 0, 0x3fe0_0000_0000_0000);
     t = at(t, &d, 3, 0xc000_0000_0000_0000);
-    t = number(t, kept(&v), 251);
-    number(t, kept(&d), 255)
+    t = number(t, kept(&v), SLOTS - 5);
+    number(t, kept(&d), SLOTS - 1)
 }
 
 // A second: Q = 2 * 0 = 0, F = 0.5, the derivative is 0.5, H = 0 + 0.5 * 0.5 = 0.25, and TIME = 1.

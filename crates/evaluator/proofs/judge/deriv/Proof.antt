@@ -1,30 +1,23 @@
+use borrow.Author.Needs.{needs}
 use borrow.Author.Tests.{ne-eqb}
 use lib.Dec.{eqb}
 use Rattle.laws.proofs.Bools.{and-fails}
-use Rattle.records.specs.declared.Instr.the-variants.{Deriv}
-use borrow.Author.Needs.{needs}
-use Rattle.evaluator.proofs.Judging.{unfit, deriv, owing}
+use Rattle.evaluator.proofs.JudgedRecord.{unfit, deriv, owing}
 use Rattle.evaluator.proofs.judge.deriv.Statement.{statement}
 use Rattle.evaluator.proofs.judge.deriv.Tie as tie
 
 returns : tie.Need-returns
-returns c = unfit (Deriv (c .before .before .before .args .s)) (c .bad .ensures) (rw (ne-eqb _ 1 (c .before .if1 .taken)))
+returns c = unfit _ (c .bad .ensures) (rw (ne-eqb _ 1 (c .before .if1 .taken)))
 
 returns-2 : tie.Need-returns-2
 returns-2 c =
-    let a = c .before .before .before .before .before in
-    unfit (Deriv (a .args .s)) (c .bad2 .ensures) (and-fails (eqb (a .args .t .height) 1) (λ _. ne-eqb _ 2 (c .before .if2 .taken)))
+    let height = c .before .before .before .before .before .args .t .height in
+    unfit _ (c .bad2 .ensures) (and-fails (eqb height 1) (λ _. ne-eqb _ 2 (c .before .if2 .taken)))
 
 sub-fine : tie.Need-sub-fine
 sub-fine c =
     let a = c .before .before .before .before .before in
     owing (a .pre .0) (a .args .s) (a .pre .1) (c .before .if2 .left)
-
-returns-3 : tie.Need-returns-3
-returns-3 c =
-    let f = c .before .before .before .before in
-    let a = f .before .before in
-    deriv (a .pre .0) (a .args .s) (a .pre .1) (c .fine .ensures) (f .if1 .left) (c .before .before .if2 .left)
 
 pub deriv-spec : {M : Type 1} → statement M
 deriv-spec =
@@ -38,4 +31,4 @@ deriv-spec =
     (λ c. search needs)
     sub-fine
     (λ c κs. search needs)
-    returns-3)
+    (λ c. search deriv))

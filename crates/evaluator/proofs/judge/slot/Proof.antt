@@ -1,20 +1,23 @@
-use mathlib.Core.Path.{refl}
-use borrow.Author.Tests.{ne-eqb}
-use Rattle.records.specs.declared.Instr.the-variants.{Slot}
 use borrow.Author.Needs.{needs}
-use Rattle.evaluator.proofs.Judging.{unfit, pushes}
+use borrow.Author.Tests.{ne-eqb}
+use Rattle.evaluator.proofs.JudgedRecord.{unfit, pushes-slot}
 use Rattle.evaluator.proofs.judge.slot.Statement.{statement}
 use Rattle.evaluator.proofs.judge.slot.Tie as tie
 
 returns : tie.Need-returns
-returns c =
-    let a = c .before .before .before in
-    unfit (Slot (a .args .s)) (c .bad .ensures) (rw (c .before .if1 .taken))
+returns c = unfit _ (c .bad .ensures) (rw (c .before .if1 .taken))
 
 returns-2 : tie.Need-returns-2
 returns-2 c =
     let a = c .before .before .before in
-    pushes (a .pre .0) (Slot (a .args .s)) refl refl refl refl (rw (ne-eqb _ 0 (c .before .if1 .left))) (c .push .ensures)
+    pushes-slot (a .pre .0) (a .args .s) (rw (ne-eqb _ 0 (c .before .if1 .left))) (c .push .ensures)
 
 pub slot-spec : {M : Type 1} → statement M
-slot-spec = tie.close (tie.spec (λ c. search needs) (λ c κs. search needs) returns (λ c κs. search needs) returns-2)
+slot-spec =
+    tie.close
+    (tie.spec
+    (λ c. search needs)
+    (λ c κs. search needs)
+    returns
+    (λ c κs. search needs)
+    returns-2)

@@ -1,25 +1,18 @@
+use borrow.Author.Needs.{needs}
 use borrow.Author.Tests.{ne-eqb}
 use lib.Dec.{eqb}
 use Rattle.laws.proofs.Bools.{and-fails}
-use Rattle.records.specs.declared.Instr.the-variants.{Store}
-use borrow.Author.Needs.{needs}
-use Rattle.evaluator.proofs.Judging.{unfit, store}
+use Rattle.evaluator.proofs.JudgedRecord.{unfit, store}
 use Rattle.evaluator.proofs.judge.store.Statement.{statement}
 use Rattle.evaluator.proofs.judge.store.Tie as tie
 
 returns : tie.Need-returns
-returns c = unfit (Store (c .before .before .before .args .s)) (c .bad .ensures) (rw (ne-eqb _ 1 (c .before .if1 .taken)))
+returns c = unfit _ (c .bad .ensures) (rw (ne-eqb _ 1 (c .before .if1 .taken)))
 
 returns-2 : tie.Need-returns-2
 returns-2 c =
-    let a = c .before .before .before .before .before in
-    unfit (Store (a .args .s)) (c .bad2 .ensures) (and-fails (eqb (a .args .t .height) 1) (λ _. ne-eqb _ 0 (c .before .if2 .taken)))
-
-returns-3 : tie.Need-returns-3
-returns-3 c =
-    let f = c .before .before .before in
-    let a = f .before .before in
-    store (a .pre .0) (a .args .s) (a .pre .1) (c .fine .ensures) (f .if1 .left) (c .before .if2 .left)
+    let height = c .before .before .before .before .before .args .t .height in
+    unfit _ (c .bad2 .ensures) (and-fails (eqb height 1) (λ _. ne-eqb _ 0 (c .before .if2 .taken)))
 
 pub store-spec : {M : Type 1} → statement M
 store-spec =
@@ -32,4 +25,4 @@ store-spec =
     returns-2
     (λ c. search needs)
     (λ c κs. search needs)
-    returns-3)
+    (λ c. search store))

@@ -1,60 +1,32 @@
 use Prim.Native.Nat.{_-_}
 use mathlib.Core.Path.{_∙_}
-use native.Mathlib.Omega.{arith}
 use borrow.Author.Needs.{needs}
-use Rattle.records.specs.Record.{decoded}
-use Rattle.evaluator.specs.Evaluate.{startStep}
-use Rattle.evaluator.proofs.Passes.{Passing, first, ready, next, over, done, starts, start-each}
+use lib.ListN.{set}
+use Rattle.evaluator.proofs.StatePasses.{Passing, first, ready, next, over, done}
 use Rattle.evaluator.proofs.states.start_all.Statement.{statement}
 use Rattle.evaluator.proofs.states.start_all.Tie as tie
 
 abbrev Inv-loop : tie.InvT-loop
-Inv-loop program values₀ total i₀ values i = Passing startStep program values₀ values i
+Inv-loop program values₀ total i₀ values i = Passing set program values₀ values i
 
 abbrev μ-loop : tie.MeasureT-loop
 μ-loop program values₀ total i₀ values i = total - i
 
-loop-holds : tie.Need-loop-holds Inv-loop μ-loop
-loop-holds c = let s = c .before .before in first (s .args .values .now) (s .pre .0)
-
 same-length : tie.Need-same-length Inv-loop μ-loop
-same-length c = c .before .before .before .before .loop .inv .wide
-
-returns : tie.Need-returns Inv-loop μ-loop
-returns c =
-    let r = c .before .before in
-    let t = r .before in
-    let s = t .before .before .before .before in
-    over (t .before .loop .inv) (t .loop-test .taken) (r .read .ensures) starts (rw (c .before .phase .ensures) at (c .if1 .taken))
-    ∙ start-each (s .args .values .now) (decoded (s .args .program .now))
-
-start-step-requires : tie.Need-start-step-requires Inv-loop μ-loop
-start-step-requires c κs =
-    let r = c .before .before .before in
-    let t = r .before in
-    let s = t .before .before .before .before in
-    (ready (t .before .loop .inv) (t .loop-test .taken) (r .read .ensures), omega (arith, t .before .loop .inv .wide, s .pre .1))
-
-add-i : tie.Need-add-i Inv-loop μ-loop
-add-i c = omega arith
-
-loop-less : tie.Need-loop-less Inv-loop μ-loop
-loop-less c = omega arith
+same-length c =
+    let passed = c .before .before .before in
+    passed .start-step .kept .0 ∙ passed .before .before .before .before .loop .inv .wide
 
 loop-again : tie.Need-loop-again Inv-loop μ-loop
 loop-again c =
-    let a = c .before .before in
-    let r = a .before .before .before .before in
-    let t = r .before in
-    next (t .before .loop .inv) (t .loop-test .taken) (r .read .ensures) (a .start-step .ensures) (search needs)
+    let passed = c .before .before .before in
+    let known = passed .before .before in
+    let here = known .before in
+    next (here .before .loop .inv) (here .loop-test .taken) (known .read .ensures)
+    (passed .start-step .ensures) (search needs)
 
 same-length-2 : tie.Need-same-length-2 Inv-loop μ-loop
 same-length-2 c = c .before .loop .inv .wide
-
-returns-2 : tie.Need-returns-2 Inv-loop μ-loop
-returns-2 c =
-    let s = c .before .before .before .before in
-    done (c .before .loop .inv) (c .loop-test .left) ∙ start-each (s .args .values .now) (decoded (s .args .program .now))
 
 pub start-all-spec : {M : Type 1} → statement M
 start-all-spec =
@@ -62,14 +34,13 @@ start-all-spec =
     (tie.spec
     Inv-loop
     μ-loop
-    loop-holds
+    (λ c. search first)
     (λ c κs. search needs)
-    (λ c κs. search needs)
+    (λ c κs. search (needs, ready))
     same-length
-    returns
-    start-step-requires
-    add-i
-    loop-less
+    (λ c. search over)
+    (λ c. search needs)
+    (λ c. search needs)
     loop-again
     same-length-2
-    returns-2)
+    (λ c. search done))

@@ -1,41 +1,24 @@
 -- What the judge has accepted is sound.
 use Prim.Native.Nat.{ℕ, zero, suc, _+_, _-_, _*_, _/_, _<_}
-use mathlib.Core.Path.{_≡_, _∙_}
+use mathlib.Core.Path.{_≡_, refl, _∙_}
 use mathlib.Core.Bool.{true}
 use mathlib.Core.List.{List, _∷_}
 use native.Mathlib.Omega.{arith}
 use borrow.Author.Tests.{leb-true}
-use lib.Dec.{leb, lit<}
+use lib.Dec.{leb}
 use lib.ListN.{length}
 use Rattle.limits.specs.Limits.{slots, stackPlaces, recordBytes}
-use Rattle.laws.proofs.Tests.{cond-ind, and-true}
+use Rattle.laws.proofs.Tests.{not-both, cond-ind, and-true}
 use Rattle.records.specs.declared.Instr.{Instr}
-use Rattle.records.specs.declared.Instr.the-variants.{Constant, Initial, Value, Slot, Add, Sub, Mul, Div, Neg, Insw, Limit, Compar, Store, Deriv, Bad}
-use Rattle.records.specs.Fields.{kindOf, operandOf}
+use Rattle.records.specs.declared.Instr.the-variants.{Bad}
+use Rattle.records.specs.Fields.{operandOf}
 use Rattle.records.specs.Record.{decodeAt, decodeFrom, decoded}
 use Rattle.records.specs.Decode.{readAt}
 use Rattle.records.proofs.Decoding.{slot-inside, read-at}
-use Rattle.records.proofs.Left.{left, left-next}
-use Rattle.evaluator.specs.Judge.{Judge, takes, gives, phaseOf, slotFine, good, judged, judge₀, Verdict, verdict, judgeFrom, judge}
+use Rattle.records.proofs.LeftRecords.{left, left-next}
+use Rattle.evaluator.specs.Judge.{takes, gives, phaseOf, Judge, good, judged, judge₀, answer, judgeFrom, judge}
+use Rattle.evaluator.specs.declared.Answer.{Answer}
 use Rattle.evaluator.specs.Sound.{Fits, Sound}
-
--- the refusal is never good
-no-refusal : (l : List ℕ) (h : ℕ) (x : Instr) → slotFine l h x ≡ true → 0 < kindOf x
-no-refusal l h (Constant s x) e = lit< tt
-no-refusal l h (Initial s x) e = lit< tt
-no-refusal l h (Value x) e = lit< tt
-no-refusal l h (Slot s) e = lit< tt
-no-refusal l h Add e = lit< tt
-no-refusal l h Sub e = lit< tt
-no-refusal l h Mul e = lit< tt
-no-refusal l h Div e = lit< tt
-no-refusal l h Neg e = lit< tt
-no-refusal l h Insw e = lit< tt
-no-refusal l h Limit e = lit< tt
-no-refusal l h Compar e = lit< tt
-no-refusal l h (Store s) e = lit< tt
-no-refusal l h (Deriv s) e = lit< tt
-no-refusal l h Bad e = let z : _≡_ {A = ℕ} 0 1 = cc in absurd (omega arith)
 
 -- a good record fits
 good-fits : (j : Judge) (x : Instr) → operandOf x < slots → good j x ≡ true → Fits (j .phase) (j .height) x
@@ -45,7 +28,7 @@ good-fits j x s e =
     let b = and-true (leb (j .height - takes x + gives x) stackPlaces) _ (a .1) in
     let c = and-true (leb (j .phase) (phaseOf x)) _ (b .1) in
     record {
-      known = no-refusal (j .marks) (j .height) x (c .1);
+      known = λ (q : x ≡ Bad). not-both (rw q at (c .1)) refl;
       slot = s;
       phase = leb-true (j .phase) (phaseOf x) (c .0);
       low = leb-true (takes x) (j .height) (a .0);
@@ -53,16 +36,19 @@ good-fits j x s e =
     }
 
 -- k records from record i on
-sound-from : (p : List ℕ) (i k : ℕ) (j : Judge) → judgeFrom i j (decodeFrom p i k) .number ≡ 0 → Sound (j .phase) (j .height) (decodeFrom p i k)
+sound-from : (p : List ℕ) (i k : ℕ) (j : Judge) → judgeFrom i j (decodeFrom p i k) .number ≡ 0
+    → Sound (j .phase) (j .height) (decodeFrom p i k)
 unfolding Sound judgeFrom decodeFrom
 sound-from p i zero j e = tt
 sound-from p i (suc k) j e =
     let x = decodeAt p (i * recordBytes) in
     let xs = decodeFrom p (suc i) k in
-    cond-ind (λ (v : Verdict). v .number ≡ 0 → Sound (j .phase) (j .height) (decodeFrom p i (suc k))) (good j x) (judgeFrom (suc i) (judged j x) xs)
-    (verdict 3 i) (λ g f. (good-fits j x (slot-inside p (i * recordBytes)) g, sound-from p (suc i) k (judged j x) f)) (λ _ f. absurd (omega arith)) e
+    cond-ind (λ (a : Answer). a .number ≡ 0 → Sound (j .phase) (j .height) (x ∷ xs)) (good j x)
+    (judgeFrom (suc i) (judged j x) xs) (answer 3 i)
+    (λ g f. (good-fits j x (slot-inside p (i * recordBytes)) g, sound-from p (suc i) k (judged j x) f))
+    (λ _ f. absurd (omega arith)) e
 
--- THE LAW. No record of an accepted program finds too few values, holds a sixty-eighth, or names a slot past 255
+-- THE LAW. No record of an accepted program finds too few values or no place for its value, or names no slot
 pub accepted-sound : (p : List ℕ) → judge (decoded p) .number ≡ 0 → Sound 1 0 (decoded p)
 unfolding decoded
 accepted-sound p e = sound-from p 0 (length p / recordBytes) judge₀ e
@@ -76,7 +62,8 @@ pub record Next (p : List ℕ) (q h i : ℕ) (x : Instr) : Type 0 where
   pub sound : Sound (phaseOf x) (h - takes x + gives x) (left p (i + 1))
 
 -- it is read as it was decoded, and fits
-pub sound-next : {p : List ℕ} {q h i : ℕ} {x : Instr} → Sound q h (left p i) → i < length p / recordBytes → x ≡ readAt p i → Next p q h i x
+pub sound-next : {p : List ℕ} {q h i : ℕ} {x : Instr} → Sound q h (left p i) → i < length p / recordBytes
+    → x ≡ readAt p i → Next p q h i x
 unfolding Sound
 sound-next {p} {q} {h} {i} {x} s l e =
     let t : Sound q h (decodeAt p (i * recordBytes) ∷ left p (i + 1)) = rw (left-next p i l) at s in

@@ -7,8 +7,7 @@ use native.Mathlib.Omega.{arith}
 use lib.ListN.{length, getD, set, drop, length-set}
 use lib.Seq.{getD-set-same, getD-set-other}
 use lib.Ieee.{Float, nan}
-use Rattle.limits.specs.Limits.{stackPlaces}
-use Rattle.evaluator.specs.Stack.{down, Holds, Put}
+use Rattle.evaluator.specs.Stack.{down, Room, Yields}
 
 -- what is written above the first n items does not change them
 down-set : (l : List Float) (n i : ℕ) (x : Float) → n ≤ i → down (set l i x) n ≡ down l n
@@ -33,13 +32,15 @@ pub down-at : (l : List Float) (n k : ℕ) → k < n → getD l (n - (k + 1)) na
 unfolding down
 down-at l zero k h = absurd (omega arith)
 down-at l (suc n) zero h = let e : suc n - (0 + 1) ≡ n = omega arith in rw e
-down-at l (suc n) (suc k) h = let e : suc n - (suc k + 1) ≡ n - (k + 1) = omega arith in rw e (down-at l n k (omega arith))
+down-at l (suc n) (suc k) h =
+    let e : suc n - (suc k + 1) ≡ n - (k + 1) = omega arith in
+    rw e (down-at l n k (omega arith))
 
 -- x is put for the k topmost
-pub put-done : (k : ℕ) (l : List Float) (n : ℕ) (x : Float) → Holds k l n → n - k < stackPlaces → Put k l n x (set l (n - k) x) (n - k + 1)
-put-done k l n x h r =
+pub put-done : (k : ℕ) (l : List Float) (n : ℕ) (x : Float) → Room k l n → Yields k l n x (set l (n - k) x) (n - k + 1)
+put-done k l n x h =
     record {
-      stack = down-put l (n - k) x (omega (arith, h .full)) ∙ rw (down-drop l n k);
+      stack = down-put l (n - k) x (omega (arith, h .high, h .full)) ∙ rw (down-drop l n k);
       count = refl;
       full = length-set l (n - k) x ∙ h .full;
     }

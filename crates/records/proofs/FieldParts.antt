@@ -15,7 +15,8 @@ word-append : (x y : List ℕ) → lowWord (x ++ y) ≡ lowWord x + 256 ^ length
 unfolding lowWord
 word-append [] y = omega arith
 word-append (b ∷ x) y =
-    let e : 256 ^ length (b ∷ x) * lowWord y ≡ 256 * (256 ^ length x * lowWord y) = rw (pow-suc, mul-comm (256 ^ length x) 256, mul-assoc) in
+    let e : 256 ^ length (b ∷ x) * lowWord y ≡ 256 * (256 ^ length x * lowWord y) =
+    rw (pow-suc, mul-comm (256 ^ length x) 256, mul-assoc) in
     omega (arith, word-append x y, e)
 
 module _ (p : List ℕ) (o : ℕ) where

@@ -6,7 +6,7 @@ use mathlib.Core.List.{List, [], _∷_}
 use mathlib.Core.Logic.{⊎-elim}
 use native.Mathlib.Numerals.{add-one}
 use native.Mathlib.Omega.{arith}
-use borrow.Author.Tests.{eq-eqb, ne-eqb}
+use borrow.Author.Tests.{eq-eqb, ne-eqb, not-true, not-false}
 use lib.Dec.{eqb, lit≤}
 use lib.ListN.{length}
 use Rattle.limits.specs.Limits.{slots, recordBytes}
@@ -15,12 +15,14 @@ use Rattle.laws.proofs.Counts.{once-other}
 use Rattle.laws.proofs.Tests.{eq-or-ne}
 use Rattle.records.specs.declared.Instr.{Instr}
 use Rattle.records.specs.Fields.{operandOf}
+use Rattle.records.specs.Shape.{shapeOf}
 use Rattle.records.specs.Record.{decodeAt, decoded}
 use Rattle.records.specs.Decode.{decodedAt}
 use Rattle.records.proofs.Decoding.{slot-inside, decoded-at}
-use Rattle.records.proofs.Left.{left, left-all, left-next, left-none}
-use Rattle.evaluator.specs.Judge.{good, judged, judge₀, anyOpen, verdict, judgeFrom, judge}
+use Rattle.records.proofs.LeftRecords.{left, left-all, left-next, left-none}
+use Rattle.evaluator.specs.Judge.{ruleOf, good, judged, judge₀, anyOpen, answer, judgeFrom, judge}
 use Rattle.evaluator.specs.State.{state, known, Stands, Judges}
+use Rattle.evaluator.specs.declared.Answer.{Answer}
 use Rattle.evaluator.specs.declared.judge.State.{State}
 
 -- where no derivative is owed, no state is without one
@@ -50,45 +52,51 @@ pub first : (p : List ℕ) {t : State} → t ≡ state 1 0 0 → Judging p (judg
 unfolding count
 first p e =
     rw e
-    (record { here = zero-le; stands = record { low = zero-le; phase = lit≤ tt; owed = refl; long = refl }; same = rw (left-all p) })
+    (record {
+      here = zero-le;
+      stands = record { low = zero-le; phase = lit≤ tt; owed = refl; long = refl };
+      same = rw (left-all p);
+    })
 
--- what is decoded has one of the 256 slots
+-- what is decoded has one of the slots
 pub ready : (p : List ℕ) (i : ℕ) {x : Instr} → i < length p / recordBytes → x ≡ decodedAt p i → operandOf x < slots
 ready p i h e = rw (e, decoded-at p i h) (slot-inside p (i * recordBytes))
 
 module _ {p l : List ℕ} {t : State} {i : ℕ} (a : Judging p l t i) where
-  module _ {x : Instr} (h : i < length p / recordBytes) (e : x ≡ decodedAt p i) {r : State} {k : List ℕ} (j : Judges t l x r k) where
+  module _ {x : Instr} (h : i < length p / recordBytes) (e : x ≡ decodedAt p i) {u : State} {k : List ℕ}
+      (j : Judges t l (ruleOf (shapeOf x)) u k) where
     -- record i is bad
-    pub refused : r .ok ≡ false → verdict 3 i ≡ judge (decoded p)
-    unfolding judgeFrom
-    refused o =
+    pub refused : {r : Answer} → not (u .ok) ≡ true → r ≡ answer 3 i → r ≡ judge (decoded p)
+    unfolding judgeFrom good
+    refused o q =
         let f = e ∙ decoded-at p i h in
-        let g : good (known t l) (decodeAt p (i * recordBytes)) ≡ false = rw f at (sym (j .fine) ∙ o) in
-        sym (a .same ∙ rw (left-next p i h, g))
+        let g : good (known t l) (decodeAt p (i * recordBytes)) ≡ false = rw f at (sym (j .fine) ∙ not-true _ o) in
+        q ∙ sym (a .same ∙ rw (left-next p i h, g))
 
     -- record i is good
-    pub next : r .ok ≡ true → Judging p k r (i + 1)
-    unfolding judgeFrom
-    next o =
+    pub next : not (u .ok) ≡ false → Judging p k u (i + 1)
+    unfolding judgeFrom good
+    next n =
+        let o = not-false _ n in
         let f = e ∙ decoded-at p i h in
         let g : good (known t l) (decodeAt p (i * recordBytes)) ≡ true = rw f at (sym (j .fine) ∙ o) in
-        let n : known r k ≡ judged (known t l) (decodeAt p (i * recordBytes)) = rw f at (j .next o) in
-        record { here = omega arith; stands = j .stands o; same = a .same ∙ rw (left-next p i h, g, n, add-one) }
+        let m : known u k ≡ judged (known t l) (decodeAt p (i * recordBytes)) = rw f at (j .next o) in
+        record { here = omega arith; stands = j .stands o; same = a .same ∙ rw (left-next p i h, g, m, add-one) }
 
   module _ (h : length p / recordBytes ≤ i) where
     -- all records are good
-    ended : judge (decoded p) ≡ cond (eqb (t .height) 0 && not (anyOpen l)) (verdict 0 0) (verdict 4 0)
+    ended : judge (decoded p) ≡ cond (eqb (t .height) 0 && not (anyOpen l)) (answer 0 0) (answer 4 0)
     unfolding judgeFrom
     ended = a .same ∙ rw (left-none p i h)
 
     -- the end finds a value
-    pub tall : (t .height ≡ 0 → ⊥) → verdict 4 0 ≡ judge (decoded p)
-    tall d = sym (ended ∙ rw (ne-eqb (t .height) 0 d))
+    pub tall : {r : Answer} → (t .height ≡ 0 → ⊥) → r ≡ answer 4 0 → r ≡ judge (decoded p)
+    tall d q = q ∙ sym (ended ∙ rw (ne-eqb (t .height) 0 d))
 
     -- the end finds a state without derivative
-    pub owing : t .height ≡ 0 → (t .owed ≡ 0 → ⊥) → verdict 4 0 ≡ judge (decoded p)
-    owing z d = sym (ended ∙ rw (z, open-some l (λ q. d (a .stands .owed ∙ q))))
+    pub owing : {r : Answer} → t .height ≡ 0 → (t .owed ≡ 0 → ⊥) → r ≡ answer 4 0 → r ≡ judge (decoded p)
+    owing z d q = q ∙ sym (ended ∙ rw (z, open-some l (λ o. d (a .stands .owed ∙ o))))
 
     -- the end finds neither
-    pub well : t .height ≡ 0 → t .owed ≡ 0 → verdict 0 0 ≡ judge (decoded p)
-    well z o = sym (ended ∙ rw (z, open-none l (sym (a .stands .owed) ∙ o)))
+    pub well : {r : Answer} → t .height ≡ 0 → t .owed ≡ 0 → r ≡ answer 0 0 → r ≡ judge (decoded p)
+    well z o q = q ∙ sym (ended ∙ rw (z, open-none l (sym (a .stands .owed) ∙ o)))

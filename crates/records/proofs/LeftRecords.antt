@@ -16,9 +16,12 @@ pub left-all : (p : List ℕ) → left p 0 ≡ decoded p
 unfolding decoded
 left-all p = let e : length p / recordBytes - 0 ≡ length p / recordBytes = omega arith in rw e
 
-pub left-next : (p : List ℕ) (i : ℕ) → i < length p / recordBytes → left p i ≡ decodeAt p (i * recordBytes) ∷ left p (i + 1)
+pub left-next : (p : List ℕ) (i : ℕ) → i < length p / recordBytes
+    → left p i ≡ decodeAt p (i * recordBytes) ∷ left p (i + 1)
 unfolding decodeFrom
-left-next p i h = let e : length p / recordBytes - i ≡ suc (length p / recordBytes - (i + 1)) = omega arith in rw (e, add-one)
+left-next p i h =
+    let e : length p / recordBytes - i ≡ suc (length p / recordBytes - (i + 1)) = omega arith in
+    rw (e, add-one)
 
 pub left-none : (p : List ℕ) (i : ℕ) → length p / recordBytes ≤ i → left p i ≡ []
 unfolding decodeFrom

@@ -1,0 +1,127 @@
+-- The entries: refusals in their order, and what an answer of 0 writes.
+use Prim.Native.Nat.{ℕ, _/_, _%_, _≤_, _<_}
+use mathlib.Core.Path.{_≡_, sym, ap, _∙_}
+use mathlib.Core.Bool.{not, _||_}
+use mathlib.Core.List.{List}
+use native.Mathlib.Omega.{arith}
+use borrow.Author.Tests.{eq-eqb, ne-eqb, lt-ltb, le-ltb, ltb-false}
+use lib.Dec.{eqb, ltb}
+use lib.ListN.{length, set}
+use lib.Ieee.{Float}
+use Rattle.limits.specs.Limits.{slots, recordBytes, mostRecords}
+use Rattle.laws.proofs.Tests.{cond-ind}
+use Rattle.laws.proofs.Bools.{or-false}
+use Rattle.records.specs.Shape.{zero64}
+use Rattle.records.specs.Record.{decoded}
+use Rattle.evaluator.specs.Machine.{Machine, begun}
+use Rattle.evaluator.specs.Judge.{answer, judge}
+use Rattle.evaluator.specs.Evaluate.{runOutcome, refusal, unless, ran, evaluated, startAll, started}
+use Rattle.evaluator.specs.Evaluate.{moveAll, advanced, stepped}
+use Rattle.evaluator.specs.Contract.{Evaluated, Started, Stepped}
+use Rattle.evaluator.specs.Sound.{Granted}
+use Rattle.evaluator.specs.Stack.{Ran}
+use Rattle.evaluator.specs.declared.Answer.{Answer}
+use Rattle.evaluator.proofs.AcceptedSound.{accepted-sound}
+
+-- ---- refusals
+
+module _ (p : List ℕ) (v d : List Float) (r : Answer) where
+  -- 1: either is shorter
+  pub short-values : r ≡ answer 1 0 → length v < slots → r ≡ refusal p v d
+  unfolding refusal
+  short-values e h = rw (e, lt-ltb (length v) slots h)
+
+  pub short-derivs : r ≡ answer 1 0 → slots ≤ length v → length d < slots → r ≡ refusal p v d
+  unfolding refusal
+  short-derivs e hv h = rw (e, le-ltb (length v) slots hv, lt-ltb (length d) slots h)
+
+  module _ (hv : slots ≤ length v) (hd : slots ≤ length d) where
+    -- 2: no whole records, or too many of them
+    pub ragged : r ≡ answer 2 0 → (length p % recordBytes ≡ 0 → ⊥) → r ≡ refusal p v d
+    unfolding refusal
+    ragged e h =
+        rw (e, le-ltb (length v) slots hv, le-ltb (length d) slots hd, ne-eqb (length p % recordBytes) 0 h)
+
+    module _ (hp : length p % recordBytes ≡ 0) where
+      pub too-long : r ≡ answer 2 0 → mostRecords < length p / recordBytes → r ≡ refusal p v d
+      unfolding refusal
+      too-long e h =
+          let long = lt-ltb mostRecords (length p / recordBytes) h in
+          rw (e, le-ltb (length v) slots hv, le-ltb (length d) slots hd, hp, long)
+
+      -- 3, 4 or 0: the judge's
+      pub by-judge : r ≡ judge (decoded p) → length p / recordBytes ≤ mostRecords → r ≡ refusal p v d
+      unfolding refusal
+      by-judge e h =
+          let short = le-ltb mostRecords (length p / recordBytes) h in
+          rw (e, le-ltb (length v) slots hv, le-ltb (length d) slots hd, hp, short)
+
+-- ---- no refusal
+
+-- the answer is 0
+pub granted : {p : List ℕ} {v d : List Float} {r : Answer} → r ≡ refusal p v d → r .number ≡ 0 → Granted p v d
+unfolding refusal
+granted {p} {v} {d} {r} e z =
+    let short = ltb (length v) slots || ltb (length d) slots in
+    let misfit = not (eqb (length p % recordBytes) 0) || ltb mostRecords (length p / recordBytes) in
+    cond-ind (λ (a : Answer). a .number ≡ 0 → Granted p v d) short (answer 1 0) _ (λ _ q. absurd (omega arith))
+    (λ t.
+    let large = or-false (ltb (length v) slots) (ltb (length d) slots) t in
+    cond-ind (λ (a : Answer). a .number ≡ 0 → Granted p v d) misfit (answer 2 0) (judge (decoded p))
+    (λ _ q. absurd (omega arith))
+    (λ _ q. record {
+      sound = accepted-sound p q;
+      values = ltb-false (length v) slots (large .0);
+      derivs = ltb-false (length d) slots (large .1);
+    }))
+    (ap (λ (a : Answer). a .number) (sym e) ∙ z)
+
+module _ (v d : List Float) (m : Machine) (a : Answer) where
+  -- a refusal writes nothing
+  refused : (a .number ≡ 0 → ⊥) → runOutcome a v d ≡ unless a v d m
+  refused n = rw (ne-eqb (a .number) 0 n)
+
+  -- without one the buffers are the machine's
+  accepted : a .number ≡ 0 → runOutcome a (m .values) (m .derivs) ≡ unless a v d m
+  accepted z = rw (eq-eqb (a .number) 0 z)
+
+-- the machine m after a start with these values, and after a step of h
+abbrev begins : List ℕ → List Float → List Float → Machine
+begins p v d = begun (startAll (set v 0 zero64) (decoded p)) d
+
+abbrev moves : List ℕ → Float → Machine → Machine
+moves p h m = begun (advanced h (moveAll h (m .derivs) (m .values) (decoded p))) (m .derivs)
+
+module _ {p : List ℕ} {v d : List Float} {r : Answer} (e : r ≡ refusal p v d) where
+  -- ---- evaluate
+
+  pub evaluate-refused : (r .number ≡ 0 → ⊥) → Evaluated p v d r v d
+  unfolding evaluated
+  evaluate-refused n = record { meets = rw (sym e) (refused v d (ran p v d) r n) }
+
+  pub evaluate-done : {v′ d′ : List Float} → r .number ≡ 0 → Ran (ran p v d) v′ d′ → Evaluated p v d r v′ d′
+  unfolding evaluated
+  evaluate-done z w = record { meets = rw (sym e, w .values, w .derivs) (accepted v d (ran p v d) r z) }
+
+  -- ---- start
+
+  pub start-refused : (r .number ≡ 0 → ⊥) → Started p v d r v d
+  unfolding started
+  start-refused n = record { meets = rw (sym e) (refused v d (begins p v d) r n) }
+
+  pub start-done : {v′ : List Float} → r .number ≡ 0 → v′ ≡ startAll (set v 0 zero64) (decoded p) → Started p v d r v′ d
+  unfolding started
+  start-done z w = record { meets = rw (sym e, w) (accepted v d (begins p v d) r z) }
+
+  -- ---- step
+
+  module _ {h : Float} where
+    pub step-refused : (r .number ≡ 0 → ⊥) → Stepped p h v d r v d
+    unfolding stepped
+    step-refused n = record { meets = rw (sym e) (refused v d (moves p h (ran p v d)) r n) }
+
+    pub step-done : {w x d′ : List Float} → r .number ≡ 0 → Ran (ran p v d) w d′ → x ≡ moveAll h d′ w (decoded p)
+        → Stepped p h v d r (advanced h x) d′
+    unfolding stepped
+    step-done z w q =
+        record { meets = rw (sym e, q, w .values, w .derivs) (accepted v d (moves p h (ran p v d)) r z) }
