@@ -1,12 +1,12 @@
-pub mod Spans
-pub mod Progress
+mod Spans
+mod Progress
 mod Telling
 mod Parsing
 mod Turns
 mod Entries
-pub mod Concluding
+mod Concluding
 pub mod Deciding
-pub mod Fitting
+mod Fitting
 pub mod Counted
 mod Writing
 mod Rooms
