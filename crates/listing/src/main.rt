@@ -2,13 +2,17 @@
 use libc::STDERR_FILENO;
 use libc::STDIN_FILENO;
 use libc::STDOUT_FILENO;
+use limits::STATEMENTS;
 use limits::TEXT_BYTES;
 
 // A byte more than a text may have: what is longer is refused by its size, whatever follows.
 const READ: usize = TEXT_BYTES + 1;
 
-// More than the longest listing, a line for the verdict and one for each of 256 statements.
-const LISTED: usize = 4096;
+// More bytes than a line of a listing has: two letters or a line's number, a space, a number and its end.
+const LINE: usize = 12;
+
+// More than the longest listing has: a line for the verdict and one for each statement.
+const LISTED: usize = LINE * (STATEMENTS + 1);
 
 // Writes the first m bytes, or says that there are not so many.
 fn write_front(out: &[u8], m: usize) {

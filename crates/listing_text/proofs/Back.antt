@@ -60,7 +60,7 @@ front l vs h = sets-eq vs l 0 (omega arith)
 
 -- ---- faults
 
--- a fault has four bytes
+-- the bytes of a fault
 length-entry : (f : Fault) → length (faultEntry f) ≡ faultBytes
 unfolding faultEntry
 length-entry f = simp (length-append, length-low)
@@ -88,7 +88,7 @@ faults-back fs rest p =
 
 -- ---- records
 
--- a record has sixteen bytes
+-- the bytes of a record
 length-record : (r : Rec) → length (recBytes r) ≡ recordBytes
 unfolding recBytes
 length-record r = simp (length-append, length-low)

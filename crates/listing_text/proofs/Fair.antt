@@ -1,4 +1,4 @@
--- What is known of every verdict on a text.
+-- Each verdict on a text is fair: its line numbers fit two bytes, and its records end the ordered statements in turn.
 use Prim.Native.Nat.{ℕ, _/_, _<_}
 use mathlib.Core.Path.{_≡_}
 use mathlib.Core.Bool.{cond, _||_}

@@ -1,9 +1,9 @@
-pub mod Figures
+mod Figures
 mod Puts
-mod Rooms
-mod Shorts
+mod Fields
+mod Reach
 mod Numbers
 mod Back
 mod Ordered
 mod Fair
-pub mod Meant
+mod Meant

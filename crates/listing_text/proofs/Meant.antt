@@ -1,6 +1,6 @@
 -- What is written by number and count, from the bytes that a translation left, is the listing.
 use Prim.Native.Nat.{ℕ, _+_, _≤_}
-use mathlib.Core.Path.{_≡_, refl, sym, ap, _∙_}
+use mathlib.Core.Path.{_≡_, refl, ap, _∙_}
 use mathlib.Core.List.{List, _++_, append-nil}
 use native.Mathlib.Omega.{arith}
 use borrow.Author.Tests.{ne-eqb}
@@ -11,9 +11,9 @@ use Rattle.laws.specs.Put.{Put}
 use Rattle.sheet.specs.Sheet.{faultList}
 use Rattle.model.proofs.FaultsListed.{list-length}
 use Rattle.records.specs.Record.{programBytes}
-use Rattle.translator.specs.Verdict.{Verdict, refused, faulty, translated, verdictOf}
+use Rattle.translator.specs.Verdict.{Verdict as Decision, refused, faulty, translated, verdictOf}
 use Rattle.translator.specs.Verdict.{numberOf, countOf, faultsAfter, programAfter, Translation, translation}
-use Rattle.translator.specs.declared.Verdict.{Verdict as Answer}
+use Rattle.translator.specs.declared.Verdict.{Verdict}
 use Rattle.translator.specs.Contract.{numberIn, countIn, Translates}
 use Rattle.translator.proofs.Deciding.{length-program}
 use Rattle.translator.proofs.Counted.{few, count-few}
@@ -26,11 +26,11 @@ use Rattle.listing_text.proofs.Fair.{Fair, fair}
 
 -- ---- of a text, where the lent bytes f and p have room
 module _ (text f p : List ℕ) (room-faults : faultRoom ≤ length f) (room-program : programRoom ≤ length p) where
-  abbrev verdict : Verdict
+  abbrev verdict : Decision
   verdict = verdictOf text (length f) (length p)
 
   -- what is written is what is listed of its verdict
-  written-of : (v : Verdict) → verdict ≡ v → Fair v → written (numberOf v) (countOf v) (faultsAfter v f) (programAfter v p) ≡ listed v
+  written-of : (v : Decision) → verdict ≡ v → Fair v → written (numberOf v) (countOf v) (faultsAfter v f) (programAfter v p) ≡ listed v
   unfolding written listed gather
   written-of (refused n) e h = rw (ne-eqb n 0 (λ e. omega arith)) (append-nil (head 78 79 n))
   written-of (faulty n fs) e h =
@@ -45,7 +45,7 @@ module _ (text f p : List ℕ) (room-faults : faultRoom ≤ length f) (room-prog
       (ap (λ (l : List ℕ). head 79 75 (length rs) ++ l) (records-back rs (drop (0 + length (programBytes rs)) p) (h .0) ∙ h .1))
 
   -- where translating it answers r and leaves f′ and p′
-  module _ (r : Answer) {f′ p′ : List ℕ} (e : Translates text f p r f′ p′) where
+  module _ (r : Verdict) {f′ p′ : List ℕ} (e : Translates text f p r f′ p′) where
     -- the count is small
     count-of : countIn r ≤ mostRecords
     unfolding translation
@@ -56,7 +56,12 @@ module _ (text f p : List ℕ) (room-faults : faultRoom ≤ length f) (room-prog
     unfolding translation
     listed-of =
         let o = by-number text f p e in
-        rw (ap (λ (x : Translation). x .number) o, ap (λ (x : Translation). x .count) o, ap (λ (x : Translation). x .faults) o, ap (λ (x : Translation). x .program) o)
+        rw (
+          ap (λ (x : Translation). x .number) o,
+          ap (λ (x : Translation). x .count) o,
+          ap (λ (x : Translation). x .faults) o,
+          ap (λ (x : Translation). x .program) o,
+        )
         (written-of verdict refl (fair text (length f) (length p)))
 
 -- ---- the bytes that are lent
@@ -72,7 +77,7 @@ lent-room : (n : ℕ) → n ≤ length (lent n)
 lent-room n = omega (arith, lent-length n)
 
 -- where translating a text into them answers r and leaves f and p
-module _ (text : List ℕ) (r : Answer) {f p : List ℕ} (e : Translates text (lent faultRoom) (lent programRoom) r f p) where
+module _ (text : List ℕ) (r : Verdict) {f p : List ℕ} (e : Translates text (lent faultRoom) (lent programRoom) r f p) where
   -- the count is small
   pub count-small : {count : ℕ} → count ≡ countIn r → count ≤ mostRecords
   count-small a = rw a (count-of text (lent faultRoom) (lent programRoom) (lent-room faultRoom) (lent-room programRoom) r e)
@@ -90,7 +95,3 @@ module _ (text : List ℕ) (r : Answer) {f p : List ℕ} (e : Translates text (l
   lists {number} {count} a b w =
       let same : written number count f p ≡ listing text = rw (a, b) listing-is in
       record { needed = w .behind ∙ rw same (omega arith); held = w .written ∙ rw same }
-
--- any two outcomes that the promise allows agree
-pub lists-once : {text out : List ℕ} {r s : ℕ} {a b : List ℕ} → Lists text out r a → Lists text out s b → (r ≡ s) × (a ≡ b)
-lists-once p q = (p .needed ∙ sym (q .needed), p .held ∙ sym (q .held))

@@ -34,6 +34,6 @@ listed (refused n) = bytes "NO " ++ line n
 listed (faulty n fs) = bytes "NO " ++ (line n ++ concat-map (λ (f : Fault). line2 (f .line) (f .code)) fs)
 listed (translated rs ls) = bytes "OK " ++ (line (length rs) ++ concat-map line ls)
 
--- the listing program lends 1,024 and 65,536 bytes
+-- the listing program lends faultRoom and programRoom bytes
 unfoldable pub listing : List ℕ → List ℕ
 listing text = listed (verdictOf text faultRoom programRoom)

@@ -1,6 +1,7 @@
--- The listing as code writes it: by a verdict's number and count, from the bytes of a fault list or of a program. Every read past an end gives 0.
+-- The listing as code writes it: by a verdict's number and count, from the bytes of a fault list or of a program. Every
+-- read past an end gives 0.
 use Prim.Native.Nat.{ℕ, _+_, _*_, _<_}
-use mathlib.Core.Bool.{Bool, cond, _&&_}
+use mathlib.Core.Bool.{Bool, true, false, cond, _&&_}
 use mathlib.Core.List.{List, [], _∷_, _++_}
 use lib.Dec.{eqb, leb}
 use lib.ListN.{length}
@@ -22,6 +23,11 @@ ending kind = leb 13 kind && leb kind 14
 abbrev pub endedAt : List ℕ → ℕ → List ℕ
 endedAt program i = cond (ending (field program (i * recordBytes) 1)) (line (field program (i * recordBytes + 4) 4)) []
 
+-- either, of a program or of a list
+abbrev pub rowAt : Bool → List ℕ → ℕ → List ℕ
+rowAt true = endedAt
+rowAt false = faultAt
+
 -- two letters, a space and a number
 abbrev pub head : ℕ → ℕ → ℕ → List ℕ
 head a b n = a ∷ b ∷ 32 ∷ line n
@@ -33,5 +39,5 @@ written number count faults program =
     ((bytes "NO " ++ line number) ++ gather (faultAt faults) count 0)
 
 -- what is to be written from a place on ends at a place that is a number of the machine
-abbrev pub Room : List ℕ → ℕ → Type 0
-Room what at = at + length what < 0x4000_0000_0000_0000
+abbrev pub InReach : List ℕ → ℕ → Type 0
+InReach what at = at + length what < 0x4000_0000_0000_0000

@@ -1,6 +1,6 @@
 // The listing of a text, as bytes.
 ghost use mathlib.Core.Path.{_≡_};
-ghost use mathlib.Core.List.{[], _∷_};
+ghost use mathlib.Core.List.{[], _∷_, _++_};
 ghost use Prim.Native.Nat.{_<_, _≤_, min};
 ghost use Rattle.limits.specs.Limits.{mostRecords};
 ghost use Rattle.laws.specs.Places.{gather};
@@ -9,18 +9,19 @@ ghost use Rattle.records.specs.Record.{field};
 ghost use Rattle.translator.specs.Contract.{numberIn, countIn};
 ghost use Rattle.listing_text.specs.Listing.{figures, line, line2};
 ghost use Rattle.listing_text.specs.Contract.{Lists};
-ghost use Rattle.listing_text.specs.Written.{faultAt, endedAt, head, written, Room};
+ghost use Rattle.listing_text.specs.Written.{faultAt, endedAt, head, rowAt, written, InReach};
 use limits::FAULT_BYTES;
 use limits::FAULT_ROOM;
 use limits::PROGRAM_ROOM;
 use limits::RECORD_BYTES;
 use translator::Verdict;
 
-// ---- numbers and lines. Each writer answers the place behind what it wrote; past the end of the lent bytes nothing is written.
+// ---- numbers and lines. Each writer answers the place behind what it wrote; past the end of the lent bytes nothing is
+// written.
 
 // Writes a byte, if there is a place for it.
 fn put_byte(b: u8, out: &mut [u8], at: usize) -> usize
-    requires { ⌜ Room (b ∷ []) at ⌝ }
+    requires { ⌜ InReach (b ∷ []) at ⌝ }
     ensures { λ r. ⌜ Put (b ∷ []) at r (now (out .entry)) (now (out .exit)) ⌝ }
 {
     if out.len() <= at {
@@ -32,7 +33,7 @@ fn put_byte(b: u8, out: &mut [u8], at: usize) -> usize
 
 // Writes a number in decimal digits.
 fn put_figures(n: u64, out: &mut [u8], at: usize) -> usize
-    requires { ⌜ Room (figures n) at ⌝ }
+    requires { ⌜ InReach (figures n) at ⌝ }
     ensures { λ r. ⌜ Put (figures n) at r (now (out .entry)) (now (out .exit)) ⌝ }
 {
     if n < 10 {
@@ -44,7 +45,7 @@ fn put_figures(n: u64, out: &mut [u8], at: usize) -> usize
 
 // Writes a line of one number.
 fn put_line(n: u64, out: &mut [u8], at: usize) -> usize
-    requires { ⌜ Room (line n) at ⌝ }
+    requires { ⌜ InReach (line n) at ⌝ }
     ensures { λ r. ⌜ Put (line n) at r (now (out .entry)) (now (out .exit)) ⌝ }
 {
     let end = put_figures(n, &mut *out, at);
@@ -53,7 +54,7 @@ fn put_line(n: u64, out: &mut [u8], at: usize) -> usize
 
 // Writes a line of two numbers.
 fn put_pair(m: u64, n: u64, out: &mut [u8], at: usize) -> usize
-    requires { ⌜ Room (line2 m n) at ⌝ }
+    requires { ⌜ InReach (line2 m n) at ⌝ }
     ensures { λ r. ⌜ Put (line2 m n) at r (now (out .entry)) (now (out .exit)) ⌝ }
 {
     let gap = put_figures(m, &mut *out, at);
@@ -63,7 +64,7 @@ fn put_pair(m: u64, n: u64, out: &mut [u8], at: usize) -> usize
 
 // Writes the first line: two letters, a space and a number.
 fn put_head(a: u8, b: u8, n: u64, out: &mut [u8]) -> usize
-    requires { ⌜ Room (head a b n) 0 ⌝ }
+    requires { ⌜ InReach (head a b n) 0 ⌝ }
     ensures { λ r. ⌜ Put (head a b n) 0 r (now (out .entry)) (now (out .exit)) ⌝ }
 {
     let second = put_byte(a, &mut *out, 0);
@@ -86,7 +87,7 @@ fn low_at(s: &[u8], at: usize, n: usize) -> u64
 
 // Writes line and code of a fault.
 fn put_fault(list: &[u8], i: usize, out: &mut [u8], at: usize) -> usize
-    requires { ⌜ (i < mostRecords) × Room (faultAt (now list) i) at ⌝ }
+    requires { ⌜ (i < mostRecords) × InReach (faultAt (now list) i) at ⌝ }
     ensures { λ r. ⌜ Put (faultAt (now (list .entry)) i) at r (now (out .entry)) (now (out .exit)) ⌝ }
 {
     let o = i * FAULT_BYTES;
@@ -95,7 +96,7 @@ fn put_fault(list: &[u8], i: usize, out: &mut [u8], at: usize) -> usize
 
 // Writes the first line of the statement that a record ends, if it ends one.
 fn put_ended(program: &[u8], i: usize, out: &mut [u8], at: usize) -> usize
-    requires { ⌜ (i < mostRecords) × Room (endedAt (now program) i) at ⌝ }
+    requires { ⌜ (i < mostRecords) × InReach (endedAt (now program) i) at ⌝ }
     ensures { λ r. ⌜ Put (endedAt (now (program .entry)) i) at r (now (out .entry)) (now (out .exit)) ⌝ }
 {
     let o = i * RECORD_BYTES;
@@ -109,29 +110,26 @@ fn put_ended(program: &[u8], i: usize, out: &mut [u8], at: usize) -> usize
     put_line(low_at(program, o + 4, 4), out, at)
 }
 
-// Writes line and code of each fault.
-fn put_faults(list: &[u8], count: usize, out: &mut [u8], at: usize) -> usize
-    requires { ⌜ (count ≤ mostRecords) × Room (gather (faultAt (now list)) count 0) at ⌝ }
-    ensures { λ r. ⌜ Put (gather (faultAt (now (list .entry))) count 0) at r (now (out .entry)) (now (out .exit)) ⌝ }
+// Writes a line of an ordered statement, read from a program, or else of a fault, read from a list.
+fn put_row(ordered: bool, from: &[u8], i: usize, out: &mut [u8], at: usize) -> usize
+    requires { ⌜ (i < mostRecords) × InReach (rowAt ordered (now from) i) at ⌝ }
+    ensures { λ r. ⌜ Put (rowAt ordered (now (from .entry)) i) at r (now (out .entry)) (now (out .exit)) ⌝ }
 {
-    let mut w = at;
-    let mut i: usize = 0;
-    while i < count {
-        w = put_fault(list, i, &mut *out, w);
-        i += 1;
+    if ordered {
+        return put_ended(from, i, out, at);
     }
-    w
+    put_fault(from, i, out, at)
 }
 
-// Writes the first line of each ordered statement.
-fn put_order(program: &[u8], count: usize, out: &mut [u8], at: usize) -> usize
-    requires { ⌜ (count ≤ mostRecords) × Room (gather (endedAt (now program)) count 0) at ⌝ }
-    ensures { λ r. ⌜ Put (gather (endedAt (now (program .entry))) count 0) at r (now (out .entry)) (now (out .exit)) ⌝ }
+// Writes so many of them.
+fn put_rows(ordered: bool, from: &[u8], count: usize, out: &mut [u8], at: usize) -> usize
+    requires { ⌜ (count ≤ mostRecords) × InReach (gather (rowAt ordered (now from)) count 0) at ⌝ }
+    ensures { λ r. ⌜ Put (gather (rowAt ordered (now (from .entry))) count 0) at r (now (out .entry)) (now (out .exit)) ⌝ }
 {
     let mut w = at;
     let mut i: usize = 0;
     while i < count {
-        w = put_ended(program, i, &mut *out, w);
+        w = put_row(ordered, from, i, &mut *out, w);
         i += 1;
     }
     w
@@ -161,17 +159,26 @@ fn count_of(verdict: Verdict) -> usize
     }
 }
 
+// Writes the first line and, from a program or a list, so many lines behind it.
+fn put_all(a: u8, b: u8, n: u64, ordered: bool, from: &[u8], count: usize, out: &mut [u8]) -> usize
+    requires { ⌜ (n ≤ mostRecords) × (count ≤ mostRecords) ⌝ }
+    ensures { λ r. ⌜ Put (head a b n ++ gather (rowAt ordered (now (from .entry))) count 0) 0 r
+        (now (out .entry)) (now (out .exit)) ⌝ }
+{
+    let at = put_head(a, b, n, &mut *out);
+    put_rows(ordered, from, count, out, at)
+}
+
 // Writes the listing of a verdict, with the faults or the program that it left.
 fn put_listing(number: u8, count: usize, faults: &[u8], program: &[u8], out: &mut [u8]) -> usize
     requires { ⌜ count ≤ mostRecords ⌝ }
-    ensures { λ r. ⌜ Put (written number count (now (faults .entry)) (now (program .entry))) 0 r (now (out .entry)) (now (out .exit)) ⌝ }
+    ensures { λ r. ⌜ Put (written number count (now (faults .entry)) (now (program .entry))) 0 r
+        (now (out .entry)) (now (out .exit)) ⌝ }
 {
     if number == 0 {
-        let at = put_head(b'O', b'K', count as u64, &mut *out);
-        return put_order(program, count, out, at);
+        return put_all(b'O', b'K', count as u64, true, program, count, out);
     }
-    let at = put_head(b'N', b'O', number as u64, &mut *out);
-    put_faults(faults, count, out, at)
+    put_all(b'N', b'O', number as u64, false, faults, count, out)
 }
 
 // The listing of a text, written to the front of what is lent, as far as there are places; how many bytes it has.

@@ -13,9 +13,9 @@ use Rattle.deck.specs.Later.{later, laterReport}
 use Rattle.deck.specs.Later.{Seam}
 use Rattle.sheet.specs.Sheet.{Sheet, Fault, statementFaults, faultList}
 use Rattle.sheet.specs.Reader.{told, sheetOf}
-use Rattle.translator.specs.declared.Verdict.{Verdict as Reply}
+use Rattle.translator.specs.declared.Verdict.{Verdict}
 use Rattle.translator.specs.declared.Verdict.the-variants.{Faulty}
-use Rattle.translator.specs.Verdict.{Verdict, numberOf, translation}
+use Rattle.translator.specs.Verdict.{Verdict as Decision, numberOf, translation}
 
 -- ---- the two texts
 
@@ -31,7 +31,7 @@ pub record Change (pre old new post : List ℕ) : Type 0 where
   pub behind-new : Seam new post
 
 -- not refused for size: not with 2, 3 or 4
-pub record Admitted (v : Verdict) : Type 0 where
+pub record Admitted (v : Decision) : Type 0 where
   pub not-two : numberOf v ≡ 2 → ⊥
   pub not-three : numberOf v ≡ 3 → ⊥
   pub not-four : numberOf v ≡ 4 → ⊥
@@ -119,7 +119,7 @@ Convicts text f p = (x : Fault) (xs : List Fault) → faultsOf text ≡ x ∷ xs
     → translation text f p ≡ record { number = 5; count = length (x ∷ xs); faults = sets f 0 (faultList (x ∷ xs)); program = p }
 
 -- what a caller has of it: that answer, the list in full at the front of the lent f′, and the program p′ as lent
-pub record Answered (fs : List Fault) (r : Reply) (f′ p p′ : List ℕ) : Type 0 where
+pub record Answered (fs : List Fault) (r : Verdict) (f′ p p′ : List ℕ) : Type 0 where
   pub answer : r ≡ Faulty 5 (length fs)
   pub listed : take (faultBytes * length fs) f′ ≡ faultList fs
   pub untouched : p′ ≡ p

@@ -1,11 +1,11 @@
-pub mod Spans
-pub mod Progress
+mod Spans
+mod Progress
 mod Telling
 mod Parsing
 mod Turns
-pub mod Concluding
+mod Concluding
 pub mod Deciding
-pub mod Fitting
+mod Fitting
 pub mod Counted
 mod Writing
 mod Rooms

@@ -1,3 +1,5 @@
+-- the paper
 pub mod Verdict
+-- as code holds it
 pub mod Contract
 pub mod Working

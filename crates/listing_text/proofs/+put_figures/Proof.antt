@@ -7,7 +7,7 @@ use borrow.Fn.PlainCycle.{Measures, is, falls, and}
 use Rattle.listing_text.proofs.Puts.{put-both}
 use Rattle.listing_text.specs.Listing.{figures}
 use Rattle.listing_text.proofs.Figures.{one-figure, more-figures}
-use Rattle.listing_text.proofs.Rooms.{room-first, room-second}
+use Rattle.listing_text.proofs.Reach.{reach-first, reach-second}
 use Rattle.listing_text.proofs.put_figures.Reads as put-figures
 use Rattle.listing_text.proofs.put_figures.Kinds as put-figures-kinds
 use Rattle.listing_text.proofs.+put_figures.Lts-put_figures as put-figures-lts
@@ -54,7 +54,7 @@ put-figures-requires : In-figures put-figures-lts.Need-put-figures-requires
 put-figures-requires t c κs =
     let s = c .before .before .before in
     let n = s .args .n in
-    (omega (arith, s .pre .0), room-first (figures (n / 10)) _ (s .args .at) (rw (more-figures n (c .before .if1 .left)) at (s .pre .1)))
+    (omega (arith, s .pre .0), reach-first (figures (n / 10)) _ (s .args .at) (rw (more-figures n (c .before .if1 .left)) at (s .pre .1)))
 
 cast-put-byte-2 : In-figures put-figures-lts.Need-cast-put-byte-2
 cast-put-byte-2 t c = search needs
@@ -67,7 +67,7 @@ put-byte-requires-2 t c κs =
     let p = c .before .before .before in
     let i = p .before .before in
     let s = i .before .before in
-    room-second (p .put-figures .ensures) _ (rw (more-figures (s .args .n) (i .if1 .left)) at (s .pre .1))
+    reach-second (p .put-figures .ensures) _ (rw (more-figures (s .args .n) (i .if1 .left)) at (s .pre .1))
 
 same-length-2 : In-figures put-figures-lts.Need-same-length-2
 same-length-2 t c = search needs

@@ -2,7 +2,7 @@
 use borrow.Author.Needs.{needs}
 use Prim.Native.Nat.{min}
 use native.Mathlib.Omega.{arith}
-use Rattle.listing_text.proofs.Rooms.{field-out, field-part}
+use Rattle.listing_text.proofs.Fields.{field-out, field-part}
 use Rattle.listing_text.proofs.low_at.Statement.{statement}
 use Rattle.listing_text.proofs.low_at.Tie as tie
 

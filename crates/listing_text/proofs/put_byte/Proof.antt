@@ -1,6 +1,6 @@
 -- Past the end nothing is written.
 use borrow.Author.Needs.{needs}
-use Rattle.listing_text.proofs.Rooms.{put-out}
+use Rattle.listing_text.proofs.Puts.{put-out}
 use Rattle.listing_text.proofs.put_byte.Statement.{statement}
 use Rattle.listing_text.proofs.put_byte.Tie as tie
 

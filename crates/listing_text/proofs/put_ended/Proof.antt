@@ -1,7 +1,7 @@
 -- By the record's kind.
 use borrow.Author.Needs.{needs}
 use Rattle.listing_text.proofs.Puts.{put-none, put-as}
-use Rattle.listing_text.proofs.Rooms.{ends-below, ends-above, ends-there}
+use Rattle.listing_text.proofs.Fields.{ends-below, ends-above, ends-there}
 use Rattle.listing_text.proofs.put_ended.Statement.{statement}
 use Rattle.listing_text.proofs.put_ended.Tie as tie
 

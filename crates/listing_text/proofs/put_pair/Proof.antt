@@ -3,25 +3,25 @@ use mathlib.Core.List.{[], _∷_}
 use borrow.Author.Needs.{needs}
 use Rattle.listing_text.proofs.Puts.{put-both}
 use Rattle.listing_text.specs.Listing.{figures, line}
-use Rattle.listing_text.proofs.Rooms.{room-first, room-second}
+use Rattle.listing_text.proofs.Reach.{reach-first, reach-second}
 use Rattle.listing_text.proofs.put_pair.Statement.{statement}
 use Rattle.listing_text.proofs.put_pair.Tie as tie
 
 put-figures-requires : tie.Need-put-figures-requires
-put-figures-requires c κs = let s = c .before .before in room-first (figures (s .args .m)) (32 ∷ line (s .args .n)) (s .args .at) (s .pre)
+put-figures-requires c κs = let s = c .before .before in reach-first (figures (s .args .m)) (32 ∷ line (s .args .n)) (s .args .at) (s .pre)
 
 put-byte-requires : tie.Need-put-byte-requires
 put-byte-requires c κs =
     let p = c .before .before .before in
     let s = p .before .before .before in
-    room-first (32 ∷ []) (line (s .args .n)) _ (room-second (p .put-figures .ensures) (32 ∷ line (s .args .n)) (s .pre))
+    reach-first (32 ∷ []) (line (s .args .n)) _ (reach-second (p .put-figures .ensures) (32 ∷ line (s .args .n)) (s .pre))
 
 put-line-requires : tie.Need-put-line-requires
 put-line-requires c κs =
     let b = c .before .before .before in
     let p = b .before .before .before .before in
     let s = p .before .before .before in
-    room-second (b .put-byte .ensures) (line (s .args .n)) (room-second (p .put-figures .ensures) (32 ∷ line (s .args .n)) (s .pre))
+    reach-second (b .put-byte .ensures) (line (s .args .n)) (reach-second (p .put-figures .ensures) (32 ∷ line (s .args .n)) (s .pre))
 
 returns : tie.Need-returns
 returns c =

@@ -1,0 +1,92 @@
+-- What is written is in reach: the places behind it are numbers of the machine.
+use Prim.Native.Nat.{ℕ, zero, suc, _+_, _-_, _*_, _^_, _≤_, _<_}
+use mathlib.Core.Path.{ap}
+use mathlib.Core.Bool.{Bool, true, false}
+use mathlib.Core.List.{List, [], _∷_, _++_}
+use native.Mathlib.Nat.{sub-zero, suc-mul, pow-suc}
+use native.Mathlib.Omega.{arith}
+use lib.Dec.{lit<}
+use lib.ListN.{length, getD, take, drop, length-append}
+use lib.Seq.{getD-drop}
+use Rattle.limits.specs.Limits.{mostRecords, faultBytes, recordBytes}
+use Rattle.laws.specs.Places.{gather}
+use Rattle.laws.specs.Put.{Put}
+use Rattle.laws.proofs.Gathers.{Writes, gather-step}
+use Rattle.laws.proofs.Tests.{cond-ind}
+use Rattle.bits.specs.Low.{lowWord}
+use Rattle.records.specs.Record.{field}
+use Rattle.listing_text.specs.Listing.{figures, line, line2}
+use Rattle.listing_text.specs.Written.{ending, rowAt, head, InReach}
+use Rattle.listing_text.proofs.Figures.{few-figures}
+
+-- ---- what follows what
+
+-- both parts in reach: so is the first
+pub reach-first : (x y : List ℕ) (at : ℕ) → InReach (x ++ y) at → InReach x at
+reach-first x y at h = omega (arith, length-append x y)
+
+-- .. and behind it the second
+pub reach-second : {x : List ℕ} {at r : ℕ} {old new : List ℕ} → Put x at r old new → (y : List ℕ) → InReach (x ++ y) at
+    → InReach y r
+reach-second {x} p y h = omega (arith, p .behind, length-append x y)
+
+-- what all places give in reach: so is each in its turn
+pub reach-turn : {f : ℕ → List ℕ} {n i at w : ℕ} {old new : List ℕ} → Writes f n 0 i at w old new → i < n
+    → InReach (gather f n 0) at → InReach (f i) w
+reach-turn {f} {n} {i} v h k =
+    omega (
+      arith,
+      v .left,
+      ap length (gather-step f n i h),
+      length-append (f i) (gather f (n - (i + 1)) (i + 1)),
+      ap (λ (m : ℕ). length (gather f m 0)) (sub-zero n),
+    )
+
+-- ---- a listing is short
+
+-- each is a byte
+abbrev pub Bytes : List ℕ → Type 0
+Bytes l = (i : ℕ) → getD l i 0 < 256
+
+-- the number of n bytes
+word-small : (n : ℕ) (l : List ℕ) → Bytes l → lowWord (take n l) < 256 ^ n
+unfolding lowWord
+word-small zero l b = lit< tt
+word-small (suc n) [] b = rw (pow-suc 256 n) (omega (arith, word-small n [] b))
+word-small (suc n) (x ∷ l) b = rw (pow-suc 256 n) (omega (arith, b 0, word-small n l (λ i. b (suc i))))
+
+-- a field of n bytes
+field-small : (p : List ℕ) (o n : ℕ) → Bytes p → field p o n < 256 ^ n
+field-small p o n b = word-small n (drop o p) (λ i. rw (getD-drop o p i 0) (b (o + i)))
+
+-- a line of one number
+line-short : (n : ℕ) → length (line n) ≤ n + 2
+line-short n = omega (arith, few-figures n, length-append (figures n) (10 ∷ []))
+
+-- a line of two
+pair-short : (m n : ℕ) → length (line2 m n) ≤ m + n + 4
+pair-short m n = omega (arith, few-figures m, line-short n, length-append (figures m) (32 ∷ line n))
+
+-- a row of short parts
+gather-within : (f : ℕ → List ℕ) (m : ℕ) → ((i : ℕ) → length (f i) ≤ m) → (k i : ℕ) → length (gather f k i) ≤ k * m
+unfolding gather
+gather-within f m h zero i = omega arith
+gather-within f m h (suc k) i = rw (suc-mul k m) (omega (arith, h i, gather-within f m h k (suc i), length-append (f i) (gather f k (suc i))))
+
+-- the line of a fault, and of a statement
+row-short : (ordered : Bool) (l : List ℕ) → Bytes l → (i : ℕ) → length (rowAt ordered l i) ≤ 4294967298
+row-short true l b i =
+    let n = field l (i * recordBytes + 4) 4 in
+    cond-ind (λ (x : List ℕ). length x ≤ 4294967298) (ending (field l (i * recordBytes) 1)) (line n) []
+    (λ _. omega (arith, line-short n, field-small l (i * recordBytes + 4) 4 b)) (λ _. omega arith)
+row-short false l b i =
+    let m = field-small l (i * faultBytes) 2 b in
+    let n = field-small l (i * faultBytes + 2) 1 b in
+    omega (arith, pair-short (field l (i * faultBytes) 2) (field l (i * faultBytes + 2) 1))
+
+-- REACH: the first line, with no more than the most records, and as many lines behind it
+pub listing-reach : (ordered : Bool) (a b n count : ℕ) (l : List ℕ) → n ≤ mostRecords → count ≤ mostRecords → Bytes l
+    → InReach (head a b n ++ gather (rowAt ordered l) count 0) 0
+listing-reach ordered a b n count l h few bytes =
+    let g = gather-within (rowAt ordered l) 4294967298 (row-short ordered l bytes) count 0 in
+    omega (arith, line-short n, length-append (head a b n) (gather (rowAt ordered l) count 0))

@@ -1,0 +1,43 @@
+-- The first line, then the others; all are in reach, for all that is read is bytes.
+use mathlib.Core.List.{List, _++_}
+use Prim.Native.Nat.{ℕ}
+use native.Mathlib.Omega.{arith}
+use borrow.Author.Needs.{needs}
+use Rattle.laws.specs.Places.{gather}
+use Rattle.listing_text.proofs.Puts.{put-both}
+use Rattle.listing_text.proofs.Reach.{reach-first, reach-second, listing-reach}
+use Rattle.listing_text.specs.Written.{rowAt, head, InReach}
+use Rattle.listing_text.proofs.put_all.Statement.{statement}
+use Rattle.listing_text.proofs.put_all.Tie as tie
+
+-- the two parts
+abbrev first : tie.Start → List ℕ
+first s = head (s .args .a) (s .args .b) (s .args .n)
+
+abbrev others : tie.Start → List ℕ
+others s = gather (rowAt (s .args .ordered) (s .args .from .now)) (s .args .count) 0
+
+reach : (k : tie.After-shared-slice-known) → InReach (first (k .before) ++ others (k .before)) 0
+reach k =
+    let a = k .before .args in
+    listing-reach (a .ordered) (a .a) (a .b) (a .n) (a .count) (a .from .now) (k .before .pre .0) (k .before .pre .1)
+    (λ i. omega (arith, k .shared-slice-known .given i))
+
+put-head-requires : tie.Need-put-head-requires
+put-head-requires c κs =
+    let k = c .before .before in
+    reach-first (first (k .before)) (others (k .before)) 0 (reach k)
+
+put-rows-requires : tie.Need-put-rows-requires
+put-rows-requires c κs =
+    let h = c .before .before .before in
+    let k = h .before .before .before in
+    (k .before .pre .1, reach-second (h .put-head .ensures) (others (k .before)) (reach k))
+
+returns : tie.Need-returns
+returns c =
+    let p = c .before .before in
+    put-both (p .before .before .before .before .put-head .ensures) (p .put-rows .ensures)
+
+pub put-all-spec : {M : Type 1} → statement M
+put-all-spec = tie.close (tie.spec put-head-requires put-rows-requires (λ c. search needs) returns)
