@@ -1,5 +1,5 @@
--- How large an answer is: its number is at most 4, its record number that of a record; so both keep their value in their fixed
--- layout.
+-- How large an answer is: its number is at most 4, its record number that of a record; so both keep their value in
+-- their fixed layout.
 use Prim.Native.Nat.{ℕ, zero, suc, _+_, _/_, _%_, _≤_}
 use mathlib.Core.Path.{_≡_, refl, ap, _∙_}
 use mathlib.Core.Bool.{not, cond, _&&_, _||_}
@@ -44,10 +44,12 @@ Small n a = (a .number ≤ 4) × (a .place ≤ n)
 judge-small : (n i : ℕ) (j : Judge) (xs : List Instr) → i + length xs ≤ n → Small n (judgeFrom i j xs)
 unfolding judgeFrom
 judge-small n i j [] h =
-    cond-ind (Small n) (eqb (j .height) 0 && not (anyOpen (j .marks))) (answer 0 0) (answer 4 0) (λ _. (omega arith, omega arith))
+    cond-ind (Small n) (eqb (j .height) 0 && not (anyOpen (j .marks))) (answer 0 0) (answer 4 0)
+    (λ _. (omega arith, omega arith))
     (λ _. (omega arith, omega arith))
 judge-small n i j (x ∷ xs) h =
-    cond-ind (Small n) (good j x) (judgeFrom (suc i) (judged j x) xs) (answer 3 i) (λ _. judge-small n (suc i) (judged j x) xs (omega arith))
+    cond-ind (Small n) (good j x) (judgeFrom (suc i) (judged j x) xs) (answer 3 i)
+    (λ _. judge-small n (suc i) (judged j x) xs (omega arith))
     (λ _. (omega arith, omega arith))
 
 decode-many : (p : List ℕ) (i n : ℕ) → length (decodeFrom p i n) ≡ n
@@ -58,8 +60,10 @@ decode-many p i (suc n) = ap suc (decode-many p (suc i) n)
 refusal-small : (p : List ℕ) (v d : List Float) → Small mostRecords (refusal p v d)
 unfolding refusal decoded
 refusal-small p v d =
-    cond-ind (Small mostRecords) (ltb (length v) slots || ltb (length d) slots) (answer 1 0) _ (λ _. (omega arith, omega arith))
-    (λ _. cond-ind (Small mostRecords) (not (eqb (length p % recordBytes) 0) || ltb mostRecords (length p / recordBytes)) (answer 2 0) _
+    cond-ind (Small mostRecords) (ltb (length v) slots || ltb (length d) slots) (answer 1 0) _
+    (λ _. (omega arith, omega arith))
+    (λ _. cond-ind (Small mostRecords)
+    (not (eqb (length p % recordBytes) 0) || ltb mostRecords (length p / recordBytes)) (answer 2 0) _
     (λ _. (omega arith, omega arith))
     (λ e.
     let n = length p / recordBytes in
@@ -67,9 +71,11 @@ refusal-small p v d =
     judge-small mostRecords 0 _ (decoded p) (omega (arith, h, decode-many p 0 n))))
 
 -- with or without refusal the answer is the refusal's
-answer-kept : (a : Answer) (v d v′ d′ : List Float) → cond (eqb (a .number) 0) (runOutcome a v′ d′) (runOutcome a v d) .answer ≡ a
+answer-kept : (a : Answer) (v d v′ d′ : List Float)
+    → cond (eqb (a .number) 0) (runOutcome a v′ d′) (runOutcome a v d) .answer ≡ a
 answer-kept a v d v′ d′ =
-    cond-ind (λ (o : RunOutcome). o .answer ≡ a) (eqb (a .number) 0) (runOutcome a v′ d′) (runOutcome a v d) (λ _. refl) (λ _. refl)
+    cond-ind (λ (o : RunOutcome). o .answer ≡ a) (eqb (a .number) 0) (runOutcome a v′ d′) (runOutcome a v d) (λ _. refl)
+    (λ _. refl)
 
 small-by : (p : List ℕ) (v d : List Float) (r : Answer) → r ≡ refusal p v d → (r .number ≤ 4) × (r .place ≤ mostRecords)
 small-by p v d r e =
@@ -79,18 +85,22 @@ small-by p v d r e =
 module _ {p : List ℕ} {v d : List Float} {r : Answer} {v′ d′ : List Float} where
   pub evaluated-small : Evaluated p v d r v′ d′ → (r .number ≤ 4) × (r .place ≤ mostRecords)
   unfolding evaluated
-  evaluated-small w = small-by p v d r (ap (λ (o : RunOutcome). o .answer) (w .meets) ∙ answer-kept (refusal p v d) v d _ _)
+  evaluated-small w =
+      small-by p v d r (ap (λ (o : RunOutcome). o .answer) (w .meets) ∙ answer-kept (refusal p v d) v d _ _)
 
   pub started-small : Started p v d r v′ d′ → (r .number ≤ 4) × (r .place ≤ mostRecords)
   unfolding started
-  started-small w = small-by p v d r (ap (λ (o : RunOutcome). o .answer) (w .meets) ∙ answer-kept (refusal p v d) v d _ _)
+  started-small w =
+      small-by p v d r (ap (λ (o : RunOutcome). o .answer) (w .meets) ∙ answer-kept (refusal p v d) v d _ _)
 
   pub stepped-small : (h : Float) → Stepped p h v d r v′ d′ → (r .number ≤ 4) × (r .place ≤ mostRecords)
   unfolding stepped
-  stepped-small h w = small-by p v d r (ap (λ (o : RunOutcome). o .answer) (w .meets) ∙ answer-kept (refusal p v d) v d _ _)
+  stepped-small h w =
+      small-by p v d r (ap (λ (o : RunOutcome). o .answer) (w .meets) ∙ answer-kept (refusal p v d) v d _ _)
 
 -- ---- the same answer in its fixed layout
-pub same-translation : (text f p f′ p′ : List ℕ) (r : Verdict) (v : CVerdict) → Translates text f p r f′ p′ → v .number ≡ numberIn r → v .count ≡ countIn r
+pub same-translation : (text f p f′ p′ : List ℕ) (r : Verdict) (v : CVerdict) → Translates text f p r f′ p′
+    → v .number ≡ numberIn r → v .count ≡ countIn r
     → Translates′ text f p v f′ p′
 same-translation text f p f′ p′ r v e n c = rw (n, c) (by-number text f p e)
 

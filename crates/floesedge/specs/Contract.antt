@@ -1,4 +1,5 @@
--- The promises at the boundary: those of `translate`, `evaluate`, `start` and `step`, for the answers that other languages get.
+-- The promises at the boundary: those of `translate`, `evaluate`, `start` and `step`, for the answers that other
+-- languages get.
 use Prim.Native.Nat.{ℕ}
 use mathlib.Core.Path.{_≡_}
 use mathlib.Core.List.{List}
@@ -12,7 +13,8 @@ use Rattle.floesedge.specs.declared.Answer.{Answer}
 -- from a text and the lent buffers f and p: number, count and the buffers f′ and p′ are those of the translation
 abbrev pub Translates : List ℕ → List ℕ → List ℕ → Verdict → List ℕ → List ℕ → Type 0
 Translates text f p r f′ p′ =
-    _≡_ {A = Translation} (record { number = r .number; count = r .count; faults = f′; program = p′ }) (translation text f p)
+    _≡_ {A = Translation} (record { number = r .number; count = r .count; faults = f′; program = p′ })
+    (translation text f p)
 
 -- on program p, with values v and derivatives d lent: number, record and what the buffers then hold
 abbrev pub Evaluates : List ℕ → List Float → List Float → Answer → List Float → List Float → Type 0

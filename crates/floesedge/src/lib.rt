@@ -43,7 +43,8 @@ fn fixed_verdict(v: translator::Verdict) -> Verdict
 // Translates a text; the fault list or the program is written to the front of what is lent.
 #[no_mangle]
 pub extern "C" fn floesedge_translate(text: &[u8], faults: &mut [u8], program: &mut [u8]) -> Verdict
-    ensures { λ r. ⌜ Translates (now (text .entry)) (now (faults .entry)) (now (program .entry)) r (now (faults .exit)) (now (program .exit)) ⌝ }
+    ensures { λ r. ⌜ Translates (now (text .entry)) (now (faults .entry)) (now (program .entry)) r (now (faults .exit))
+        (now (program .exit)) ⌝ }
 {
     fixed_verdict(translator::translate(text, faults, program))
 }
@@ -66,7 +67,8 @@ pub extern "C" fn floesedge_evaluate(
     values: &mut [f64],
     derivs: &mut [f64],
 ) -> Answer
-    ensures { λ r. ⌜ Evaluates (now (program .entry)) (now (values .entry)) (now (derivs .entry)) r (now (values .exit)) (now (derivs .exit)) ⌝ }
+    ensures { λ r. ⌜ Evaluates (now (program .entry)) (now (values .entry)) (now (derivs .entry)) r (now (values .exit))
+        (now (derivs .exit)) ⌝ }
 {
     fixed_answer(evaluator::evaluate(program, values, derivs))
 }
@@ -74,7 +76,8 @@ pub extern "C" fn floesedge_evaluate(
 // Starts a program: slot 0 is 0, and each state has its initial value.
 #[no_mangle]
 pub extern "C" fn floesedge_start(program: &[u8], values: &mut [f64], derivs: &mut [f64]) -> Answer
-    ensures { λ r. ⌜ Starts (now (program .entry)) (now (values .entry)) (now (derivs .entry)) r (now (values .exit)) (now (derivs .exit)) ⌝ }
+    ensures { λ r. ⌜ Starts (now (program .entry)) (now (values .entry)) (now (derivs .entry)) r (now (values .exit))
+        (now (derivs .exit)) ⌝ }
 {
     fixed_answer(evaluator::start(program, values, derivs))
 }
@@ -87,7 +90,8 @@ pub extern "C" fn floesedge_step(
     values: &mut [f64],
     derivs: &mut [f64],
 ) -> Answer
-    ensures { λ r. ⌜ Steps (now (program .entry)) h (now (values .entry)) (now (derivs .entry)) r (now (values .exit)) (now (derivs .exit)) ⌝ }
+    ensures { λ r. ⌜ Steps (now (program .entry)) h (now (values .entry)) (now (derivs .entry)) r (now (values .exit))
+        (now (derivs .exit)) ⌝ }
 {
     fixed_answer(evaluator::step(program, h, values, derivs))
 }

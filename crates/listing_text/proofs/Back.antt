@@ -66,7 +66,8 @@ unfolding faultEntry
 length-entry f = simp (length-append, length-low)
 
 -- its line and code are read back
-fault-back : (list rest : List ℕ) (i : ℕ) (f : Fault) → drop (i * faultBytes) list ≡ faultEntry f ++ rest → f .line < 65536
+fault-back : (list rest : List ℕ) (i : ℕ) (f : Fault) → drop (i * faultBytes) list ≡ faultEntry f ++ rest
+    → f .line < 65536
     → faultAt list i ≡ line2 (f .line) (f .code)
 unfolding faultEntry
 fault-back list rest i f e h =
@@ -74,7 +75,8 @@ fault-back list rest i f e h =
     let low = lowBytes 2 (f .line) in
     let d : drop o list ≡ low ++ (f .code ∷ 0 ∷ rest) = e ∙ append-assoc low (f .code ∷ 0 ∷ []) rest in
     let m = number-back list (f .code ∷ 0 ∷ rest) o 2 (f .line) d h in
-    let n = byte-back list (0 ∷ rest) (o + 2) (f .code) (further list low (f .code ∷ 0 ∷ rest) o 2 d (length-low 2 (f .line))) in
+    let n = byte-back list (0 ∷ rest) (o + 2) (f .code)
+    (further list low (f .code ∷ 0 ∷ rest) o 2 d (length-low 2 (f .line))) in
     ap₂ line2 m n
 
 -- .. of each fault of a list
@@ -102,16 +104,19 @@ abbrev pub RecBelow : ℕ → Rec → Type 0
 RecBelow b r = r .line < b
 
 -- its kind and line are read back
-record-back : (p rest : List ℕ) (i : ℕ) (r : Rec) → drop (i * recordBytes) p ≡ recBytes r ++ rest → r .line < 65536 → endedAt p i ≡ endedBy r
+record-back : (p rest : List ℕ) (i : ℕ) (r : Rec) → drop (i * recordBytes) p ≡ recBytes r ++ rest → r .line < 65536
+    → endedAt p i ≡ endedBy r
 unfolding recBytes
 record-back p rest i r e h =
     let o = i * recordBytes in
     let x = kindOf (r .instr) ∷ 0 ∷ lowBytes 2 (operandOf (r .instr)) in
     let low = lowBytes 4 (r .line) in
     let bits = lowBytes 8 (bitsOf (r .instr)) in
-    let d : drop o p ≡ x ++ (low ++ (bits ++ rest)) = e ∙ append-assoc x (low ++ bits) rest ∙ ap (λ (l : List ℕ). x ++ l) (append-assoc low bits rest) in
+    let d : drop o p ≡ x ++ (low ++ (bits ++ rest)) =
+    e ∙ append-assoc x (low ++ bits) rest ∙ ap (λ (l : List ℕ). x ++ l) (append-assoc low bits rest) in
     let k = byte-back p _ o (kindOf (r .instr)) d in
-    let t : drop (o + 4) p ≡ low ++ (bits ++ rest) = further p x (low ++ (bits ++ rest)) o 4 d (omega (arith, length-low 2 (operandOf (r .instr)))) in
+    let t : drop (o + 4) p ≡ low ++ (bits ++ rest) =
+    further p x (low ++ (bits ++ rest)) o 4 d (omega (arith, length-low 2 (operandOf (r .instr)))) in
     let l = number-back p (bits ++ rest) (o + 4) 4 (r .line) t (omega arith) in
     ap₂ (λ (k l : ℕ). cond (ending k) (line l) []) k l
 

@@ -8,7 +8,8 @@ use borrow.Author.Tests.{ltb-false}
 use lib.Dec.{ltb, lit<}
 use lib.ListN.{length}
 use Rattle.laws.specs.Every.{Every}
-use Rattle.limits.specs.Limits.{faultRoom, textBytes, textLines, mostStatements, mostDefinitions, mostRecords, recordBytes}
+use Rattle.limits.specs.Limits.{faultRoom, textBytes, textLines, mostStatements, mostDefinitions, mostRecords}
+use Rattle.limits.specs.Limits.{recordBytes}
 use Rattle.laws.specs.Lists.{concat-map}
 use Rattle.laws.proofs.Tests.{cond-ind}
 use Rattle.deck.specs.Lines.{linesOf}
@@ -17,20 +18,24 @@ use Rattle.sheet.specs.Reader.{sheetOf}
 use Rattle.model.specs.Definitions.{definitions, equationAt}
 use Rattle.model.specs.Faults.{modelFaults, orderOf}
 use Rattle.program.specs.Program.{program}
-use Rattle.translator.specs.Verdict.{Verdict, refused, faulty, translated, ifFaults, programmed, modelled, judged, verdictOf}
+use Rattle.translator.specs.Verdict.{Verdict, refused, faulty, translated, ifFaults, programmed, modelled, judged}
+use Rattle.translator.specs.Verdict.{verdictOf}
 use Rattle.listing_text.specs.Listing.{line}
-use Rattle.listing_text.proofs.Numbers.{ReportBelow, SaidBelow, FaultBelow, sheet-below, faults-below, said-below, definitions-below, model-below}
+use Rattle.listing_text.proofs.Numbers.{ReportBelow, SaidBelow, FaultBelow, sheet-below, faults-below}
+use Rattle.listing_text.proofs.Numbers.{said-below, definitions-below, model-below}
 use Rattle.listing_text.proofs.Back.{endedBy, RecBelow}
 use Rattle.listing_text.proofs.Ordered.{program-ends, program-below}
 
--- no other verdict is 0 than that with a program; lines are small, and the records that end a statement have the ordered lines
+-- no other verdict is 0 than that with a program; lines are small, and the records that end a statement have the
+-- ordered lines
 abbrev pub Fair : Verdict → Type 0
 Fair (refused n) = 0 < n
 Fair (faulty n fs) = (0 < n) × Every (FaultBelow 65536) fs
 Fair (translated rs ls) = Every (RecBelow 65536) rs × (concat-map endedBy rs ≡ concat-map line ls)
 
 -- if some fault stands, or else the next
-fair-faults : (n : ℕ) (fs : List Fault) (v : Verdict) → 0 < n → Every (FaultBelow 65536) fs → Fair v → Fair (ifFaults n fs v)
+fair-faults : (n : ℕ) (fs : List Fault) (v : Verdict) → 0 < n → Every (FaultBelow 65536) fs → Fair v
+    → Fair (ifFaults n fs v)
 fair-faults n [] v z p q = q
 fair-faults n (f ∷ fs) v z p q = (z, p)
 
@@ -58,7 +63,8 @@ unfolding judged
 fair-sheet room ss p =
     let next = modelled room (said ss) in
     cond-ind Fair (ltb mostStatements (length ss)) (refused 4) (ifFaults 5 (statementFaults ss) next) (λ _. lit< tt)
-    (λ _. fair-faults 5 (statementFaults ss) next (lit< tt) (faults-below 65536 ss p) (fair-model room (said ss) (said-below 65536 ss p)))
+    (λ _. fair-faults 5 (statementFaults ss) next (lit< tt) (faults-below 65536 ss p)
+    (fair-model room (said ss) (said-below 65536 ss p)))
 
 -- EACH VERDICT on a text is fair
 pub fair : (text : List ℕ) (faults room : ℕ) → Fair (verdictOf text faults room)
@@ -67,7 +73,9 @@ fair text faults room =
     let next = judged room (sheetOf text) in
     let many = ltb textLines (length (linesOf text)) in
     let long = cond many (refused 3) next in
-    cond-ind Fair (ltb faults faultRoom) (refused 1) (cond (ltb textBytes (length text)) (refused 2) long) (λ _. lit< tt)
+    cond-ind Fair (ltb faults faultRoom) (refused 1) (cond (ltb textBytes (length text)) (refused 2) long)
+    (λ _. lit< tt)
     (λ _. cond-ind Fair (ltb textBytes (length text)) (refused 2) long (λ _. lit< tt)
     (λ _. cond-ind Fair many (refused 3) next (λ _. lit< tt)
-    (λ e. fair-sheet room (sheetOf text) (sheet-below 65536 text (omega (arith, ltb-false textLines (length (linesOf text)) e))))))
+    (λ e. fair-sheet room (sheetOf text)
+    (sheet-below 65536 text (omega (arith, ltb-false textLines (length (linesOf text)) e))))))

@@ -20,7 +20,8 @@ field-out s at n h = rw (drop-of-length-le s h, take-nil n)
 
 -- a field is read from what stands from its place on
 pub field-part : (s : List ℕ) (at n r : ℕ) → r ≡ lowWord (take n (take (length s - at) (drop at s))) → r ≡ field s at n
-field-part s at n r e = e ∙ ap (λ (l : List ℕ). lowWord (take n l)) (take-all (length s - at) (drop at s) (omega (arith, length-drop at s)))
+field-part s at n r e =
+    e ∙ ap (λ (l : List ℕ). lowWord (take n l)) (take-all (length s - at) (drop at s) (omega (arith, length-drop at s)))
 
 -- ---- by kind: one below 13 ends no statement
 module _ (x : List ℕ) {kind k : ℕ} (e : kind ≡ k) where

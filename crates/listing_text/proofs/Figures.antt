@@ -17,7 +17,9 @@ enough-figures zero g n h k = absurd (omega arith)
 enough-figures (suc f) zero n h k = absurd (omega arith)
 enough-figures (suc f) (suc g) n h k =
     ⊎-elim (λ l. rw (lt-ltb n 10 l))
-    (λ l. rw (le-ltb n 10 l) (ap (λ (r : List ℕ). r ++ ((48 + n % 10) ∷ [])) (enough-figures f g (n / 10) (omega arith) (omega arith)))) (lt-or-ge n 10)
+    (λ l. rw (le-ltb n 10 l)
+    (ap (λ (r : List ℕ). r ++ ((48 + n % 10) ∷ [])) (enough-figures f g (n / 10) (omega arith) (omega arith))))
+    (lt-or-ge n 10)
 
 -- a number below 10 is one digit
 pub one-figure : (n : ℕ) → n < 10 → figures n ≡ (48 + n) ∷ []
@@ -28,7 +30,9 @@ one-figure n l = rw (lt-ltb n 10 l)
 pub more-figures : (n : ℕ) → 10 ≤ n → figures n ≡ figures (n / 10) ++ ((48 + n % 10) ∷ [])
 unfolding figuresIn
 more-figures n l =
-    rw (le-ltb n 10 l) (ap (λ (r : List ℕ). r ++ ((48 + n % 10) ∷ [])) (enough-figures n (suc (n / 10)) (n / 10) (omega arith) (omega arith)))
+    rw (le-ltb n 10 l)
+    (ap (λ (r : List ℕ). r ++ ((48 + n % 10) ∷ []))
+    (enough-figures n (suc (n / 10)) (n / 10) (omega arith) (omega arith)))
 
 -- there are no more digits than the bound
 figures-few : (f n : ℕ) → length (figuresIn f n) ≤ f
@@ -36,7 +40,8 @@ unfolding figuresIn
 figures-few zero n = omega arith
 figures-few (suc f) n =
     let r = figuresIn f (n / 10) in
-    cond-ind (λ (l : List ℕ). length l ≤ suc f) (ltb n 10) ((48 + n) ∷ []) (r ++ ((48 + n % 10) ∷ [])) (λ _. omega arith)
+    cond-ind (λ (l : List ℕ). length l ≤ suc f) (ltb n 10) ((48 + n) ∷ []) (r ++ ((48 + n % 10) ∷ []))
+    (λ _. omega arith)
     (λ _. omega (arith, length-append r ((48 + n % 10) ∷ []), figures-few f (n / 10)))
 
 -- so there are at most n + 1

@@ -30,7 +30,8 @@ module _ (text f p : List ℕ) (room-faults : faultRoom ≤ length f) (room-prog
   verdict = verdictOf text (length f) (length p)
 
   -- what is written is what is listed of its verdict
-  written-of : (v : Decision) → verdict ≡ v → Fair v → written (numberOf v) (countOf v) (faultsAfter v f) (programAfter v p) ≡ listed v
+  written-of : (v : Decision) → verdict ≡ v → Fair v
+      → written (numberOf v) (countOf v) (faultsAfter v f) (programAfter v p) ≡ listed v
   unfolding written listed gather
   written-of (refused n) e h = rw (ne-eqb n 0 (λ e. omega arith)) (append-nil (head 78 79 n))
   written-of (faulty n fs) e h =
@@ -42,14 +43,16 @@ module _ (text f p : List ℕ) (room-faults : faultRoom ≤ length f) (room-prog
       let most : length rs ≤ mostRecords = rw e at (few text (length f) (length p)) in
       let fits : length (programBytes rs) ≤ length p = omega (arith, length-program rs) in
       rw (front p (programBytes rs) fits)
-      (ap (λ (l : List ℕ). head 79 75 (length rs) ++ l) (records-back rs (drop (0 + length (programBytes rs)) p) (h .0) ∙ h .1))
+      (ap (λ (l : List ℕ). head 79 75 (length rs) ++ l)
+      (records-back rs (drop (0 + length (programBytes rs)) p) (h .0) ∙ h .1))
 
   -- where translating it answers r and leaves f′ and p′
   module _ (r : Verdict) {f′ p′ : List ℕ} (e : Translates text f p r f′ p′) where
     -- the count is small
     count-of : countIn r ≤ mostRecords
     unfolding translation
-    count-of = rw (ap (λ (o : Translation). o .count) (by-number text f p e)) (count-few verdict (few text (length f) (length p)))
+    count-of = rw (ap (λ (o : Translation). o .count) (by-number text f p e))
+        (count-few verdict (few text (length f) (length p)))
 
     -- and what is written of that is what is listed
     listed-of : written (numberIn r) (countIn r) f′ p′ ≡ listed verdict
@@ -77,10 +80,12 @@ lent-room : (n : ℕ) → n ≤ length (lent n)
 lent-room n = omega (arith, lent-length n)
 
 -- where translating a text into them answers r and leaves f and p
-module _ (text : List ℕ) (r : Verdict) {f p : List ℕ} (e : Translates text (lent faultRoom) (lent programRoom) r f p) where
+module _ (text : List ℕ) (r : Verdict) {f p : List ℕ}
+    (e : Translates text (lent faultRoom) (lent programRoom) r f p) where
   -- the count is small
   pub count-small : {count : ℕ} → count ≡ countIn r → count ≤ mostRecords
-  count-small a = rw a (count-of text (lent faultRoom) (lent programRoom) (lent-room faultRoom) (lent-room programRoom) r e)
+  count-small a =
+      rw a (count-of text (lent faultRoom) (lent programRoom) (lent-room faultRoom) (lent-room programRoom) r e)
 
   -- THE LISTING: what is written is the text's
   listing-is : written (numberIn r) (countIn r) f p ≡ listing text
@@ -90,7 +95,8 @@ module _ (text : List ℕ) (r : Verdict) {f p : List ℕ} (e : Translates text (
       ∙ rw (lent-length faultRoom, lent-length programRoom)
 
   -- so it is what is promised
-  pub lists : {number count n : ℕ} {out out′ : List ℕ} → number ≡ numberIn r → count ≡ countIn r → Put (written number count f p) 0 n out out′
+  pub lists : {number count n : ℕ} {out out′ : List ℕ} → number ≡ numberIn r → count ≡ countIn r
+      → Put (written number count f p) 0 n out out′
       → Lists text out n out′
   lists {number} {count} a b w =
       let same : written number count f p ≡ listing text = rw (a, b) listing-is in

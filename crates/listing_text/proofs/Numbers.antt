@@ -16,7 +16,8 @@ use Rattle.sheet.specs.Reader.{told, sheetOf}
 use Rattle.model.specs.Definitions.{What, constant, assigned, integral, Def, defined, definedBy, definitions, keys}
 use Rattle.model.specs.Definitions.{Equation, equationOf, equations, noEquation, equationAt, equationCount}
 use Rattle.order.specs.Order.{unsortable}
-use Rattle.model.specs.Faults.{faultIf, again, faults21, namedBy, initialOf, constantKeys, within, nameFault, nameFaultOf, nameFaults}
+use Rattle.model.specs.Faults.{faultIf, again, faults21, namedBy, initialOf, constantKeys, within, nameFault}
+use Rattle.model.specs.Faults.{nameFaultOf, nameFaults}
 use Rattle.model.specs.Faults.{usesIn, fault24, faults24, orElse, modelFaults}
 
 -- the tests behind faults 22, 23 and 24: all names are defined
@@ -31,7 +32,8 @@ constant-all ds d = within (initialOf (d .what)) (constantKeys ds)
 abbrev stuck : List Def → ℕ → Bool
 stuck ds i = unsortable (equationCount ds) (usesIn ds) i
 
--- ---- all below b: the number of a statement, of a report, of what a statement says, of a definition, of an equation, of a fault
+-- ---- all below b: the number of a statement, of a report, of what a statement says, of a definition, of an equation,
+-- of a fault
 module _ (b : ℕ) where
   abbrev pub FirstBelow : Statement → Type 0
   FirstBelow s = s .first < b
@@ -84,7 +86,8 @@ module _ (b : ℕ) where
 
   -- of its statement faults
   pub faults-below : (ss : Sheet) → Every ReportBelow ss → Every FaultBelow (statementFaults ss)
-  faults-below ss p = every-concat ReportBelow FaultBelow (λ r. faultBy (r .line) (r .what)) (λ r h. one (r .line) h (r .what)) ss p
+  faults-below ss p =
+      every-concat ReportBelow FaultBelow (λ r. faultBy (r .line) (r .what)) (λ r h. one (r .line) h (r .what)) ss p
     where
       one : (l : ℕ) → l < b → (t : Told) → Every FaultBelow (faultBy l t)
       one l h (says x) = tt
@@ -92,7 +95,8 @@ module _ (b : ℕ) where
 
   -- of what its statements say
   pub said-below : (ss : Sheet) → Every ReportBelow ss → Every SaidBelow (said ss)
-  said-below ss p = every-concat ReportBelow SaidBelow (λ r. saidBy (r .line) (r .what)) (λ r h. one (r .line) h (r .what)) ss p
+  said-below ss p =
+      every-concat ReportBelow SaidBelow (λ r. saidBy (r .line) (r .what)) (λ r h. one (r .line) h (r .what)) ss p
     where
       one : (l : ℕ) → l < b → (t : Told) → Every SaidBelow (saidBy l t)
       one l h (says x) = (h, tt)
@@ -100,9 +104,11 @@ module _ (b : ℕ) where
 
   -- of the definitions
   pub definitions-below : (ss : List Numbered) → Every SaidBelow ss → Every DefBelow (definitions ss)
-  definitions-below ss p = every-concat SaidBelow DefBelow (λ s. definedBy (s .line) (s .says)) (λ s h. one (s .line) h (s .says)) ss p
+  definitions-below ss p =
+      every-concat SaidBelow DefBelow (λ s. definedBy (s .line) (s .says)) (λ s h. one (s .line) h (s .says)) ss p
     where
-      all : (l : ℕ) → l < b → (cs : List Constant) → Every DefBelow (map (λ (c : Constant). defined l (c .key) (constant (c .worth))) cs)
+      all : (l : ℕ) → l < b → (cs : List Constant)
+          → Every DefBelow (map (λ (c : Constant). defined l (c .key) (constant (c .worth))) cs)
       all l h [] = tt
       all l h (c ∷ cs) = (h, all l h cs)
 
@@ -113,7 +119,8 @@ module _ (b : ℕ) where
 
   -- of the equations
   equations-below : (ds : List Def) → Every DefBelow ds → Every EquationBelow (equations ds)
-  equations-below ds p = every-concat DefBelow EquationBelow (λ d. equationOf (d .line) (d .key) (d .what)) (λ d h. one d h (d .what)) ds p
+  equations-below ds p =
+      every-concat DefBelow EquationBelow (λ d. equationOf (d .line) (d .key) (d .what)) (λ d h. one d h (d .what)) ds p
     where
       one : (d : Def) → d .line < b → (w : What) → Every EquationBelow (equationOf (d .line) (d .key) w)
       one d h (constant x) = tt
@@ -135,12 +142,14 @@ module _ (b : ℕ) where
   doubled-below seen [] p = tt
   doubled-below seen (s ∷ ss) p =
       let ks = keys (definedBy (s .line) (s .says)) in
-      every-append FaultBelow (faultIf (again seen ks) (s .line) 21) (faults21 (seen ++ ks) ss) (if-below (again seen ks) (s .line) 21 (p .0))
+      every-append FaultBelow (faultIf (again seen ks) (s .line) 21) (faults21 (seen ++ ks) ss)
+      (if-below (again seen ks) (s .line) 21 (p .0))
       (doubled-below (seen ++ ks) ss (p .1))
 
   -- of faults 22 and 23
   named-below : (ds es : List Def) → Every DefBelow es → Every FaultBelow (nameFaults ds es)
-  named-below ds es p = every-concat DefBelow FaultBelow (nameFaultOf ds) (λ d h. one (defined-all ds d) (constant-all ds d) (d .line) h) es p
+  named-below ds es p = every-concat DefBelow FaultBelow (nameFaultOf ds)
+      (λ d h. one (defined-all ds d) (constant-all ds d) (d .line) h) es p
     where
       one : (t u : Bool) (l : ℕ) → l < b → Every FaultBelow (nameFault t u l)
       one false u l h = (h, tt)
@@ -160,4 +169,5 @@ module _ (b : ℕ) where
       let q = definitions-below ss p in
       or-below (faults21 [] ss) _ (doubled-below [] ss p)
       (or-below (nameFaults ds ds) (faults24 ds) (named-below ds ds q)
-      (every-part FaultBelow (fault24 ds) (λ i. if-below (stuck ds i) (equationAt ds i .line) 24 (equation-below z ds q i)) (numbers (equationCount ds) 0)))
+      (every-part FaultBelow (fault24 ds)
+      (λ i. if-below (stuck ds i) (equationAt ds i .line) 24 (equation-below z ds q i)) (numbers (equationCount ds) 0)))

@@ -78,11 +78,14 @@ module _ (ds : List Def) where
   equationPart q = concat-map (λ (i : ℕ). equationRecs ds (equationAt ds i)) q
 
   -- THE ORDER: a program has the first lines of its ordered statements
-  pub program-ends : (q : List ℕ) → concat-map endedBy (program ds q) ≡ concat-map line (map (λ (i : ℕ). equationAt ds i .line) q)
+  pub program-ends : (q : List ℕ) → concat-map endedBy (program ds q)
+      ≡ concat-map line (map (λ (i : ℕ). equationAt ds i .line) q)
   unfolding program
   program-ends q =
-      let c : concat-map endedBy constantPart ≡ [] = concat-concat endedBy _ ds ∙ concat-none _ (λ d. constant-ends d (d .what)) ds in
-      let s : concat-map endedBy initialPart ≡ [] = concat-concat endedBy _ ds ∙ concat-none _ (λ d. initial-ends d (d .what)) ds in
+      let c : concat-map endedBy constantPart ≡ [] =
+      concat-concat endedBy _ ds ∙ concat-none _ (λ d. constant-ends d (d .what)) ds in
+      let s : concat-map endedBy initialPart ≡ [] =
+      concat-concat endedBy _ ds ∙ concat-none _ (λ d. initial-ends d (d .what)) ds in
       let e : concat-map endedBy (equationPart q) ≡ concat-map (λ (i : ℕ). line (equationAt ds i .line)) q =
       concat-concat endedBy _ q ∙ concat-same _ _ (λ i. equation-ends (equationAt ds i)) q in
       concat-append endedBy constantPart (initialPart ++ equationPart q)
@@ -116,7 +119,11 @@ module _ (ds : List Def) where
     pub program-below : 0 < b → Every (DefBelow b) ds → (q : List ℕ) → Every (RecBelow b) (program ds q)
     unfolding program
     program-below z p q =
-        let cs : Every (RecBelow b) constantPart = every-concat (DefBelow b) (RecBelow b) _ (λ d h. constant-below d h (d .what)) ds p in
-        let is : Every (RecBelow b) initialPart = every-concat (DefBelow b) (RecBelow b) _ (λ d h. initial-below d h (d .what)) ds p in
-        let es : Every (RecBelow b) (equationPart q) = every-part (RecBelow b) _ (λ i. equation-recs-below (equationAt ds i) (equation-below b z ds p i)) q in
-        every-append (RecBelow b) constantPart (initialPart ++ equationPart q) cs (every-append (RecBelow b) initialPart (equationPart q) is es)
+        let cs : Every (RecBelow b) constantPart =
+        every-concat (DefBelow b) (RecBelow b) _ (λ d h. constant-below d h (d .what)) ds p in
+        let is : Every (RecBelow b) initialPart =
+        every-concat (DefBelow b) (RecBelow b) _ (λ d h. initial-below d h (d .what)) ds p in
+        let es : Every (RecBelow b) (equationPart q) =
+        every-part (RecBelow b) _ (λ i. equation-recs-below (equationAt ds i) (equation-below b z ds p i)) q in
+        every-append (RecBelow b) constantPart (initialPart ++ equationPart q) cs
+        (every-append (RecBelow b) initialPart (equationPart q) is es)

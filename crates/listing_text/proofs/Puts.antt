@@ -26,12 +26,17 @@ put-as e p = rw e p
 -- one part and then another, where the first ended
 pub put-both : {x y : List ℕ} {w m r : ℕ} {b b₁ b₂ : List ℕ} → Put x w m b b₁ → Put y m r b₁ b₂ → Put (x ++ y) w r b b₂
 put-both {x} {y} {w} {b = b} p q =
-    record { behind = omega (arith, p .behind, q .behind, length-append x y); written = q .written ∙ rw (p .written, p .behind, sets-append b w x y) }
+    record {
+      behind = omega (arith, p .behind, q .behind, length-append x y);
+      written = q .written
+          ∙ rw (p .written, p .behind, sets-append b w x y);
+    }
 
 -- ---- a loop that writes
 module _ {f : ℕ → List ℕ} {n i w₀ w : ℕ} {buf₀ buf : List ℕ} where
   -- what one place gives
-  pub put-next : {a r : ℕ} {last : List ℕ} → Writes f n a i w₀ w buf₀ buf → i < n → Put (f i) w r buf last → Writes f n a (i + 1) w₀ r buf₀ last
+  pub put-next : {a r : ℕ} {last : List ℕ} → Writes f n a i w₀ w buf₀ buf → i < n → Put (f i) w r buf last
+      → Writes f n a (i + 1) w₀ r buf₀ last
   put-next {r = r} {last = last} v h p = writes-next v h r last (p .behind) (p .written)
 
   -- what all give

@@ -71,7 +71,8 @@ pair-short m n = omega (arith, few-figures m, line-short n, length-append (figur
 gather-within : (f : ℕ → List ℕ) (m : ℕ) → ((i : ℕ) → length (f i) ≤ m) → (k i : ℕ) → length (gather f k i) ≤ k * m
 unfolding gather
 gather-within f m h zero i = omega arith
-gather-within f m h (suc k) i = rw (suc-mul k m) (omega (arith, h i, gather-within f m h k (suc i), length-append (f i) (gather f k (suc i))))
+gather-within f m h (suc k) i =
+    rw (suc-mul k m) (omega (arith, h i, gather-within f m h k (suc i), length-append (f i) (gather f k (suc i))))
 
 -- the line of a fault, and of a statement
 row-short : (ordered : Bool) (l : List ℕ) → Bytes l → (i : ℕ) → length (rowAt ordered l i) ≤ 4294967298

@@ -28,7 +28,8 @@ line n = figures n ++ (10 ∷ [])
 abbrev pub line2 : ℕ → ℕ → List ℕ
 line2 m n = figures m ++ (32 ∷ line n)
 
--- OK and the record count, then the first line of each ordered statement; otherwise NO and the number, then line and code of each fault
+-- OK and the record count, then the first line of each ordered statement; otherwise NO and the number, then line and
+-- code of each fault
 unfoldable pub listed : Verdict → List ℕ
 listed (refused n) = bytes "NO " ++ line n
 listed (faulty n fs) = bytes "NO " ++ (line n ++ concat-map (λ (f : Fault). line2 (f .line) (f .code)) fs)

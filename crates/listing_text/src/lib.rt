@@ -124,7 +124,8 @@ fn put_row(ordered: bool, from: &[u8], i: usize, out: &mut [u8], at: usize) -> u
 // Writes so many of them.
 fn put_rows(ordered: bool, from: &[u8], count: usize, out: &mut [u8], at: usize) -> usize
     requires { ⌜ (count ≤ mostRecords) × InReach (gather (rowAt ordered (now from)) count 0) at ⌝ }
-    ensures { λ r. ⌜ Put (gather (rowAt ordered (now (from .entry))) count 0) at r (now (out .entry)) (now (out .exit)) ⌝ }
+    ensures { λ r. ⌜ Put (gather (rowAt ordered (now (from .entry))) count 0) at r (now (out .entry))
+        (now (out .exit)) ⌝ }
 {
     let mut w = at;
     let mut i: usize = 0;

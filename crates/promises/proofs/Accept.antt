@@ -27,9 +27,11 @@ use Rattle.evaluator.specs.Judge.{judge₀, answer, judge}
 use Rattle.promises.proofs.Fold.{judgeAt, Leads, leads-append, leads-one, leads-accepted, none-open}
 use Rattle.promises.proofs.Postfix.{steps, AllSet, judge-tree}
 use Rattle.promises.proofs.Settle.{heldKeys}
-use Rattle.promises.proofs.Owned.{from-helds, to-helds, held-few, find, at-most, own, eq-in, eq-mine, eq-same, slot-mine}
+use Rattle.promises.proofs.Owned.{from-helds, to-helds, held-few, find, at-most, own, eq-in, eq-mine, eq-same}
+use Rattle.promises.proofs.Owned.{slot-mine}
 use Rattle.promises.proofs.Runs.{constantPart, initialPart, orderedPart, program-parts, ordered-first}
-use Rattle.promises.proofs.Settings.{Passes, passes-none, passes-append, marksOn, marks-long, marks-other, marks-same, marks-either}
+use Rattle.promises.proofs.Settings.{Passes, passes-none, passes-append, marksOn, marks-long, marks-other}
+use Rattle.promises.proofs.Settings.{marks-same, marks-either}
 use Rattle.promises.proofs.Settings.{Open, pass-constants, pass-initials}
 
 -- the mark of an equation's slot, by whether it is a state's and whether it is placed
@@ -77,7 +79,8 @@ module _ (ds : List Def) where
     module _ (f : List ℕ) (i : ℕ) (l : List ℕ) (hi : i < equationCount ds) (new : count i f ≡ 0) (t : Stand f l)
         (u : (j : ℕ) → j < equationCount ds → usesIn ds i j ≡ true → j ∈ f) where
       -- a name that is no constant is set: it is a state, or its equation is placed
-      read-equation : (k : ℕ) → k ∈ names (eqn i .tree) → (j : ℕ) → j < equationCount ds → eqn j .key ≡ k → getD l (slot k) 0 ≡ 0 → ⊥
+      read-equation : (k : ℕ) → k ∈ names (eqn i .tree) → (j : ℕ) → j < equationCount ds → eqn j .key ≡ k
+          → getD l (slot k) 0 ≡ 0 → ⊥
       read-equation k n j h e z =
           let m : getD l (slot k) 0 ≡ status (eqn j .held) (has j f) = rw e at (t .placed j h) in
           let n′ : eqn j .key ∈ names (eqn i .tree) = rw e n in
@@ -93,7 +96,8 @@ module _ (ds : List Def) where
         λ e. omega (arith, t .time),
         λ k n z.
             ⊎-elim (λ c. omega (arith, t .fixed k c))
-            (λ c. let r = find ds k (omega (arith, known i hi k n, count-keys k ds)) in read-equation k n (r .0) (r .1) (r .2) z)
+            (λ c. let r = find ds k (omega (arith, known i hi k n, count-keys k ds)) in read-equation k n (r .0) (r .1)
+            (r .2) z)
             (lt-or-ge 0 (count k (constantKeys ds))),
       )
 
@@ -119,12 +123,16 @@ module _ (ds : List Def) where
             fixed = λ k h. getD-set-other l s (slot k) x 0 (no-fixed k h) ∙ t .fixed k h;
             placed =
                 λ j h.
-                ⊎-elim (λ (e : j ≡ i). rw (e, lt-ltb 0 (count i (f ++ (i ∷ []))) (omega (arith, count-snoc-same i f))) (getD-set-same l s x 0 room))
+                ⊎-elim
+                (λ (e : j ≡ i). rw (e, lt-ltb 0 (count i (f ++ (i ∷ []))) (omega (arith, count-snoc-same i f)))
+                (getD-set-same l s x 0 room))
                 (λ e.
-                let apart : slot (eqn j .key) ≡ s → ⊥ = λ z. e (eq-same ds one j i h hi (own ds one (eqn j .key) (eqn i .key) (eq-mine ds one i hi) z)) in
+                let apart : slot (eqn j .key) ≡ s → ⊥ =
+                λ z. e (eq-same ds one j i h hi (own ds one (eqn j .key) (eqn i .key) (eq-mine ds one i hi) z)) in
                 rw (count-snoc-other j i f e) (getD-set-other l s (slot (eqn j .key)) x 0 apart ∙ t .placed j h))
                 (eq-or-ne j i);
-            other = λ p h. ⊎-elim (λ (e : p ≡ s). (i, hi, sym e)) (λ e. t .other p (sym (getD-set-other l s p x 0 e) ∙ h)) (eq-or-ne p s);
+            other = λ p h. ⊎-elim (λ (e : p ≡ s). (i, hi, sym e))
+                (λ e. t .other p (sym (getD-set-other l s p x 0 e) ∙ h)) (eq-or-ne p s);
           }
 
       -- the judge takes its records
@@ -132,10 +140,15 @@ module _ (ds : List Def) where
           (set l (slot (eqn i .key)) (status (eqn i .held) true))
       pass-equation p h =
           let s : ℕ = slot (eqn i .key) in
-          let m : getD l s 0 ≡ status (eqn i .held) false = rw (le-ltb 0 (count i f) (omega arith)) at (t .placed i hi) in
+          let m : getD l s 0 ≡ status (eqn i .held) false =
+          rw (le-ltb 0 (count i f) (omega arith)) at (t .placed i hi) in
           let tree = judge-tree slot (eqn i .tree) p 0 l reads (omega (arith, low i hi)) h in
-          let end = judgeAt 3 0 (set l s (status (eqn i .held) true)) in
-          (3, omega arith, leads-append (judgeAt p 0 l) (judgeAt 3 1 l) end (steps slot (eqn i .tree)) _ tree (pass-last (eqn i .held) s l m))
+          let end = judgeAt 3 0 (set l s (status (eqn i .held) true)) in (
+            3,
+            omega arith,
+            leads-append (judgeAt p 0 l) (judgeAt 3 1 l) end (steps slot (eqn i .tree)) _ tree
+                (pass-last (eqn i .held) s l m),
+          )
 
     -- THE EQUATIONS in a good order, one after the other
     pass-order : (f q l : List ℕ) → EachAfter (equationCount ds) (usesIn ds) (f ++ q) → Once (f ++ q)
@@ -150,11 +163,14 @@ module _ (ds : List Def) where
         let l₁ : List ℕ = set l (slot (eqn i .key)) (status (eqn i .held) true) in
         let R = instrs (orderedPart ds q) in
         let e = append-assoc f (i ∷ []) q in
-        let u : (j : ℕ) → j < equationCount ds → usesIn ds i j ≡ true → j ∈ f = after-front (equationCount ds) (usesIn ds) f i q a in
-        let r = pass-order (f ++ (i ∷ [])) q l₁ (rw e a) (rw e c) (λ m h. b m (omega arith)) (stand-next f i l hi new t u) in
+        let u : (j : ℕ) → j < equationCount ds → usesIn ds i j ≡ true → j ∈ f =
+        after-front (equationCount ds) (usesIn ds) f i q a in
+        let r = pass-order (f ++ (i ∷ [])) q l₁ (rw e a) (rw e c) (λ m h. b m (omega arith))
+        (stand-next f i l hi new t u) in
         let w : steps slot (eqn i .tree) ++ (last ∷ R) ≡ (steps slot (eqn i .tree) ++ (last ∷ [])) ++ R =
         sym (append-assoc (steps slot (eqn i .tree)) (last ∷ []) R) in
-        let p = passes-append 3 l l₁ (r .0) (steps slot (eqn i .tree) ++ (last ∷ [])) R (pass-equation f i l hi new t u) (r .2) in
+        let p = passes-append 3 l l₁ (r .0) (steps slot (eqn i .tree) ++ (last ∷ [])) R (pass-equation f i l hi new t u)
+        (r .2) in
         (r .0, rw e at (r .1), rw (ordered-first ds i q, w) p)
 
     -- ---- from the start: slot 0 is set, and no other
@@ -167,7 +183,8 @@ module _ (ds : List Def) where
 
     -- that of no other slot is set
     clear : (p : ℕ) → 0 < p → p < slots → getD l₀ p 0 ≡ 0
-    clear p a b = getD-set-other {A = ℕ} (replicate slots 0) 0 p 1 0 (λ e. omega arith) ∙ getD-replicate {A = ℕ} slots p 0 0 b
+    clear p a b =
+        getD-set-other {A = ℕ} (replicate slots 0) 0 p 1 0 (λ e. omega arith) ∙ getD-replicate {A = ℕ} slots p 0 0 b
 
     -- that of slot 0 is
     set-first : getD l₀ 0 0 ≡ 1
@@ -178,7 +195,8 @@ module _ (ds : List Def) where
     not-two p e =
         ⊎-elim
         (λ (z : p < slots).
-        ⊎-elim (λ y. omega (arith, clear p y z)) (λ (y : p ≤ 0). let w : p ≡ 0 = omega arith in omega (arith, set-first, rw w at e)) (lt-or-ge 0 p))
+        ⊎-elim (λ y. omega (arith, clear p y z))
+        (λ (y : p ≤ 0). let w : p ≡ 0 = omega arith in omega (arith, set-first, rw w at e)) (lt-or-ge 0 p))
         (λ z. omega (arith, List·getD-eq-default l₀ 0 {n = p} (omega (arith, long)))) (lt-or-ge p slots)
 
     -- the slot of a definition is not set
@@ -207,7 +225,8 @@ module _ (ds : List Def) where
 
     -- so its slot is not set yet
     still-free : (k : ℕ) → k ∈ equationKeys ds → getD l₁ (slot k) 0 ≡ 0
-    still-free k h = marks-other slot 1 (constantKeys ds) l₀ (slot k) (no-constant k h) ∙ free k (omega (arith, count-keys k ds))
+    still-free k h =
+        marks-other slot 1 (constantKeys ds) l₀ (slot k) (no-constant k h) ∙ free k (omega (arith, count-keys k ds))
 
     -- so the states can be set
     open-initials : Open ds (heldKeys (equations ds)) l₁
@@ -227,11 +246,14 @@ module _ (ds : List Def) where
     long-first = marks-long slot 1 (constantKeys ds) l₀ ∙ long
 
     -- a state's slot has the mark 2, that of an assignment is not set
-    placed-none : (j : ℕ) → j < equationCount ds → (b : Bool) → eqn j .held ≡ b → getD l₂ (slot (eqn j .key)) 0 ≡ status (eqn j .held) (has j [])
+    placed-none : (j : ℕ) → j < equationCount ds → (b : Bool) → eqn j .held ≡ b
+        → getD l₂ (slot (eqn j .key)) 0 ≡ status (eqn j .held) (has j [])
     unfolding count
     placed-none j h true e =
         let m = slot-mine ds one (eqn j .key) (eq-mine ds one j h) in
-        rw e (marks-same slot 2 (heldKeys (equations ds)) l₁ (eqn j .key) (to-helds (equations ds) j h e) (omega (arith, long-first)))
+        rw e
+        (marks-same slot 2 (heldKeys (equations ds)) l₁ (eqn j .key) (to-helds (equations ds) j h e)
+        (omega (arith, long-first)))
     placed-none j h false e =
         rw e
         (marks-other slot 2 (heldKeys (equations ds)) l₁ (slot (eqn j .key))
@@ -244,7 +266,8 @@ module _ (ds : List Def) where
 
     -- a constant's slot has the mark 1
     fixed-first : (k : ℕ) → k ∈ constantKeys ds → getD l₁ (slot k) 0 ≡ 1
-    fixed-first k h = marks-same slot 1 (constantKeys ds) l₀ k h (omega (arith, slot-mine ds one k (omega (arith, count-keys k ds)), long))
+    fixed-first k h = marks-same slot 1 (constantKeys ds) l₀ k h
+        (omega (arith, slot-mine ds one k (omega (arith, count-keys k ds)), long))
 
     -- only a state's slot has the mark 2
     two-first : (p : ℕ) → getD l₂ p 0 ≡ 2 → (j : ℕ) × (j < equationCount ds) × (slot (eqn j .key) ≡ p)
@@ -254,7 +277,9 @@ module _ (ds : List Def) where
         let r = from-helds (equations ds) (z .0) (z .1) in
         (r .0, r .1, rw (r .3) (z .2)))
         (λ z.
-        ⊎-elim (λ (y : (k : ℕ) × (k ∈ constantKeys ds) × (slot k ≡ p)). absurd (let w = rw (y .2) at (fixed-first (y .0) (y .1)) in omega (arith, z, w, e)))
+        ⊎-elim
+        (λ (y : (k : ℕ) × (k ∈ constantKeys ds) × (slot k ≡ p)). absurd
+        (let w = rw (y .2) at (fixed-first (y .0) (y .1)) in omega (arith, z, w, e)))
         (λ y. absurd (not-two p (sym y ∙ sym z ∙ e))) (marks-either slot 1 (constantKeys ds) l₀ p))
         (marks-either slot 2 (heldKeys (equations ds)) l₁ p)
 
@@ -269,7 +294,8 @@ module _ (ds : List Def) where
               ∙ set-first;
           fixed =
               λ k h.
-              marks-other slot 2 (heldKeys (equations ds)) l₁ (slot k) (λ j m e. no-constant j (omega (arith, held-few j (equations ds))) k h (sym e))
+              marks-other slot 2 (heldKeys (equations ds)) l₁ (slot k)
+              (λ j m e. no-constant j (omega (arith, held-few j (equations ds))) k h (sym e))
               ∙ fixed-first k h;
           placed = λ j h. placed-none j h (eqn j .held) refl;
           other = two-first;
@@ -283,13 +309,15 @@ module _ (ds : List Def) where
         let Q = instrs (orderedPart ds q) in
         let a = pass-constants ds ds l₀ open-constants 1 (omega arith) in
         let b = pass-initials ds ds l₁ open-initials (a .0) (omega (arith, a .1)) in
-        let o = pass-order [] q l₂ (g .after) (at-most ds q g) (perm-below (equationCount ds) (usesIn ds) q (g .perm)) stand in
+        let o = pass-order [] q l₂ (g .after) (at-most ds q g)
+        (perm-below (equationCount ds) (usesIn ds) q (g .perm)) stand in
         let c = o .2 (b .0) (omega (arith, b .1)) in
         let end = judgeAt (c .0) 0 (o .0) in
         let later = leads-append (judgeAt (a .0) 0 l₁) (judgeAt (b .0) 0 l₂) end I Q (b .2) (c .2) in
         let all = leads-append (judgeAt 1 0 l₀) (judgeAt (a .0) 0 l₁) end C (I ++ Q) (a .2) later in
         ap judge (program-parts ds q)
-        ∙ leads-accepted 0 (judgeAt 1 0 l₀) end (C ++ (I ++ Q)) all refl (none-open (o .0) (λ p _ e. closed q g (o .0) (o .1) p e))
+        ∙ leads-accepted 0 (judgeAt 1 0 l₀) end (C ++ (I ++ Q)) all refl
+        (none-open (o .0) (λ p _ e. closed q g (o .0) (o .1) p e))
       where
         closed : (q : List ℕ) → GoodOrder ds q → (l : List ℕ) → Stand q l → (p : ℕ) → getD l p 0 ≡ 2 → ⊥
         closed q g l t p e =

@@ -57,59 +57,72 @@ module _ {text : List ℕ} {room : ℕ} {rs : List Rec} (c : Clear text room rs)
   ordered = order-good ds (no-faults ss (c .clean) .2)
 
   -- each initial has its value
-  pub initials : (i : ℕ) → i < length ds → (n : Initial) (t : Tree) → definitionAt ds i .what ≡ integral n t → Resolved ds n (initialValue ds n)
+  pub initials : (i : ℕ) → i < length ds → (n : Initial) (t : Tree) → definitionAt ds i .what ≡ integral n t
+      → Resolved ds n (initialValue ds n)
   initials = resolved ds (no-faults ss (c .clean) .1)
 
   -- the stack's places suffice for each
   low : (j : ℕ) → j < equationCount ds → peak (equationAt ds j .tree) ≤ stackPlaces
-  low j h = every-at (λ (e : Equation). FitsTree (e .tree)) (equations ds) noEquation (equations-fit ds (definitions-fit text)) j h .1
+  low j h = every-at (λ (e : Equation). FitsTree (e .tree)) (equations ds) noEquation
+      (equations-fit ds (definitions-fit text)) j h .1
 
   -- its records are read as they were written
   pub read-back : decoded (programBytes rs) ≡ instrs rs
-  read-back = program-back rs (rw (c .written) (readable ds once (c .few) (definitions-fit text) known (orderOf ds) ordered))
+  read-back =
+      program-back rs (rw (c .written) (readable ds once (c .few) (definitions-fit text) known (orderOf ds) ordered))
 
   -- and judged good
   judged-good : judge (decoded (programBytes rs)) ≡ answer 0 0
-  judged-good = ap judge (read-back ∙ ap instrs (c .written)) ∙ takes-program ds once (c .few) known low (orderOf ds) ordered
+  judged-good =
+      ap judge (read-back ∙ ap instrs (c .written)) ∙ takes-program ds once (c .few) known low (orderOf ds) ordered
 
   -- they are whole records, and not too many
-  pub not-refused : (v d : List Float) → slots ≤ length v → slots ≤ length d → refusal (programBytes rs) v d ≡ answer 0 0
+  pub not-refused : (v d : List Float) → slots ≤ length v → slots ≤ length d
+      → refusal (programBytes rs) v d ≡ answer 0 0
   unfolding refusal
   not-refused v d hv hd =
       let n = length-program rs in
       let e : length (programBytes rs) / recordBytes ≡ length rs = omega arith in
       let z : length (programBytes rs) % recordBytes ≡ 0 = omega arith in
-      rw (le-ltb (length v) slots hv, le-ltb (length d) slots hd, z, e, le-ltb mostRecords (length rs) (c .short)) judged-good
+      rw (le-ltb (length v) slots hv, le-ltb (length d) slots hd, z, e, le-ltb mostRecords (length rs) (c .short))
+      judged-good
 
   -- the lent buffer, cut to what was written, holds them
-  cut-back : (p : List ℕ) → length p ≡ room → take (length rs * recordBytes) (sets p 0 (programBytes rs)) ≡ programBytes rs
+  cut-back : (p : List ℕ) → length p ≡ room
+      → take (length rs * recordBytes) (sets p 0 (programBytes rs)) ≡ programBytes rs
   cut-back p e =
       let n = length-program rs in
       let m : length (programBytes rs) ≡ length rs * recordBytes = omega arith in
       rw m at (sets-back p 0 (programBytes rs) (omega (arith, c .fits)))
 
 -- ACCEPTED: the judge takes every program from a verdict 0
-pub accepted : (text : List ℕ) (faults room : ℕ) (rs : List Rec) (ls : List ℕ) → verdictOf text faults room ≡ translated rs ls
+pub accepted : (text : List ℕ) (faults room : ℕ) (rs : List Rec) (ls : List ℕ)
+    → verdictOf text faults room ≡ translated rs ls
     → judge (decoded (programBytes rs)) ≡ answer 0 0
 accepted text faults room rs ls e = judged-good (clear text faults room rs ls e)
 
 -- so evaluating does not refuse it, whatever values and derivatives are lent, if they are long enough
-pub accepted-program : (text : List ℕ) (faults room : ℕ) (rs : List Rec) (ls : List ℕ) → verdictOf text faults room ≡ translated rs ls
+pub accepted-program : (text : List ℕ) (faults room : ℕ) (rs : List Rec) (ls : List ℕ)
+    → verdictOf text faults room ≡ translated rs ls
     → (v d : List Float) → slots ≤ length v → slots ≤ length d → refusal (programBytes rs) v d ≡ answer 0 0
 accepted-program text faults room rs ls e = not-refused (clear text faults room rs ls e)
 
 -- what was written stands in the lent buffer, and nothing else in that part of it
 pub handed-on : (text f p : List ℕ) → translation text f p .number ≡ 0
-    → (rs : List Rec) × (ls : List ℕ) × (verdictOf text (length f) (length p) ≡ translated rs ls) × (handedOn (translation text f p) ≡ programBytes rs)
+    → (rs : List Rec) × (ls : List ℕ) × (verdictOf text (length f) (length p) ≡ translated rs ls)
+    × (handedOn (translation text f p) ≡ programBytes rs)
 unfolding translation
 handed-on text f p z =
     let r = zero-translated text (length f) (length p) z in
     let e = r .2 in
     (r .0, r .1, e, rw e (cut-back (clear text (length f) (length p) (r .0) (r .1) e) p refl))
 
--- ACCEPTED, AS LENT: after a translation with number 0, evaluating does not refuse the lent program buffer cut to its count of records
+-- ACCEPTED, AS LENT: after a translation with number 0, evaluating does not refuse the lent program buffer cut to its
+-- count of records
 pub accepted-lent : (text f p : List ℕ) → translation text f p .number ≡ 0
-    → (v d : List Float) → slots ≤ length v → slots ≤ length d → refusal (handedOn (translation text f p)) v d ≡ answer 0 0
+    → (v d : List Float) → slots ≤ length v → slots ≤ length d
+    → refusal (handedOn (translation text f p)) v d ≡ answer 0 0
 accepted-lent text f p z v d hv hd =
     let r = handed-on text f p z in
-    ap (λ (b : List ℕ). refusal b v d) (r .3) ∙ accepted-program text (length f) (length p) (r .0) (r .1) (r .2) v d hv hd
+    ap (λ (b : List ℕ). refusal b v d) (r .3)
+    ∙ accepted-program text (length f) (length p) (r .0) (r .1) (r .2) v d hv hd

@@ -13,7 +13,8 @@ use Rattle.evaluator.specs.Judge.{answer}
 use Rattle.translator.specs.Contract.{Reply}
 use Rattle.translator.specs.Verdict.{Translation}
 use Rattle.floesedge.specs.declared.Answer.{Answer as CAnswer}
-use Rattle.promises.specs.Agreement.{Agree2, Bits, Deck, Tokens, Drafts, Grammar, Order, Records, Sheet, Model, Program, Evaluator}
+use Rattle.promises.specs.Agreement.{Agree2, Bits, Deck, Tokens, Drafts, Grammar, Order, Records, Sheet, Model}
+use Rattle.promises.specs.Agreement.{Program, Evaluator}
 use Rattle.promises.specs.Agreement.{Translator, Listing, Library, Counting}
 
 -- ---- what a contract gives as an equation
@@ -100,12 +101,14 @@ pub model : Model
 model = record { plan = λ lines bounds kinds args used faults l r s a b u v f g m n p q. parts (p ∙ sym q) }
   where
     parts : {x y : PlanOutcome} → x ≡ y
-        → (x .plan ≡ y .plan) × (x .args ≡ y .args) × (x .used ≡ y .used) × (x .faults ≡ y .faults) × (x .arrays ≡ y .arrays)
+        → (x .plan ≡ y .plan) × (x .args ≡ y .args) × (x .used ≡ y .used) × (x .faults ≡ y .faults)
+        × (x .arrays ≡ y .arrays)
     parts e = (cc, cc, cc, cc, cc)
 
 -- a program counted and written
 pub programs : Program
-programs = record { count-records = λ kinds. one _; put-program = λ places rows lines bounds kinds slots order out. two _ _ }
+programs =
+    record { count-records = λ kinds. one _; put-program = λ places rows lines bounds kinds slots order out. two _ _ }
 
 -- ---- the evaluator's three
 
@@ -138,7 +141,8 @@ listing = record { list = λ text out r s a b x y. (x .needed ∙ sym (y .needed
 
 -- ---- the library: an answer is its two numbers
 library-runs : (r s : CAnswer) (a b c d : List Float)
-    → runOutcome (answer (r .number) (r .record)) a c ≡ runOutcome (answer (s .number) (s .record)) b d → (r ≡ s) × (a ≡ b) × (c ≡ d)
+    → runOutcome (answer (r .number) (r .record)) a c ≡ runOutcome (answer (s .number) (s .record)) b d
+    → (r ≡ s) × (a ≡ b) × (c ≡ d)
 library-runs r s a b c d h =
     let n : r .number ≡ s .number = ap (λ (o : RunOutcome). o .answer .number) h in
     let p : r .record ≡ s .record = ap (λ (o : RunOutcome). o .answer .place) h in (
@@ -153,8 +157,11 @@ library =
       translate = λ text f p r s a b c d x y.
           let h = x ∙ sym y in
           let n : r .number ≡ s .number = ap (λ (o : Translation). o .number) h in
-          let k : r .count ≡ s .count = ap (λ (o : Translation). o .count) h in
-          (ap₂ (λ (i j : ℕ). record { number = i; count = j }) n k, ap (λ (o : Translation). o .faults) h, ap (λ (o : Translation). o .program) h);
+          let k : r .count ≡ s .count = ap (λ (o : Translation). o .count) h in (
+            ap₂ (λ (i j : ℕ). record { number = i; count = j }) n k,
+            ap (λ (o : Translation). o .faults) h,
+            ap (λ (o : Translation). o .program) h,
+          );
       evaluate = λ p v d r s a b c e x y. library-runs r s a b c e (x ∙ sym y);
       start = λ p v d r s a b c e x y. library-runs r s a b c e (x ∙ sym y);
       step = λ p h v d r s a b c e x y. library-runs r s a b c e (x ∙ sym y);

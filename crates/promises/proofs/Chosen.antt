@@ -32,12 +32,15 @@ module _ (t : ℕ → Bool) where
   pub chosen-passes : (k i j : ℕ) → j ∈ chosen t k i → (t j ≡ true) × (i ≤ j) × (j < i + k)
   unfolding gather count
   chosen-passes zero i j h = absurd (omega arith)
-  chosen-passes (suc k) i j h = go (t i) refl (λ m. let r = chosen-passes k (suc i) j m in (r .0, omega arith, omega arith)) h
+  chosen-passes (suc k) i j h =
+      go (t i) refl (λ m. let r = chosen-passes k (suc i) j m in (r .0, omega arith, omega arith)) h
     where
-      go : (b : Bool) → t i ≡ b → (j ∈ chosen t k (suc i) → (t j ≡ true) × (i ≤ j) × (j < i + suc k)) → j ∈ onlyIf b i ++ chosen t k (suc i)
+      go : (b : Bool) → t i ≡ b → (j ∈ chosen t k (suc i) → (t j ≡ true) × (i ≤ j) × (j < i + suc k))
+          → j ∈ onlyIf b i ++ chosen t k (suc i)
           → (t j ≡ true) × (i ≤ j) × (j < i + suc k)
       go true e f m =
-          ⊎-elim (λ (q : j ≡ i). (rw q e, omega arith, omega arith)) (λ n. f (omega (arith, once-other j i n))) (eq-or-ne j i)
+          ⊎-elim (λ (q : j ≡ i). (rw q e, omega arith, omega arith)) (λ n. f (omega (arith, once-other j i n)))
+          (eq-or-ne j i)
       go false e f m = f m
 
   -- each that passes is chosen

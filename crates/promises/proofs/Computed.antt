@@ -1,4 +1,5 @@
--- Texts by computation: one whose program fills the stack; and one that is sorted and one that is not, of which demand 2 speaks.
+-- Texts by computation: one whose program fills the stack; and one that is sorted and one that is not, of which demand
+-- 2 speaks.
 use Prim.Native.Nat.{ℕ, _<_}
 use mathlib.Core.Path.{_≡_, refl}
 use mathlib.Core.Logic.{_⊎_, inl, inr, ⊎-elim}
@@ -22,7 +23,8 @@ use Rattle.tokens.specs.Row.{rowFrom, rowOf}
 use Rattle.drafts.specs.Tree.{names}
 use Rattle.drafts.specs.Items.{postfix}
 use Rattle.grammar.specs.Look.{next, rest, byteOf, give-to, shapeOf, startOf}
-use Rattle.grammar.specs.Parser.{bind, parse, signedNumber, many, initially, assigned, integrated, statement, entire, readRow}
+use Rattle.grammar.specs.Parser.{bind, parse, signedNumber, many, initially, assigned, integrated, statement, entire}
+use Rattle.grammar.specs.Parser.{readRow}
 use Rattle.sheet.specs.Sheet.{said}
 use Rattle.sheet.specs.Reader.{told, sheetOf}
 use Rattle.order.specs.Order.{any, chained}
@@ -60,11 +62,15 @@ numberFor text = numberOf (verdictOf text faultRoom programRoom)
 computed : (heightOf (verdictOf deck faultRoom programRoom) ≡ stackPlaces)
     × (numberFor (bytes tank) ≡ 0) × Plain (bytes tank)
     × (numberFor loop ≡ 7) × Plain loop
-unfolding highest verdictOf judged linesOf trimmed dotted passed after ended left reading partOf joined anyLong sizeFlaw told sheetOf concat-map
-    sameBytes numbers run count lowWord decimal digitsFrom exponentFrom tenTo scaled tokenOf numberAt nameAt tokenAt cutAt
+unfolding highest verdictOf judged linesOf trimmed dotted passed after ended left reading partOf joined anyLong sizeFlaw
+    told sheetOf concat-map
+    sameBytes numbers run count lowWord decimal digitsFrom exponentFrom tenTo scaled tokenOf numberAt nameAt tokenAt
+    cutAt
     lookUp symbolNamed rowFrom rowOf names
-    postfix next rest byteOf give-to shapeOf startOf bind parse signedNumber many initially assigned integrated statement entire readRow any chained
-    all first ready nextReady place order placeIn again faults21 within modelFaults valueIn program ofBits ofInt mul div neg round units size climb
+    postfix next rest byteOf give-to shapeOf startOf bind parse signedNumber many initially assigned integrated
+    statement entire readRow any chained
+    all first ready nextReady place order placeIn again faults21 within modelFaults valueIn program ofBits ofInt mul div
+    neg round units size climb
     span odd
 computed = (refl, refl, (refl, refl), refl, (refl, refl))
 
@@ -73,9 +79,11 @@ pub filled : heightOf (verdictOf deck faultRoom programRoom) ≡ stackPlaces
 filled = computed .0
 
 -- no earlier refusal where the number is 0 or 7 and the text is plain
-unrefused : (text : List ℕ) → (numberFor text ≡ 0) ⊎ (numberFor text ≡ 7) → Plain text → Unrefused text faultRoom programRoom
+unrefused : (text : List ℕ) → (numberFor text ≡ 0) ⊎ (numberFor text ≡ 7) → Plain text
+    → Unrefused text faultRoom programRoom
 unrefused text c p =
-    let other : (k : ℕ) → 0 < k → k < 7 → numberFor text ≡ k → ⊥ = λ k a b h. ⊎-elim (λ z. omega arith) (λ z. omega arith) c in
+    let other : (k : ℕ) → 0 < k → k < 7 → numberFor text ≡ k → ⊥ =
+    λ k a b h. ⊎-elim (λ z. omega arith) (λ z. omega arith) c in
     record {
       room = omega arith;
       size =

@@ -15,7 +15,8 @@ use Rattle.laws.specs.Lists.{concat-map}
 use Rattle.bits.specs.Low.{lowBytes, lowWord}
 use Rattle.bits.proofs.Lows.{word-bytes}
 use Rattle.records.specs.declared.Instr.{Instr}
-use Rattle.records.specs.declared.Instr.the-variants.{Constant, Initial, Value, Slot, Add, Sub, Mul, Div, Neg, Insw, Limit, Compar, Store, Deriv, Bad}
+use Rattle.records.specs.declared.Instr.the-variants.{Constant, Initial, Value, Slot, Add, Sub, Mul, Div, Neg, Insw}
+use Rattle.records.specs.declared.Instr.the-variants.{Limit, Compar, Store, Deriv, Bad}
 use Rattle.records.specs.Shape.{value, slot, Shape, constant, initial, push, fold, store, derivative, bad, shapeOf}
 use Rattle.records.specs.Fields.{fieldsOf, kindOf, operandOf, bitsOf, byKind, instrOf}
 use Rattle.records.specs.Record.{Rec, recBytes, programBytes, instrs, field, decodeAt, decodeFrom, decoded}
@@ -90,12 +91,14 @@ module _ (front : List ℕ) (r : Rec) (back : List ℕ) where
   -- the operand behind two bytes, the bits behind eight
   operand-back : operandOf (r .instr) < 256 ^ 2 → field all (length front + 2) 2 ≡ operandOf (r .instr)
   unfolding recBytes lowBytes
-  operand-back h = ap (λ (l : List ℕ). lowWord (take 2 l)) (drop-append-add front (recBytes r ++ back) 2) ∙ word-bytes 2 (operandOf (r .instr)) h
+  operand-back h = ap (λ (l : List ℕ). lowWord (take 2 l)) (drop-append-add front (recBytes r ++ back) 2)
+      ∙ word-bytes 2 (operandOf (r .instr)) h
 
   -- the bits behind eight
   bits-back : bitsOf (r .instr) < 256 ^ 8 → field all (length front + 8) 8 ≡ bitsOf (r .instr)
   unfolding recBytes lowBytes
-  bits-back h = ap (λ (l : List ℕ). lowWord (take 8 l)) (drop-append-add front (recBytes r ++ back) 8) ∙ word-bytes 8 (bitsOf (r .instr)) h
+  bits-back h = ap (λ (l : List ℕ). lowWord (take 8 l)) (drop-append-add front (recBytes r ++ back) 8)
+      ∙ word-bytes 8 (bitsOf (r .instr)) h
 
   -- the kind, and byte 1
   kind-back : getD all (length front) 0 ≡ kindOf (r .instr)
@@ -127,9 +130,11 @@ from-back : (front : List ℕ) (i : ℕ) (rs : List Rec) → length front ≡ i 
 unfolding decodeFrom programBytes concat-map
 from-back front i [] e h = refl
 from-back front i (r ∷ rs) e h =
-    let next : length (front ++ recBytes r) ≡ suc i * recordBytes = omega (arith, length-append front (recBytes r), length-record r) in
+    let next : length (front ++ recBytes r) ≡ suc i * recordBytes =
+    omega (arith, length-append front (recBytes r), length-record r) in
     let here = rw e at (record-back front r (programBytes rs) (h .0)) in
-    let later = rw (append-assoc front (recBytes r) (programBytes rs)) at (from-back (front ++ recBytes r) (suc i) rs next (h .1)) in
+    let later = rw (append-assoc front (recBytes r) (programBytes rs)) at
+    (from-back (front ++ recBytes r) (suc i) rs next (h .1)) in
     rw (here, later)
 
 -- THE PROGRAM is read as it was written

@@ -1,4 +1,5 @@
--- Demand 2 on texts: unsortable exactly if no order has every value set before use; otherwise the first of all such orders is taken.
+-- Demand 2 on texts: unsortable exactly if no order has every value set before use; otherwise the first of all such
+-- orders is taken.
 use Prim.Native.Nat.{ℕ, _/_, _<_}
 use mathlib.Core.Path.{_≡_, refl, sym, ap, ap₂, _∙_}
 use mathlib.Core.Bool.{Bool, true, false, _||_}
@@ -29,7 +30,8 @@ use Rattle.model.specs.Text.{textDefinitions, lineAt}
 use Rattle.model.proofs.Lines.{equation-lines-rise, text-order-first}
 use Rattle.records.specs.Record.{Rec}
 use Rattle.program.specs.Program.{program}
-use Rattle.translator.specs.Verdict.{Verdict, refused, faulty, translated, ifFaults, fitted, programmed, modelled, verdictOf, numberOf}
+use Rattle.translator.specs.Verdict.{Verdict, refused, faulty, translated, ifFaults, fitted, programmed, modelled}
+use Rattle.translator.specs.Verdict.{verdictOf, numberOf}
 use Rattle.promises.specs.Change.{faultsOf}
 use Rattle.promises.specs.Ordering.{Unrefused, NoOrder, loopFault, NamesLoops, FirstOrder, Decided}
 use Rattle.promises.proofs.Verdicts.{not-given, by-faults}
@@ -49,7 +51,8 @@ module _ (text : List ℕ) (f p : ℕ) (w : Unrefused text f p) where
       let a = by-faults text f p (w .room) (w .size) in
       let next = modelled p (said (sheetOf text)) in
       let b = a ∙ no-faults-given 5 (faultsOf text) next (λ e. w .not-five (ap numberOf a ∙ e)) in
-      let c = not-given 6 (ltb mostDefinitions (length (textDefinitions text))) _ (λ e. w .not-six (ap numberOf b ∙ e)) in
+      let c =
+      not-given 6 (ltb mostDefinitions (length (textDefinitions text))) _ (λ e. w .not-six (ap numberOf b ∙ e)) in
       rw c at b
 
   -- no 21, no 22 and no 23: so it is 7 where a 24 stands, and else the program's
@@ -60,7 +63,8 @@ module _ (text : List ℕ) (f p : ℕ) (w : Unrefused text f p) where
 -- a program's verdict is 0 or 8
 fitted-number : (room : ℕ) (rs : List Rec) (ls : List ℕ) → numberOf (fitted room rs ls) ≡ 7 → ⊥
 fitted-number room rs ls =
-    cond-ind (λ (v : Verdict). numberOf v ≡ 7 → ⊥) (ltb mostRecords (length rs) || ltb (room / recordBytes) (length rs)) (refused 8) (translated rs ls)
+    cond-ind (λ (v : Verdict). numberOf v ≡ 7 → ⊥) (ltb mostRecords (length rs) || ltb (room / recordBytes) (length rs))
+    (refused 8) (translated rs ls)
     (λ _ e. omega arith) (λ _ e. omega arith)
 
 -- ---- the faults 24
@@ -93,7 +97,8 @@ module _ (ds : List Def) where
         rising = chosen-rises loops n 0;
         chains = λ i. (
           λ m. unsortable-iff n (usesIn ds) i .0 (chosen-passes loops n 0 i m .0),
-          λ u. chosen-all loops n 0 i (unsortable-iff n (usesIn ds) i .1 u) (omega arith) (omega (arith, chain-below i u)),
+          λ u. chosen-all loops n 0 i (unsortable-iff n (usesIn ds) i .1 u) (omega arith)
+              (omega (arith, chain-below i u)),
         );
         faults = faults-chosen;
       }
@@ -131,11 +136,13 @@ module _ (n : ℕ) (line : ℕ → ℕ) (up : (a b : ℕ) → b < n → a < b �
       ap₂ _∷_ s (same-lines q r (λ j m. h j (omega arith)) (λ j m. k j (omega arith)) t)
 
 -- two first orders of a text are one
-one-order : (text : List ℕ) (q r : List ℕ) → FirstOrder (textDefinitions text) q → FirstOrder (textDefinitions text) r → q ≡ r
+one-order : (text : List ℕ) (q r : List ℕ) → FirstOrder (textDefinitions text) q → FirstOrder (textDefinitions text) r
+    → q ≡ r
 one-order text q r f g =
     let ds = textDefinitions text in
     let n = equationCount ds in
-    same-lines n (lineAt ds) (equation-lines-rise text) q r (perm-below n (usesIn ds) q (f .good .perm)) (perm-below n (usesIn ds) r (g .good .perm))
+    same-lines n (lineAt ds) (equation-lines-rise text) q r (perm-below n (usesIn ds) q (f .good .perm))
+    (perm-below n (usesIn ds) r (g .good .perm))
     (≼-antisym (map (lineAt ds) q) (map (lineAt ds) r) (f .first r (g .good)) (g .first q (f .good)))
 
 -- ---- the demand
@@ -151,10 +158,12 @@ module _ (text : List ℕ) (f p : ℕ) (w : Unrefused text f p) where
   unordered none =
       let ds = textDefinitions text in
       by-loops text f p w
-      ∙ ⊎-elim (λ g. g 7 (programmed p ds)) (λ e. absurd (none (orderOf ds) (order-good ds e))) (some-or-none (faults24 ds))
+      ∙ ⊎-elim (λ g. g 7 (programmed p ds)) (λ e. absurd (none (orderOf ds) (order-good ds e)))
+      (some-or-none (faults24 ds))
 
   -- with one the program is written in the first
-  in-order : (r : List ℕ) → GoodOrder (textDefinitions text) r → verdictOf text f p ≡ programmed p (textDefinitions text)
+  in-order : (r : List ℕ) → GoodOrder (textDefinitions text) r
+      → verdictOf text f p ≡ programmed p (textDefinitions text)
   in-order r g = by-loops text f p w ∙ rw (no-loops (textDefinitions text) r g)
 
   -- DEMAND 2
@@ -163,7 +172,8 @@ module _ (text : List ℕ) (f p : ℕ) (w : Unrefused text f p) where
       let ds = textDefinitions text in
       record {
         exactly = (
-          λ e q g. fitted-number p (program ds (orderOf ds)) (map (lineAt ds) (orderOf ds)) (sym (ap numberOf (in-order q g)) ∙ e),
+          λ e q g. fitted-number p (program ds (orderOf ds)) (map (lineAt ds) (orderOf ds))
+              (sym (ap numberOf (in-order q g)) ∙ e),
           λ none. ap numberOf (unordered none),
         );
         named = λ none. (faults24 ds, unordered none, names-loops ds);

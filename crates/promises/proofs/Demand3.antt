@@ -19,14 +19,17 @@ use Rattle.deck.proofs.Seams.{lines-seam, lines-parts}
 use Rattle.sheet.specs.Sheet.{Told, says, faulty, Sheet, faultBy, statementFaults}
 use Rattle.sheet.specs.Reader.{told, sheetOf}
 use Rattle.translator.specs.Verdict.{verdictOf}
-use Rattle.promises.specs.Change.{textOf, Change, Admitted, linesIn, statementsOf, closedOf, FreshBehind, laterFault}
+use Rattle.promises.specs.Change.{textOf, Change, Admitted, linesIn, statementsOf, closedOf, FreshBehind}
+use Rattle.promises.specs.Change.{laterFault}
 use Rattle.promises.specs.Change.{Begin, Share, FrontKept, Afresh, TailKept, Undotted, Local}
 use Rattle.promises.proofs.Verdicts.{convicts}
 
--- ---- over lines: pre, and behind it x and q; reading is fresh before q, so what q says stands last, its numbers raised
+-- ---- over lines: pre, and behind it x and q; reading is fresh before q, so what q says stands last, its numbers
+-- raised
 reads-tail : (pre x q : List Line) → stateAfter fresh 1 (pre ++ x) ≡ fresh
     → reading fresh 1 (pre ++ (x ++ q))
-    ≡ closedIn fresh 1 pre ++ (closedIn (stateAfter fresh 1 pre) (1 + length pre) x ++ map (later (length (pre ++ x))) (reading fresh 1 q))
+    ≡ closedIn fresh 1 pre ++
+    (closedIn (stateAfter fresh 1 pre) (1 + length pre) x ++ map (later (length (pre ++ x))) (reading fresh 1 q))
 reads-tail pre x q e =
     let s = stateAfter fresh 1 pre in
     let n : (1 + length pre) + length x ≡ length (pre ++ x) + 1 = omega (arith, length-append pre x) in
@@ -56,11 +59,13 @@ module _ (pre run a q : List ℕ) (s : Seam pre (run ++ (a ++ q))) (t : Seam run
 
   -- all its lines
   lines-all : linesOf (textOf pre run (a ++ q)) ≡ linesOf pre ++ ((linesOf run ++ linesOf a) ++ linesOf q)
-  lines-all = lines-parts pre run a q s t u ∙ ap (λ ls. linesOf pre ++ ls) (sym (append-assoc (linesOf run) (linesOf a) (linesOf q)))
+  lines-all = lines-parts pre run a q s t u
+      ∙ ap (λ ls. linesOf pre ++ ls) (sym (append-assoc (linesOf run) (linesOf a) (linesOf q)))
 
   -- its statements, where reading is fresh before q
   statements-tail : FreshBehind (pre ++ (run ++ a))
-      → statementsOf (textOf pre run (a ++ q)) ≡ closedOf pre ++ (between pre run a ++ map (later (linesIn (pre ++ (run ++ a)))) (statementsOf q))
+      → statementsOf (textOf pre run (a ++ q))
+      ≡ closedOf pre ++ (between pre run a ++ map (later (linesIn (pre ++ (run ++ a)))) (statementsOf q))
   unfolding between
   statements-tail e =
       let x = linesOf run ++ linesOf a in
@@ -69,7 +74,8 @@ module _ (pre run a q : List ℕ) (s : Seam pre (run ++ (a ++ q))) (t : Seam run
 
   -- how many lines stand before q
   count-before : linesIn (pre ++ (run ++ a)) ≡ linesIn pre + (linesIn run + linesIn a)
-  count-before = ap length lines-before ∙ length-append (linesOf pre) _ ∙ ap (λ n. linesIn pre + n) (length-append (linesOf run) (linesOf a))
+  count-before = ap length lines-before ∙ length-append (linesOf pre) _
+      ∙ ap (λ n. linesIn pre + n) (length-append (linesOf run) (linesOf a))
 
   -- behind a line of a without closing dots reading is fresh
   fresh-there : Undotted a → FreshBehind (pre ++ (run ++ a))
@@ -80,8 +86,10 @@ module _ (pre run a q : List ℕ) (s : Seam pre (run ++ (a ++ q))) (t : Seam run
 
 -- the statements that pre closed stand first
 statements-front : (pre rest : List ℕ) → Seam pre rest
-    → statementsOf (pre ++ rest) ≡ closedOf pre ++ reading (stateAfter fresh 1 (linesOf pre)) (1 + linesIn pre) (linesOf rest)
-statements-front pre rest s = ap (reading fresh 1) (lines-seam pre rest s) ∙ reading-append fresh 1 (linesOf pre) (linesOf rest)
+    → statementsOf (pre ++ rest) ≡ closedOf pre ++ reading (stateAfter fresh 1 (linesOf pre)) (1 + linesIn pre)
+    (linesOf rest)
+statements-front pre rest s =
+    ap (reading fresh 1) (lines-seam pre rest s) ∙ reading-append fresh 1 (linesOf pre) (linesOf rest)
 
 -- ---- from statements to the sheet and to the faults: H makes a list of a list, part by part
 module _ {A B : Type 0} (H : List A → List B) (append : (x y : List A) → H (x ++ y) ≡ H x ++ H y) where
@@ -95,13 +103,15 @@ module _ {A B : Type 0} (H : List A → List B) (append : (x y : List A) → H (
         new = ap H (w .new) ∙ append front (w .rest-new);
       }
 
-  module _ (raise : ℕ → A → A) (lift : ℕ → B → B) (raised : (k : ℕ) (x : List A) → H (map (raise k) x) ≡ map (lift k) (H x)) where
+  module _ (raise : ℕ → A → A) (lift : ℕ → B → B)
+      (raised : (k : ℕ) (x : List A) → H (map (raise k) x) ≡ map (lift k) (H x)) where
     -- the three parts of a list
     parts : (x y z : List A) (k : ℕ) → H (x ++ (y ++ map (raise k) z)) ≡ H x ++ (H y ++ map (lift k) (H z))
     parts x y z k = append x _ ∙ ap (λ r. H x ++ r) (append y _ ∙ ap (λ r. H y ++ r) (raised k z))
 
     -- what is shared is made into what is shared
-    share-made : {front tail a b : List A} {m n : ℕ} → Share raise front tail m n a b → Share lift (H front) (H tail) m n (H a) (H b)
+    share-made : {front tail a b : List A} {m n : ℕ} → Share raise front tail m n a b
+        → Share lift (H front) (H tail) m n (H a) (H b)
     share-made {front} {tail} {a} {b} {m} {n} w =
         record {
           between-old = H (w .between-old);
@@ -187,7 +197,8 @@ module _ (pre old new a q : List ℕ) (c : Change pre old new (a ++ q)) (u : Sea
 
 -- DEMAND 3. Two texts that differ in one run of lines, neither refused for its size, with room for the fault list
 pub local : (pre old new post f p : List ℕ) → Change pre old new post → faultRoom ≤ length f
-    → Admitted (verdictOf (textOf pre old post) (length f) (length p)) → Admitted (verdictOf (textOf pre new post) (length f) (length p))
+    → Admitted (verdictOf (textOf pre old post) (length f) (length p))
+    → Admitted (verdictOf (textOf pre new post) (length f) (length p))
     → Local pre old new post f p
 local pre old new post f p c room ok ok′ =
     record {

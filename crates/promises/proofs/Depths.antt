@@ -1,4 +1,5 @@
--- The stack: inside d levels at most 3 + 4 · (16 - d) values stand at once, so 67 places suffice for every text; and one text fills them.
+-- The stack: inside d levels at most 3 + 4 · (16 - d) values stand at once, so 67 places suffice for every text; and
+-- one text fills them.
 use Prim.Native.Nat.{ℕ, zero, suc, _+_, _-_, _*_, _≤_, max}
 use mathlib.Core.Path.{_≡_, refl, sym, ap, _∙_}
 use mathlib.Core.Bool.{Bool, true, false}
@@ -96,7 +97,8 @@ unfolding concat-map
 equations-low [] h = tt
 equations-low (s ∷ ss) h = rw (parts s ss) (go (s .says) (h .0) (equations-low ss (h .1)))
   where
-    parts : (s : Numbered) (ss : List Numbered) → equations (definitions (s ∷ ss)) ≡ equations (definedBy (s .line) (s .says)) ++ equations (definitions ss)
+    parts : (s : Numbered) (ss : List Numbered)
+        → equations (definitions (s ∷ ss)) ≡ equations (definedBy (s .line) (s .says)) ++ equations (definitions ss)
     parts s ss = concat-append _ (definedBy (s .line) (s .says)) (definitions ss)
 
     go : (x : Says) → peakOf x ≤ stackPlaces → LowTrees (equations (definitions ss))
@@ -116,7 +118,8 @@ tree-low (e ∷ es) (suc i) h = tree-low es i (h .1)
 pub text-low : (text : List ℕ) (i : ℕ) → peak (equationAt (textDefinitions text) i .tree) ≤ stackPlaces
 unfolding sheetOf
 text-low text i =
-    tree-low (equations (textDefinitions text)) i (equations-low (said (sheetOf text)) (said-low (reading fresh 1 (linesOf text))))
+    tree-low (equations (textDefinitions text)) i
+    (equations-low (said (sheetOf text)) (said-low (reading fresh 1 (linesOf text))))
 
 -- ---- programs
 
@@ -135,7 +138,8 @@ level-concat f p [] = λ ys. omega arith
 level-concat f p (a ∷ l) = level-append (f a) (concat-map f l) (p a) (level-concat f p l)
 
 -- the last record takes the one value
-last-height : (ds : List Def) (b : Bool) (s : ℕ) (ys : List Instr) → highest (0 + 1) (lastInstr ds b s ∷ ys) ≡ max 1 (highest 0 ys)
+last-height : (ds : List Def) (b : Bool) (s : ℕ) (ys : List Instr)
+    → highest (0 + 1) (lastInstr ds b s ∷ ys) ≡ max 1 (highest 0 ys)
 unfolding highest
 last-height ds true s ys = refl
 last-height ds false s ys = refl
@@ -167,7 +171,8 @@ initial-level ds d (assigned e) ys = omega arith
 initial-level ds d (integral i e) ys = omega arith
 
 -- a program in any order, if all its trees are low
-program-level : (ds : List Def) (q : List ℕ) → ((i : ℕ) → peak (equationAt ds i .tree) ≤ stackPlaces) → Level (instrs (program ds q))
+program-level : (ds : List Def) (q : List ℕ) → ((i : ℕ) → peak (equationAt ds i .tree) ≤ stackPlaces)
+    → Level (instrs (program ds q))
 unfolding program
 program-level ds q low =
     let instr : Rec → Instr = λ (r : Rec). r .instr in
@@ -175,11 +180,15 @@ program-level ds q low =
     let b : List Rec = concat-map (λ (d : Def). initialRecs ds d (d .what)) ds in
     let c : List Rec = concat-map (λ (i : ℕ). equationRecs ds (equationAt ds i)) q in
     let each : (i : ℕ) → Level (instrs (equationRecs ds (equationAt ds i))) =
-    λ i. rw (instrs-rec (equationAt ds i .line) (code ds (equationAt ds i))) (code-level ds (equationAt ds i) (low i)) in
-    let la : Level (instrs a) = rw (map-concat instr _ ds) (level-concat _ (λ (d : Def). constant-level ds d (d .what)) ds) in
-    let lb : Level (instrs b) = rw (map-concat instr _ ds) (level-concat _ (λ (d : Def). initial-level ds d (d .what)) ds) in
+    λ i. rw (instrs-rec (equationAt ds i .line) (code ds (equationAt ds i)))
+    (code-level ds (equationAt ds i) (low i)) in
+    let la : Level (instrs a) =
+    rw (map-concat instr _ ds) (level-concat _ (λ (d : Def). constant-level ds d (d .what)) ds) in
+    let lb : Level (instrs b) =
+    rw (map-concat instr _ ds) (level-concat _ (λ (d : Def). initial-level ds d (d .what)) ds) in
     let lc : Level (instrs c) = rw (map-concat instr _ q) (level-concat _ each q) in
-    rw (map-append instr a (b ++ c), map-append instr b c) (level-append (instrs a) (instrs b ++ instrs c) la (level-append (instrs b) (instrs c) lb lc))
+    rw (map-append instr a (b ++ c), map-append instr b c)
+    (level-append (instrs a) (instrs b ++ instrs c) la (level-append (instrs b) (instrs c) lb lc))
 
 -- 67 PLACES SUFFICE for every text, whatever is lent
 pub enough : (text : List ℕ) (f p : ℕ) → heightOf (verdictOf text f p) ≤ stackPlaces
@@ -188,4 +197,5 @@ enough text f p =
     let ds = textDefinitions text in
     let xs = instrs (program ds (orderOf ds)) in
     let h : highest 0 (xs ++ []) ≤ max stackPlaces 0 = program-level ds (orderOf ds) (text-low text) [] in
-    verdict-ind (λ (v : Verdict). heightOf v ≤ stackPlaces) (λ n _. omega arith) (λ n x ys _. omega arith) text f p (rw append-nil at h)
+    verdict-ind (λ (v : Verdict). heightOf v ≤ stackPlaces) (λ n _. omega arith) (λ n x ys _. omega arith) text f p
+    (rw append-nil at h)

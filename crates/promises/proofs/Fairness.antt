@@ -1,4 +1,5 @@
--- The constants and the equations of a good order: each is worked out after all it reads, and no slot is worked out twice.
+-- The constants and the equations of a good order: each is worked out after all it reads, and no slot is worked out
+-- twice.
 use Prim.Native.Nat.{ℕ, _≤_, _<_}
 use mathlib.Core.Path.{_≡_, refl, sym, ap, _∙_}
 use mathlib.Core.Bool.{true, false}
@@ -14,7 +15,8 @@ use Rattle.laws.proofs.Counts.{count-append, count-cons-same, once-same}
 use Rattle.drafts.specs.Tree.{value, names}
 use Rattle.order.specs.Order.{EachAfter}
 use Rattle.order.proofs.Sorting.{after-front}
-use Rattle.model.specs.Definitions.{What, constant, assigned, integral, Def, keys, slotIn, Equation, equationAt, equationCount}
+use Rattle.model.specs.Definitions.{What, constant, assigned, integral, Def, keys, slotIn, Equation, equationAt}
+use Rattle.model.specs.Definitions.{equationCount}
 use Rattle.model.specs.Faults.{constantKey, constantKeys, usesIn}
 use Rattle.model.proofs.KeyPlaces.{Once, equationKeys, count-keys}
 use Rattle.promises.proofs.Settle.{assignedKeys, heldKeys, assigned-append, held-append, First, Fair}
@@ -37,7 +39,8 @@ fixed-one l k (integral i e) E ks a b = (a, b)
 fixed-keys : (es : List Def) → (assignedKeys (fixed es) ≡ constantKeys es) × (heldKeys (fixed es) ≡ [])
 unfolding concat-map assignedKeys heldKeys
 fixed-keys [] = (refl, refl)
-fixed-keys (a ∷ es) = let r = fixed-keys es in fixed-one (a .line) (a .key) (a .what) (fixed es) (constantKeys es) (r .0) (r .1)
+fixed-keys (a ∷ es) =
+    let r = fixed-keys es in fixed-one (a .line) (a .key) (a .what) (fixed es) (constantKeys es) (r .0) (r .1)
 
 module _ (ds : List Def) where
   abbrev slot : ℕ → ℕ
@@ -56,7 +59,8 @@ module _ (ds : List Def) where
 
   module _ (one : Once (keys ds)) where
     -- ---- the equations of a good order: f is placed, i is next, q follows
-    module _ (f : List ℕ) (i : ℕ) (q : List ℕ) (a : After (f ++ i ∷ q)) (c : Once (f ++ i ∷ q)) (b : Below (i ∷ q)) where
+    module _ (f : List ℕ) (i : ℕ) (q : List ℕ) (a : After (f ++ i ∷ q)) (c : Once (f ++ i ∷ q))
+        (b : Below (i ∷ q)) where
       -- i is an equation
       hi : i < equationCount ds
       hi = b i (omega (arith, count-cons-same i q))
@@ -113,7 +117,8 @@ module _ (ds : List Def) where
           let y : k ∈ equationKeys ds = rw e at (eq-in ds one i (b i m)) in
           omega (arith, one k, count-keys k ds)
 
-      module _ (k : ℕ) (x : Float) (es : List Def) (c : (j : ℕ) → count j (k ∷ constantKeys es) ≤ count j (constantKeys ds)) (l : ℕ) where
+      module _ (k : ℕ) (x : Float) (es : List Def)
+          (c : (j : ℕ) → count j (k ∷ constantKeys es) ≤ count j (constantKeys ds)) (l : ℕ) where
         -- its key is a constant's, and no later constant has it
         mine : (k ∈ constantKeys ds) × (k ∈ keys ds) × (count k (constantKeys es) ≡ 0)
         unfolding count
@@ -132,14 +137,16 @@ module _ (ds : List Def) where
               apart =
                   λ j h e.
                   let s : j ≡ k = own ds one j k (mine .1) e in
-                  let h′ : k ∈ assignedKeys (fixed es) ++ assignedKeys (map eqn q) = rw (s, assigned-append (fixed es) (map eqn q)) at h in
+                  let h′ : k ∈ assignedKeys (fixed es) ++ assignedKeys (map eqn q) =
+                  rw (s, assigned-append (fixed es) (map eqn q)) at h in
                   ⊎-elim (λ z. omega (arith, mine .2, rw (fixed-keys es .0) at z))
                   (λ z. let r = from-assigned ds q k z in no-equation k (mine .0) (r .0) (r .1) (r .3))
                   (in-either k (assignedKeys (fixed es)) (assignedKeys (map eqn q)) h′);
               alone =
                   λ j h e.
                   let s : j ≡ k = own ds one j k (mine .1) e in
-                  let h′ : k ∈ heldKeys (fixed es) ++ heldKeys (map eqn q) = rw (s, held-append (fixed es) (map eqn q)) at h in
+                  let h′ : k ∈ heldKeys (fixed es) ++ heldKeys (map eqn q) =
+                  rw (s, held-append (fixed es) (map eqn q)) at h in
                   let r = from-held ds q k (rw (fixed-keys es .1) at h′) in
                   no-equation k (mine .0) (r .0) (r .1) (r .3);
               timeless = λ j h e. omega arith;
@@ -147,20 +154,23 @@ module _ (ds : List Def) where
             }
 
       -- one definition more in front
-      fair-constant : (l k : ℕ) (w : What) (es : List Def) → ((j : ℕ) → count j (constantKey k w ++ constantKeys es) ≤ count j (constantKeys ds))
+      fair-constant : (l k : ℕ) (w : What) (es : List Def)
+          → ((j : ℕ) → count j (constantKey k w ++ constantKeys es) ≤ count j (constantKeys ds))
           → Fair slot (fixed es ++ map eqn q) → Fair slot ((asEquation l k w ++ fixed es) ++ map eqn q)
       fair-constant l k (constant x) es c f = (first-constant k x es c l, f)
       fair-constant l k (assigned e) es c f = f
       fair-constant l k (integral i e) es c f = f
 
       -- so it is with all of them
-      fair-constants : (es : List Def) → ((j : ℕ) → count j (constantKeys es) ≤ count j (constantKeys ds)) → Fair slot (map eqn q)
+      fair-constants : (es : List Def) → ((j : ℕ) → count j (constantKeys es) ≤ count j (constantKeys ds))
+          → Fair slot (map eqn q)
           → Fair slot (fixed es ++ map eqn q)
       unfolding concat-map
       fair-constants [] c f = f
       fair-constants (a ∷ es) c f =
           fair-constant (a .line) (a .key) (a .what) es c
-          (fair-constants es (λ j. omega (arith, c j, count-append j (constantKey (a .key) (a .what)) (constantKeys es))) f)
+          (fair-constants es
+          (λ j. omega (arith, c j, count-append j (constantKey (a .key) (a .what)) (constantKeys es))) f)
 
       -- ALL of it is fair
       pub fair-all : After q → Once q → Fair slot (fixed ds ++ map eqn q)
@@ -170,8 +180,10 @@ module _ (ds : List Def) where
       pub assigned-from : (j : ℕ) → j ∈ assignedKeys (fixed ds ++ map eqn q)
           → (j ∈ constantKeys ds) ⊎ ((i : ℕ) × (i < equationCount ds) × (eqn i .held ≡ false) × (eqn i .key ≡ j))
       assigned-from j h =
-          ⊎-elim (λ z. inl (rw (fixed-keys ds .0) at z)) (λ z. let r = from-assigned ds q j z in inr (r .0, b (r .0) (r .1), r .2, r .3))
-          (in-either j (assignedKeys (fixed ds)) (assignedKeys (map eqn q)) (rw (assigned-append (fixed ds) (map eqn q)) at h))
+          ⊎-elim (λ z. inl (rw (fixed-keys ds .0) at z))
+          (λ z. let r = from-assigned ds q j z in inr (r .0, b (r .0) (r .1), r .2, r .3))
+          (in-either j (assignedKeys (fixed ds)) (assignedKeys (map eqn q))
+          (rw (assigned-append (fixed ds) (map eqn q)) at h))
 
       -- a state's key is that of its equation
       pub held-from : (j : ℕ) → j ∈ heldKeys (fixed ds ++ map eqn q)

@@ -10,7 +10,8 @@ use lib.Ieee.{Float}
 use Rattle.limits.specs.Limits.{stackPlaces}
 use Rattle.records.specs.declared.Instr.{Instr}
 use Rattle.evaluator.specs.Machine.{Machine}
-use Rattle.evaluator.specs.Judge.{takes, gives, phaseOf, slotFine, marked, Judge, good, judged, anyOpen, answer, judgeFrom}
+use Rattle.evaluator.specs.Judge.{takes, gives, phaseOf, slotFine, marked, Judge, good, judged, anyOpen, answer}
+use Rattle.evaluator.specs.Judge.{judgeFrom}
 
 -- the machine with these working values, values and derivatives
 abbrev pub machine : List Float → List Float → List Float → Machine
@@ -31,18 +32,28 @@ leads-append j k l [] ys a b = subst (λ (m : Judge). Leads m ys l) (sym a) b
 leads-append j k l (x ∷ xs) ys a b = (a .0, leads-append (judged j x) k l xs ys (a .1) b)
 
 -- one good record
-pub leads-one : (j : Judge) (x : Instr) → takes x ≤ j .height → j .height - takes x + gives x ≤ stackPlaces → j .phase ≤ phaseOf x
+pub leads-one : (j : Judge) (x : Instr) → takes x ≤ j .height → j .height - takes x + gives x ≤ stackPlaces
+    → j .phase ≤ phaseOf x
     → slotFine (j .marks) (j .height) x ≡ true → Leads j (x ∷ []) (judged j x)
 unfolding good
-leads-one j x a b c d =
-    (rw (le-leb (takes x) (j .height) a, le-leb (j .height - takes x + gives x) stackPlaces b, le-leb (j .phase) (phaseOf x) c, d), refl)
+leads-one j x a b c d = (
+  rw (
+    le-leb (takes x) (j .height) a,
+    le-leb (j .height - takes x + gives x) stackPlaces b,
+    le-leb (j .phase) (phaseOf x) c,
+    d,
+  ),
+  refl,
+)
 
 -- .. that works on the stack alone
-pub leads-op : (x : Instr) (p h g : ℕ) (l : List ℕ) → phaseOf x ≡ 3 → slotFine l h x ≡ true → marked l x ≡ l → takes x ≤ h
+pub leads-op : (x : Instr) (p h g : ℕ) (l : List ℕ) → phaseOf x ≡ 3 → slotFine l h x ≡ true → marked l x ≡ l
+    → takes x ≤ h
     → h - takes x + gives x ≡ g → g ≤ stackPlaces → p ≤ 3 → Leads (judgeAt p h l) (x ∷ []) (judgeAt 3 g l)
 leads-op x p h g l a b c d e f m =
     let q : judged (judgeAt p h l) x ≡ judgeAt 3 g l = rw (a, c, e) in
-    subst (λ (k : Judge). Leads (judgeAt p h l) (x ∷ []) k) q (leads-one (judgeAt p h l) x d (omega arith) (omega arith) b)
+    subst (λ (k : Judge). Leads (judgeAt p h l) (x ∷ []) k) q
+    (leads-one (judgeAt p h l) x d (omega arith) (omega arith) b)
 
 -- a program that leads to an empty stack and no open state is accepted
 pub leads-accepted : (i : ℕ) (j k : Judge) (xs : List Instr) → Leads j xs k → k .height ≡ 0 → anyOpen (k .marks) ≡ false

@@ -1,4 +1,5 @@
--- Faults 18 and 19 of a row of tokens and of a statement of a text: each exactly where the paper says, and one meaning for each row.
+-- Faults 18 and 19 of a row of tokens and of a statement of a text: each exactly where the paper says, and one meaning
+-- for each row.
 use Prim.Native.Nat.{ℕ, suc, _+_, _≤_}
 use mathlib.Core.Path.{_≡_, refl, sym, ap, subst, _∙_}
 use mathlib.Core.Bool.{Bool}
@@ -35,8 +36,10 @@ whole-front {d} {x} row i a = record { behind = drop i row; says = x; derived = 
 shorter : {d : ℕ} (row : List Symbol) (i j : ℕ) → i ≤ j → Front d (take j row) → Front d (take i row)
 shorter {d} row i j le a =
     let r : List Symbol = drop i (take j row) in
-    let q : take j row ≡ take i row ++ r = sym (take-append-drop i (take j row)) ∙ ap (λ (z : List Symbol). z ++ r) (take-take i j row le) in
-    let b : Derives d ((take i row ++ r) ++ a .behind) (a .says) = subst (λ (z : List Symbol). Derives d (z ++ a .behind) (a .says)) q (a .derived) in
+    let q : take j row ≡ take i row ++ r =
+    sym (take-append-drop i (take j row)) ∙ ap (λ (z : List Symbol). z ++ r) (take-take i j row le) in
+    let b : Derives d ((take i row ++ r) ++ a .behind) (a .says) =
+    subst (λ (z : List Symbol). Derives d (z ++ a .behind) (a .says)) q (a .derived) in
     record { behind = r ++ a .behind; says = a .says; derived = rw append-assoc at b }
 
 -- ---- a row
@@ -47,7 +50,14 @@ module _ (row : List Symbol) where
     where
       go : (c : ℕ) → Meaning row c i → c ≡ 18 → Eighteen row i
       go c (wrong W f) e =
-          record { within = W .within; depth = suc levels; begun = W .before; no-further = W .no-more; none = λ _. W .not-whole; earlier = f }
+          record {
+            within = W .within;
+            depth = suc levels;
+            begun = W .before;
+            no-further = W .no-more;
+            none = λ _. W .not-whole;
+            earlier = f;
+          }
       go c (deep T f) e = absurd (let z : ⊥ = omega arith in z)
 
   -- the same of 19
@@ -65,7 +75,8 @@ module _ (row : List Symbol) where
       let k = W .within in
       ⊎-elim (λ l. absurd (W .no-more (omega arith) (E .depth) (shorter row (j + 1) i (omega arith) (E .begun))))
       (λ g.
-      ⊎-elim (λ l. absurd (E .no-further (omega arith) (suc levels) (shorter row (i + 1) j (omega arith) (W .before)))) (λ g′. omega arith)
+      ⊎-elim (λ l. absurd (E .no-further (omega arith) (suc levels) (shorter row (i + 1) j (omega arith) (W .before))))
+      (λ g′. omega arith)
       (lt-or-ge i j))
       (lt-or-ge j i)
 
@@ -73,13 +84,15 @@ module _ (row : List Symbol) where
   no-statement : (i : ℕ) (x : Says) → Eighteen row i → Derives levels row x → ⊥
   no-statement i x E a =
       let h = E .within in
-      ⊎-elim (λ l. E .no-further l levels (whole-front row (i + 1) a)) (λ g. E .none (omega arith) levels x a) (lt-or-ge i (length row))
+      ⊎-elim (λ l. E .no-further l levels (whole-front row (i + 1) a)) (λ g. E .none (omega arith) levels x a)
+      (lt-or-ge i (length row))
 
   -- and no opening is too deep there or behind
   no-opening : (i j : ℕ) → Eighteen row i → TooDeep row j → ⊥
   no-opening i j E T =
       let h = T .within in
-      ⊎-elim (λ l. E .earlier j l T) (λ g. E .no-further (omega arith) (suc levels) (shorter row (i + 1) (j + 1) (omega arith) (T .allowed)))
+      ⊎-elim (λ l. E .earlier j l T)
+      (λ g. E .no-further (omega arith) (suc levels) (shorter row (i + 1) (j + 1) (omega arith) (T .allowed)))
       (lt-or-ge j i)
 
   -- so that is what the parser answers
@@ -122,14 +135,16 @@ module _ (row : List Symbol) where
       record {
         statement = accepts row;
         eighteen = λ i. (λ e. to-eighteen i (exactly row 18 i .0 e), from-eighteen i);
-        nineteen = λ i. (λ e. to-nineteen i (exactly row 19 i .0 e), λ n. exactly row 19 i .1 (deep (n .deep) (n .earlier)));
+        nineteen =
+            λ i. (λ e. to-nineteen i (exactly row 19 i .0 e), λ n. exactly row 19 i .1 (deep (n .deep) (n .earlier)));
         no-other = λ c i e. two-codes c i (exactly row c i .0 e);
         seventeen = λ i E. known i E .before;
         sixteen = λ i E. known i E .before-calm;
         one = one-statement;
       }
 
--- the exception stands: as many openings as levels and then a function's name begin a statement with 17 levels and none with 16
+-- the exception stands: as many openings as levels and then a function's name begin a statement with 17 levels and none
+-- with 16
 pub exception : Front (suc levels) (deepest levels) × (Front levels (deepest levels) → ⊥)
 exception = (loose levels, tight levels)
 
@@ -141,7 +156,8 @@ parsed-says ps (read y) x e = cc
 parsed-says ps (fault c i) x e = absurd (let z : _≡_ {A = ℕ} 0 1 = cc in omega arith)
 
 -- a fault was found at a token
-parsed-faulty : (ps : List Placed) (r : Read) (c : ℕ) (p : Place) → parsed ps r ≡ faulty c p → (i : ℕ) × (r ≡ fault c i) × (p ≡ placeOf ps i)
+parsed-faulty : (ps : List Placed) (r : Read) (c : ℕ) (p : Place) → parsed ps r ≡ faulty c p
+    → (i : ℕ) × (r ≡ fault c i) × (p ≡ placeOf ps i)
 parsed-faulty ps (read y) c p e = absurd (let z : _≡_ {A = ℕ} 0 1 = cc in omega arith)
 parsed-faulty ps (fault b i) c p e = let z : b ≡ c = cc in (i, ap (λ (k : ℕ). fault k i) z, (cc))
 
@@ -158,10 +174,12 @@ module _ (cards : List Line) (closed : Bool) where
   found w c p e =
       let m = means (symbols (tokensOf cards)) in
       let f = parsed-faulty (tokensOf cards) (readRow (symbols (tokensOf cards))) c p (sym (by-grammar w) ∙ e) in
-      let with-code : (b : ℕ) → c ≡ b → readRow (symbols (tokensOf cards)) ≡ fault b (f .0) = λ b z. f .1 ∙ ap (λ (k : ℕ). fault k (f .0)) z in (
+      let with-code : (b : ℕ) → c ≡ b → readRow (symbols (tokensOf cards)) ≡ fault b (f .0) =
+      λ b z. f .1 ∙ ap (λ (k : ℕ). fault k (f .0)) z in (
         f .0,
         f .2,
-        ⊎-elim (λ z. inl (z, m .eighteen (f .0) .0 (with-code 18 z))) (λ z. inr (z, m .nineteen (f .0) .0 (with-code 19 z))) (m .no-other c (f .0) (f .1)),
+        ⊎-elim (λ z. inl (z, m .eighteen (f .0) .0 (with-code 18 z)))
+            (λ z. inr (z, m .nineteen (f .0) .0 (with-code 19 z))) (m .no-other c (f .0) (f .1)),
       )
 
   -- WHAT A STATEMENT MEANS

@@ -3,7 +3,8 @@ use Prim.Native.Nat.{ℕ, _+_, _-_, _≤_, max}
 use mathlib.Core.Path.{_≡_, refl, _∙_}
 use mathlib.Core.List.{List, [], _∷_, _++_, map, append-assoc, map-append}
 use native.Mathlib.Omega.{arith}
-use Rattle.drafts.specs.Tree.{Two, plus, minus, times, over, compar, Three, insw, limit, Tree, value, named, time, negated, two, three}
+use Rattle.drafts.specs.Tree.{Two, plus, minus, times, over, compar, Three, insw, limit, Tree, value, named, time}
+use Rattle.drafts.specs.Tree.{negated, two, three}
 use Rattle.drafts.specs.Items.{postfix}
 use Rattle.grammar.proofs.Stack.{peak}
 use Rattle.records.specs.declared.Instr.{Instr}
@@ -29,7 +30,8 @@ peak-some (two o a b) = omega (arith, peak-some a)
 peak-some (three o a b c) = omega (arith, peak-some a)
 
 -- an instruction that takes k of h + k values and gives one
-taken : (x : Instr) (k h n : ℕ) (xs : List Instr) → takes x ≡ k → gives x ≡ 1 → n ≡ h + k → highest n (x ∷ xs) ≡ max n (highest (h + 1) xs)
+taken : (x : Instr) (k h n : ℕ) (xs : List Instr) → takes x ≡ k → gives x ≡ 1 → n ≡ h + k
+    → highest n (x ∷ xs) ≡ max n (highest (h + 1) xs)
 unfolding highest
 taken x k h n xs t g e =
     let m : n - takes x + gives x ≡ h + 1 = omega arith in
@@ -49,15 +51,18 @@ takes-three insw = (refl, refl)
 takes-three limit = (refl, refl)
 
 -- three operands, each above those before it
-three-peaks : (h a b c m : ℕ) → max (h + a) (max (h + 1 + b) (max (h + 1 + 1 + c) m)) ≡ max (h + max a (max (1 + b) (2 + c))) m
+three-peaks : (h a b c m : ℕ) → max (h + a) (max (h + 1 + b) (max (h + 1 + 1 + c) m))
+    ≡ max (h + max a (max (1 + b) (2 + c))) m
 three-peaks h a b c m = omega arith
 
 module _ (slot : ℕ → ℕ) where
   -- what stands while a tree runs above h values, and then the rest
-  pub tree-height : (e : Tree) (h : ℕ) (xs : List Instr) → highest h (map (instrItem slot) (postfix e) ++ xs) ≡ max (h + peak e) (highest (h + 1) xs)
+  pub tree-height : (e : Tree) (h : ℕ) (xs : List Instr)
+      → highest h (map (instrItem slot) (postfix e) ++ xs) ≡ max (h + peak e) (highest (h + 1) xs)
   unfolding postfix peak
   tree-height (value x) h xs = taken (Value x) 0 h h xs refl refl (omega arith) ∙ omega (arith, from-start (h + 1) xs)
-  tree-height (named k) h xs = taken (Slot (slot k)) 0 h h xs refl refl (omega arith) ∙ omega (arith, from-start (h + 1) xs)
+  tree-height (named k) h xs =
+      taken (Slot (slot k)) 0 h h xs refl refl (omega arith) ∙ omega (arith, from-start (h + 1) xs)
   tree-height time h xs = taken (Slot 0) 0 h h xs refl refl (omega arith) ∙ omega (arith, from-start (h + 1) xs)
   tree-height (negated a) h xs =
       let p = tree-height a h (Neg ∷ xs) in
@@ -77,6 +82,8 @@ module _ (slot : ℕ → ℕ) where
       let r = tree-height c (h + 1 + 1) (x ∷ xs) in
       let z : highest (h + 1 + 1 + 1) (x ∷ xs) ≡ max (h + 1 + 1 + 1) (highest (h + 1) xs) =
       taken x 3 h (h + 1 + 1 + 1) xs (takes-three o .0) (takes-three o .1) (omega arith) in
-      let last : max (h + 1 + 1 + peak c) (highest (h + 1 + 1 + 1) (x ∷ xs)) ≡ max (h + 1 + 1 + peak c) (highest (h + 1) xs) =
+      let last : max (h + 1 + 1 + peak c) (highest (h + 1 + 1 + 1) (x ∷ xs))
+      ≡ max (h + 1 + 1 + peak c) (highest (h + 1) xs) =
       rw z (omega (arith, peak-some c)) in
-      simp (map-append, append-assoc) (p ∙ rw (q, r, last) (three-peaks h (peak a) (peak b) (peak c) (highest (h + 1) xs)))
+      simp (map-append, append-assoc) (p
+      ∙ rw (q, r, last) (three-peaks h (peak a) (peak b) (peak c) (highest (h + 1) xs)))

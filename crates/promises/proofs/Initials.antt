@@ -29,12 +29,14 @@ valued-later : (d : Def) (ds : List Def) (k : ℕ) (y : Float) → Valued ds k y
 valued-later d ds k y r = (suc (r .0), omega (arith, r .1), r .2, r .3)
 
 -- by what its name is
-valued-first : (d : Def) (w : What) (ds : List Def) (k : ℕ) → d .what ≡ w → k ∈ constantKey (d .key) w ++ constantKeys ds
+valued-first : (d : Def) (w : What) (ds : List Def) (k : ℕ) → d .what ≡ w
+    → k ∈ constantKey (d .key) w ++ constantKeys ds
     → (k ∈ constantKeys ds → Valued ds k (valueIn ds k)) → Valued (d ∷ ds) k (constantValue k (d .key) w (valueIn ds k))
 unfolding count
 valued-first d (constant x) ds k e h f =
     ⊎-elim (λ (q : k ≡ d .key). rw (eq-eqb k (d .key) q) (0, omega arith, sym q, e))
-    (λ q. rw (ne-eqb k (d .key) q) (valued-later d ds k (valueIn ds k) (f (omega (arith, once-other k (d .key) q))))) (eq-or-ne k (d .key))
+    (λ q. rw (ne-eqb k (d .key) q) (valued-later d ds k (valueIn ds k) (f (omega (arith, once-other k (d .key) q)))))
+    (eq-or-ne k (d .key))
 valued-first d (assigned t) ds k e h f = valued-later d ds k (valueIn ds k) (f h)
 valued-first d (integral n t) ds k e h f = valued-later d ds k (valueIn ds k) (f h)
 

@@ -8,14 +8,19 @@ use lib.Ieee.Fits.{cond-fits, neg-fits}
 use Rattle.laws.specs.Every.{Every}
 use Rattle.laws.proofs.Every.{every-left, every-right}
 use Rattle.laws.proofs.Tests.{cond-ind}
-use Rattle.tokens.specs.Symbol.{CONST, PARAM, INCON, INTGRL, TIME, INSW, LIMIT, COMPAR, Symbol, mark, number, name, word}
-use Rattle.drafts.specs.Tree.{Two, plus, minus, times, over, compar, Tree, value, named, time, negated, two, three, Constant, Initial, plain, from}
+use Rattle.tokens.specs.Symbol.{CONST, PARAM, INCON, INTGRL, TIME, INSW, LIMIT, COMPAR, Symbol, mark, number, name}
+use Rattle.tokens.specs.Symbol.{word}
+use Rattle.drafts.specs.Tree.{Two, plus, minus, times, over, compar, Tree, value, named, time, negated, two, three}
+use Rattle.drafts.specs.Tree.{Constant, Initial, plain, from}
 use Rattle.drafts.specs.Tree.{Says, constants, assignment, state}
-use Rattle.grammar.specs.Look.{op, isMinus, signed, Opening, group, pair, pair-of, triple, triple-of, triple-of-two, Given, whole, wants, give-to}
+use Rattle.grammar.specs.Look.{op, isMinus, signed, Opening, group, pair, pair-of, triple, triple-of, triple-of-two}
+use Rattle.grammar.specs.Look.{Given, whole, wants, give-to}
 use Rattle.grammar.specs.Look.{Shape, Leaf, Paren, Call, NoFactor, shapeOf}
 use Rattle.grammar.specs.Grammar.{Mode, expr, term, factor, terms, factors, opened, list}
-use Rattle.grammar.specs.Grammar.{Der, unsigned, sign, no-terms, add, a-term, no-factors, mul, a-leaf, grouped, called, opening, last, comma}
-use Rattle.grammar.specs.Grammar.{Signed, unsigned-number, signed-number, Many, one, more, Initially, of-number, of-name}
+use Rattle.grammar.specs.Grammar.{Der, unsigned, sign, no-terms, add, a-term, no-factors, mul, a-leaf, grouped, called}
+use Rattle.grammar.specs.Grammar.{opening, last, comma}
+use Rattle.grammar.specs.Grammar.{Signed, unsigned-number, signed-number, Many, one, more, Initially, of-number}
+use Rattle.grammar.specs.Grammar.{of-name}
 use Rattle.grammar.specs.Grammar.{Derives, of-constants, of-assignment, of-state}
 use Rattle.promises.proofs.Decoding.{Double}
 
@@ -121,11 +126,13 @@ as-shape : (t : Symbol) {h : Shape} → shapeOf t ≡ h → DoubleToken t → Do
 as-shape t q h = subst DoubleShape q (double-shape t h)
 
 -- of tokens that are doubles a tree of doubles
-double-tree : {m : Mode} {d : ℕ} {w : List Symbol} {e : Tree} → Der m d w e → Every DoubleToken w → DoubleMode m → Doubles e
+double-tree : {m : Mode} {d : ℕ} {w : List Symbol} {e : Tree} → Der m d w e → Every DoubleToken w → DoubleMode m
+    → Doubles e
 double-tree (unsigned {w = w} {v = v} a b) r p =
     double-tree b (every-right DoubleToken w v r) (double-tree a (every-left DoubleToken w v r) tt)
 double-tree (sign {o = o} {w = w} {v = v} {e = e} h a b) r p =
-    double-tree b (every-right DoubleToken w v (r .1)) (double-signed o e (double-tree a (every-left DoubleToken w v (r .1)) tt))
+    double-tree b (every-right DoubleToken w v (r .1))
+    (double-signed o e (double-tree a (every-left DoubleToken w v (r .1)) tt))
 double-tree no-terms r p = p
 double-tree (add {w = w} {v = v} h a b) r p =
     double-tree b (every-right DoubleToken w v (r .1)) (p, double-tree a (every-left DoubleToken w v (r .1)) tt)
@@ -147,13 +154,17 @@ double-tree (comma {p = q} {w = w} {v = v} {e = e} h a b) r p =
 -- ---- statements
 double-signed-number : {w : List Symbol} {x : Float} → Signed w x → Every DoubleToken w → Double x
 double-signed-number unsigned-number r = r .0
-double-signed-number (signed-number {o = o} {x = x} h) r = cond-fits binary64 (isMinus o) (neg x) x (neg-fits binary64 x (r .1 .0)) (r .1 .0)
+double-signed-number (signed-number {o = o} {x = x} h) r = cond-fits binary64 (isMinus o) (neg x) x
+    (neg-fits binary64 x (r .1 .0)) (r .1 .0)
 
 -- constants
-double-many : {w : List Symbol} {cs : List Constant} → Many w cs → Every DoubleToken w → Every (λ (c : Constant). Double (c .worth)) cs
+double-many : {w : List Symbol} {cs : List Constant} → Many w cs → Every DoubleToken w
+    → Every (λ (c : Constant). Double (c .worth)) cs
 double-many (one a) r = (double-signed-number a (r .1 .1), tt)
-double-many (more {w = w} {s = s} a b) r =
-    (double-signed-number a (every-left DoubleToken w (mark 44 ∷ s) (r .1 .1)), double-many b (every-right DoubleToken w (mark 44 ∷ s) (r .1 .1) .1))
+double-many (more {w = w} {s = s} a b) r = (
+  double-signed-number a (every-left DoubleToken w (mark 44 ∷ s) (r .1 .1)),
+  double-many b (every-right DoubleToken w (mark 44 ∷ s) (r .1 .1) .1),
+)
 
 -- initials
 double-initially : {w : List Symbol} {i : Initial} → Initially w i → Every DoubleToken w → DoubleInitial i
@@ -166,5 +177,7 @@ double-says (of-constants h a) r = double-many a (r .1)
 double-says (of-assignment a) r = double-tree a (r .1 .1) tt
 double-says (of-state {w = w} {v = v} a b) r =
     let t = mark 44 ∷ (v ++ mark 41 ∷ []) in
-    let q = r .1 .1 .1 .1 in
-    (double-initially a (every-left DoubleToken w t q), double-tree b (every-left DoubleToken v (mark 41 ∷ []) (every-right DoubleToken w t q .1)) tt)
+    let q = r .1 .1 .1 .1 in (
+      double-initially a (every-left DoubleToken w t q),
+      double-tree b (every-left DoubleToken v (mark 41 ∷ []) (every-right DoubleToken w t q .1)) tt,
+    )

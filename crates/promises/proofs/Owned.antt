@@ -15,10 +15,13 @@ use Rattle.laws.proofs.Counts.{count-append, once-same, once-other, has-true}
 use Rattle.laws.proofs.Concats.{none-left}
 use Rattle.laws.proofs.Members.{at-in}
 use Rattle.drafts.specs.Tree.{names}
-use Rattle.model.specs.Definitions.{What, constant, assigned, integral, Def, keys, placeIn, slotIn, Equation, equationOf, equations, noEquation}
+use Rattle.model.specs.Definitions.{What, constant, assigned, integral, Def, keys, placeIn, slotIn, Equation}
+use Rattle.model.specs.Definitions.{equationOf, equations, noEquation}
 use Rattle.model.specs.Definitions.{equationAt, equationCount}
-use Rattle.model.specs.Faults.{initialNames, namedBy, initialOf, constantKey, constantKeys, within, nameFault, nameFaults, GoodOrder}
-use Rattle.model.proofs.KeyPlaces.{Once, place-in, place-at, place-same, place-of-at, at-same, equationKeys, count-keys, key-at}
+use Rattle.model.specs.Faults.{initialNames, namedBy, initialOf, constantKey, constantKeys, within, nameFault}
+use Rattle.model.specs.Faults.{nameFaults, GoodOrder}
+use Rattle.model.proofs.KeyPlaces.{Once, place-in, place-at, place-same, place-of-at, at-same, equationKeys, count-keys}
+use Rattle.model.proofs.KeyPlaces.{key-at}
 use Rattle.model.proofs.NoModelFault.{no-name-fault}
 use Rattle.promises.specs.Meaning.{noDef, definitionAt}
 use Rattle.promises.proofs.Settle.{ifAssigned, ifHeld, assignedKeys, heldKeys}
@@ -39,8 +42,11 @@ locate [] i x h e = absurd (omega arith)
 locate (d ∷ ds) zero x h e = rw e (0, omega arith, refl)
 locate (d ∷ ds) (suc i) x h e =
     let p = ownEquation d in
-    let r = locate ds i x (omega arith) e in
-    (length p + r .0, omega (arith, r .1, length-append p (equations ds)), getD-append-add p (equations ds) (r .0) noEquation ∙ r .2)
+    let r = locate ds i x (omega arith) e in (
+      length p + r .0,
+      omega (arith, r .1, length-append p (equations ds)),
+      getD-append-add p (equations ds) (r .0) noEquation ∙ r .2,
+    )
 
 -- what is a constant has its key among theirs
 pub constant-key : (ds : List Def) (i : ℕ) (x : Float) → i < length ds → definitionAt ds i .what ≡ constant x
@@ -49,7 +55,12 @@ unfolding concat-map count
 constant-key [] i x h e = absurd (omega arith)
 constant-key (d ∷ ds) zero x h e = rw e (omega (arith, once-same (d .key)))
 constant-key (d ∷ ds) (suc i) x h e =
-    omega (arith, constant-key ds i x (omega arith) e, count-append (definitionAt ds i .key) (constantKey (d .key) (d .what)) (constantKeys ds))
+    omega (
+      arith,
+      constant-key ds i x (omega arith) e,
+      count-append (definitionAt ds i .key) (constantKey (d .key) (d .what))
+          (constantKeys ds),
+    )
 
 -- ---- 22: what an equation names is defined
 
@@ -59,12 +70,14 @@ unfolding within count
 within-in [] l e k h = absurd (omega arith)
 within-in (a ∷ ks) l e k h =
     let p = and-true (has a l) (within ks l) e in
-    ⊎-elim (λ (q : k ≡ a). rw q (has-true a l (p .0))) (λ q. within-in ks l (p .1) k (omega (arith, once-other k a q))) (eq-or-ne k a)
+    ⊎-elim (λ (q : k ≡ a). rw q (has-true a l (p .0))) (λ q. within-in ks l (p .1) k (omega (arith, once-other k a q)))
+    (eq-or-ne k a)
 
 -- what the equations name, with one more before them
 named-one : (P : ℕ → Type 0) (l k : ℕ) (w : What) (es : List Equation) → ((n : ℕ) → n ∈ namedBy w → P n)
     → ((j : ℕ) → j < length es → (n : ℕ) → n ∈ names (getD es j noEquation .tree) → P n)
-    → (j : ℕ) → j < length (equationOf l k w ++ es) → (n : ℕ) → n ∈ names (getD (equationOf l k w ++ es) j noEquation .tree) → P n
+    → (j : ℕ) → j < length (equationOf l k w ++ es) → (n : ℕ)
+    → n ∈ names (getD (equationOf l k w ++ es) j noEquation .tree) → P n
 unfolding count
 named-one P l k (constant x) es a b j h n m = b j h n m
 named-one P l k (assigned t) es a b zero h n m = a n m
@@ -78,22 +91,26 @@ pub names-known : (ds es : List Def) → nameFaults ds es ≡ [] → (j : ℕ) �
 unfolding concat-map
 names-known ds [] e j h k m = absurd (omega arith)
 names-known ds (d ∷ es) e j h k m =
-    let fault = nameFault (within (namedBy (d .what)) (keys ds)) (within (initialOf (d .what)) (constantKeys ds)) (d .line) in
+    let fault =
+    nameFault (within (namedBy (d .what)) (keys ds)) (within (initialOf (d .what)) (constantKeys ds)) (d .line) in
     let p = none-left fault _ e in
     let q = no-name-fault (within (namedBy (d .what)) (keys ds)) _ _ (p .0) in
-    named-one (λ k. k ∈ keys ds) (d .line) (d .key) (d .what) (equations es) (within-in (namedBy (d .what)) (keys ds) (q .0))
+    named-one (λ k. k ∈ keys ds) (d .line) (d .key) (d .what) (equations es)
+    (within-in (namedBy (d .what)) (keys ds) (q .0))
     (names-known ds es (p .1)) j h k m
 
 -- ---- which keys are assigned, which are held
 data-assigned : (b : Bool) (k j : ℕ) (ks : List ℕ) → j ∈ ifAssigned b k ++ ks → ((b ≡ false) × (k ≡ j)) ⊎ (j ∈ ks)
 unfolding count
-data-assigned false k j ks h = ⊎-elim (λ (e : j ≡ k). inl (refl, sym e)) (λ e. inr (omega (arith, once-other j k e))) (eq-or-ne j k)
+data-assigned false k j ks h =
+    ⊎-elim (λ (e : j ≡ k). inl (refl, sym e)) (λ e. inr (omega (arith, once-other j k e))) (eq-or-ne j k)
 data-assigned true k j ks h = inr h
 
 -- likewise a held one
 data-held : (b : Bool) (k j : ℕ) (ks : List ℕ) → j ∈ ifHeld b k ++ ks → ((b ≡ true) × (k ≡ j)) ⊎ (j ∈ ks)
 unfolding count
-data-held true k j ks h = ⊎-elim (λ (e : j ≡ k). inl (refl, sym e)) (λ e. inr (omega (arith, once-other j k e))) (eq-or-ne j k)
+data-held true k j ks h =
+    ⊎-elim (λ (e : j ≡ k). inl (refl, sym e)) (λ e. inr (omega (arith, once-other j k e))) (eq-or-ne j k)
 data-held false k j ks h = inr h
 
 -- a state's key is that of an equation, and one of an equation that is a state's
@@ -102,16 +119,23 @@ pub from-helds : (es : List Equation) (k : ℕ) → k ∈ heldKeys es
 unfolding heldKeys count
 from-helds [] k h = absurd (omega arith)
 from-helds (e ∷ es) k h =
-    ⊎-elim (λ z. (0, omega arith, z .0, z .1)) (λ m. let r = from-helds es k m in (suc (r .0), omega (arith, r .1), r .2, r .3))
+    ⊎-elim (λ z. (0, omega arith, z .0, z .1))
+    (λ m. let r = from-helds es k m in (suc (r .0), omega (arith, r .1), r .2, r .3))
     (data-held (e .held) (e .key) k (heldKeys es) h)
 
 -- and one of an equation that is a state's is among them
-pub to-helds : (es : List Equation) (j : ℕ) → j < length es → getD es j noEquation .held ≡ true → getD es j noEquation .key ∈ heldKeys es
+pub to-helds : (es : List Equation) (j : ℕ) → j < length es → getD es j noEquation .held ≡ true
+    → getD es j noEquation .key ∈ heldKeys es
 unfolding heldKeys count
 to-helds [] j h b = absurd (omega arith)
 to-helds (e ∷ es) zero h b = rw b (omega (arith, once-same (e .key)))
 to-helds (e ∷ es) (suc j) h b =
-    omega (arith, to-helds es j (omega arith) b, count-append (getD es j noEquation .key) (ifHeld (e .held) (e .key)) (heldKeys es))
+    omega (
+      arith,
+      to-helds es j (omega arith) b,
+      count-append (getD es j noEquation .key) (ifHeld (e .held) (e .key))
+          (heldKeys es),
+    )
 
 -- no more of them than of equations
 pub held-few : (k : ℕ) (es : List Equation) → count k (heldKeys es) ≤ count k (map (λ (e : Equation). e .key) es)
@@ -122,7 +146,8 @@ held-few k (e ∷ es) = by (e .held) (held-few k es)
     rest : ℕ
     rest = count k (map (λ (e : Equation). e .key) es)
 
-    by : (b : Bool) → count k (heldKeys es) ≤ rest → count k (ifHeld b (e .key) ++ heldKeys es) ≤ count k (e .key ∷ map (λ (e : Equation). e .key) es)
+    by : (b : Bool) → count k (heldKeys es) ≤ rest
+        → count k (ifHeld b (e .key) ++ heldKeys es) ≤ count k (e .key ∷ map (λ (e : Equation). e .key) es)
     by true h = omega arith
     by false h = omega arith
 
@@ -134,20 +159,24 @@ module _ (ds : List Def) where
   eqn = equationAt ds
 
   -- a key that the equations of q assign is that of one of them
-  pub from-assigned : (q : List ℕ) (j : ℕ) → j ∈ assignedKeys (map eqn q) → (i : ℕ) × (i ∈ q) × (eqn i .held ≡ false) × (eqn i .key ≡ j)
+  pub from-assigned : (q : List ℕ) (j : ℕ) → j ∈ assignedKeys (map eqn q)
+      → (i : ℕ) × (i ∈ q) × (eqn i .held ≡ false) × (eqn i .key ≡ j)
   unfolding assignedKeys count
   from-assigned [] j h = absurd (omega arith)
   from-assigned (i ∷ q) j h =
       ⊎-elim (λ e. (i, omega (arith, once-same i), e .0, e .1))
-      (λ m. let r = from-assigned q j m in (r .0, omega (arith, r .1), r .2, r .3)) (data-assigned (eqn i .held) (eqn i .key) j (assignedKeys (map eqn q)) h)
+      (λ m. let r = from-assigned q j m in (r .0, omega (arith, r .1), r .2, r .3))
+      (data-assigned (eqn i .held) (eqn i .key) j (assignedKeys (map eqn q)) h)
 
   -- so is one that they hold
-  pub from-held : (q : List ℕ) (j : ℕ) → j ∈ heldKeys (map eqn q) → (i : ℕ) × (i ∈ q) × (eqn i .held ≡ true) × (eqn i .key ≡ j)
+  pub from-held : (q : List ℕ) (j : ℕ) → j ∈ heldKeys (map eqn q)
+      → (i : ℕ) × (i ∈ q) × (eqn i .held ≡ true) × (eqn i .key ≡ j)
   unfolding heldKeys count
   from-held [] j h = absurd (omega arith)
   from-held (i ∷ q) j h =
       ⊎-elim (λ e. (i, omega (arith, once-same i), e .0, e .1))
-      (λ m. let r = from-held q j m in (r .0, omega (arith, r .1), r .2, r .3)) (data-held (eqn i .held) (eqn i .key) j (heldKeys (map eqn q)) h)
+      (λ m. let r = from-held q j m in (r .0, omega (arith, r .1), r .2, r .3))
+      (data-held (eqn i .held) (eqn i .key) j (heldKeys (map eqn q)) h)
 
   -- a key of an equation is the key at some place
   pub find : (k : ℕ) → k ∈ equationKeys ds → (j : ℕ) × (j < equationCount ds) × (eqn j .key ≡ k)
@@ -158,7 +187,8 @@ module _ (ds : List Def) where
 
   -- no number stands twice in a good order
   pub at-most : (q : List ℕ) → GoodOrder ds q → Once q
-  at-most q g m = ⊎-elim (λ h. omega (arith, g .perm .within m h)) (λ h. omega (arith, g .perm .beyond m h)) (lt-or-ge m (equationCount ds))
+  at-most q g m = ⊎-elim (λ h. omega (arith, g .perm .within m h)) (λ h. omega (arith, g .perm .beyond m h))
+      (lt-or-ge m (equationCount ds))
 
   module _ (one : Once (keys ds)) where
     -- a slot is that of one key alone

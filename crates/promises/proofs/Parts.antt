@@ -17,13 +17,15 @@ use Rattle.records.specs.declared.Instr.{Instr}
 use Rattle.records.specs.declared.Instr.the-variants.{Constant, Initial, Store, Deriv}
 use Rattle.records.specs.Fields.{kindOf, operandOf}
 use Rattle.records.specs.Record.{Rec, rec}
-use Rattle.program.specs.Program.{instrItem, instrTwo, instrThree, initialValue, constantRecs, initialRecs, lastInstr, equationRecs}
+use Rattle.program.specs.Program.{instrItem, instrTwo, instrThree, initialValue, constantRecs, initialRecs, lastInstr}
+use Rattle.program.specs.Program.{equationRecs}
 use Rattle.promises.specs.Recorded.{isFor, recordsFor}
 
 -- ---- a row to which one member alone adds
 
 -- to which none does
-pub none-at : {A B : Type 0} (g : A → List B) (l : List A) (d : A) → ((j : ℕ) → j < length l → g (getD l j d) ≡ []) → concat-map g l ≡ []
+pub none-at : {A B : Type 0} (g : A → List B) (l : List A) (d : A) → ((j : ℕ) → j < length l → g (getD l j d) ≡ [])
+    → concat-map g l ≡ []
 unfolding concat-map
 none-at g [] d h = refl
 none-at g (a ∷ l) d h = rw (h 0 (omega arith)) (none-at g l d (λ j m. h (suc j) (omega arith)))
@@ -36,7 +38,8 @@ only-at g [] d i m h = absurd (omega arith)
 only-at g (a ∷ l) d zero m h =
     ap (λ r. g a ++ r) (none-at g l d (λ j n. h (suc j) (omega arith) (λ e. omega arith))) ∙ append-nil (g a)
 only-at g (a ∷ l) d (suc i) m h =
-    rw (h 0 (omega arith) (λ e. omega arith)) (only-at g l d i (omega arith) (λ j n e. h (suc j) (omega arith) (λ q. e (omega arith))))
+    rw (h 0 (omega arith) (λ e. omega arith))
+    (only-at g l d i (omega arith) (λ j n e. h (suc j) (omega arith) (λ q. e (omega arith))))
 
 -- ---- an expression's records have the kinds 3 to 12
 abbrev Middle : Instr → Type 0
@@ -77,7 +80,8 @@ lastRec ds e = rec (e .line) (lastInstr ds (e .held) (slotIn ds (e .key)))
 -- a record is one of its own kind and slot
 pub own-record : (r : Rec) → recordsFor (kindOf (r .instr)) (operandOf (r .instr)) (r ∷ []) ≡ r ∷ []
 unfolding recordsFor
-own-record r = rw (eq-eqb (kindOf (r .instr)) (kindOf (r .instr)) refl, eq-eqb (operandOf (r .instr)) (operandOf (r .instr)) refl)
+own-record r =
+    rw (eq-eqb (kindOf (r .instr)) (kindOf (r .instr)) refl, eq-eqb (operandOf (r .instr)) (operandOf (r .instr)) refl)
 
 module _ (k s : ℕ) where
   -- of two rows
@@ -92,7 +96,8 @@ module _ (k s : ℕ) where
       go false e = e
 
   -- of each part of a row
-  pub for-concat : {A : Type 0} (f : A → List Rec) (l : List A) → recordsFor k s (concat-map f l) ≡ concat-map (λ (a : A). recordsFor k s (f a)) l
+  pub for-concat : {A : Type 0} (f : A → List Rec) (l : List A)
+      → recordsFor k s (concat-map f l) ≡ concat-map (λ (a : A). recordsFor k s (f a)) l
   unfolding concat-map recordsFor
   for-concat f [] = refl
   for-concat f (a ∷ l) = for-append (f a) (concat-map f l) ∙ ap (λ r. recordsFor k s (f a) ++ r) (for-concat f l)
@@ -114,7 +119,8 @@ module _ (k s : ℕ) where
   -- ---- of an equation
 
   -- an expression's records set nothing
-  for-items : (slot : ℕ → ℕ) (l : ℕ) → Setting k → (is : List Item) → recordsFor k s (map (rec l) (map (instrItem slot) is)) ≡ []
+  for-items : (slot : ℕ → ℕ) (l : ℕ) → Setting k → (is : List Item)
+      → recordsFor k s (map (rec l) (map (instrItem slot) is)) ≡ []
   unfolding recordsFor
   for-items slot l c [] = refl
   for-items slot l c (i ∷ is) =
@@ -124,7 +130,8 @@ module _ (k s : ℕ) where
       ∙ ap₂ _++_ (other-kind (rec l (instrItem slot i)) h) (for-items slot l c is)
 
   -- of an equation's records the last alone sets something
-  pub for-equation : (ds : List Def) (e : Equation) → Setting k → recordsFor k s (equationRecs ds e) ≡ recordsFor k s (lastRec ds e ∷ [])
+  pub for-equation : (ds : List Def) (e : Equation) → Setting k
+      → recordsFor k s (equationRecs ds e) ≡ recordsFor k s (lastRec ds e ∷ [])
   for-equation ds e c =
       let items = map (instrItem (slotIn ds)) (postfix (e .tree)) in
       let last = lastInstr ds (e .held) (slotIn ds (e .key)) in
@@ -133,21 +140,24 @@ module _ (k s : ℕ) where
       ∙ ap (λ r. r ++ recordsFor k s (lastRec ds e ∷ [])) (for-items (slotIn ds) (e .line) c (postfix (e .tree)))
 
   -- ---- what has another slot adds none
-  pub other-constant : (ds : List Def) (d : Def) (w : What) → (slotIn ds (d .key) ≡ s → ⊥) → recordsFor k s (constantRecs ds d w) ≡ []
+  pub other-constant : (ds : List Def) (d : Def) (w : What) → (slotIn ds (d .key) ≡ s → ⊥)
+      → recordsFor k s (constantRecs ds d w) ≡ []
   unfolding recordsFor
   other-constant ds d (constant x) h = other-slot (rec (d .line) (Constant (slotIn ds (d .key)) x)) h
   other-constant ds d (assigned e) h = refl
   other-constant ds d (integral i e) h = refl
 
   -- nor does its initial
-  pub other-initial : (ds : List Def) (d : Def) (w : What) → (slotIn ds (d .key) ≡ s → ⊥) → recordsFor k s (initialRecs ds d w) ≡ []
+  pub other-initial : (ds : List Def) (d : Def) (w : What) → (slotIn ds (d .key) ≡ s → ⊥)
+      → recordsFor k s (initialRecs ds d w) ≡ []
   unfolding recordsFor
   other-initial ds d (constant x) h = refl
   other-initial ds d (assigned e) h = refl
   other-initial ds d (integral i e) h = other-slot (rec (d .line) (Initial (slotIn ds (d .key)) (initialValue ds i))) h
 
   -- nor does an equation's last record
-  pub other-last : (ds : List Def) (e : Equation) → (slotIn ds (e .key) ≡ s → ⊥) → recordsFor k s (lastRec ds e ∷ []) ≡ []
+  pub other-last : (ds : List Def) (e : Equation) → (slotIn ds (e .key) ≡ s → ⊥)
+      → recordsFor k s (lastRec ds e ∷ []) ≡ []
   other-last ds e h = go (e .held)
     where
       go : (b : Bool) → recordsFor k s (rec (e .line) (lastInstr ds b (slotIn ds (e .key))) ∷ []) ≡ []

@@ -1,4 +1,5 @@
--- An expression's postfix puts the expression's value on the stack, is taken by the judge, and looks at nothing but the names' slots.
+-- An expression's postfix puts the expression's value on the stack, is taken by the judge, and looks at nothing but the
+-- names' slots.
 use Prim.Native.Nat.{ℕ, _+_, _≤_}
 use mathlib.Core.Path.{_≡_, refl}
 use mathlib.Core.List.{List, [], _∷_, _++_, map, append-assoc}
@@ -10,7 +11,8 @@ use Rattle.limits.specs.Limits.{stackPlaces}
 use Rattle.laws.specs.Counts.{count, _∈_}
 use Rattle.laws.proofs.Counts.{count-append, once-same}
 use Rattle.laws.proofs.Concats.{map-append}
-use Rattle.drafts.specs.Tree.{Two, plus, minus, times, over, compar, Three, insw, limit, Tree, value, named, time, negated, two, three, names}
+use Rattle.drafts.specs.Tree.{Two, plus, minus, times, over, compar, Three, insw, limit, Tree, value, named, time}
+use Rattle.drafts.specs.Tree.{negated, two, three, names}
 use Rattle.drafts.specs.Items.{postfix, negate, apply-two, apply-three}
 use Rattle.grammar.proofs.Stack.{peak}
 use Rattle.records.specs.Shape.{zero64, one64}
@@ -124,23 +126,35 @@ module _ (slot : ℕ → ℕ) where
       )
   value-same (three o a b c) v w z f =
       rw (
-        value-same a v w z (λ k h. f k (omega (arith, count-append k (names a) (names b ++ names c)))),
-        value-same b v w z (λ k h. f k (omega (arith, count-append k (names a) (names b ++ names c), count-append k (names b) (names c)))),
-        value-same c v w z (λ k h. f k (omega (arith, count-append k (names a) (names b ++ names c), count-append k (names b) (names c)))),
+        value-same a v w z (λ k h. f k (omega (arith, both k))),
+        value-same b v w z (λ k h. f k (omega (arith, both k, count-append k (names b) (names c)))),
+        value-same c v w z (λ k h. f k (omega (arith, both k, count-append k (names b) (names c)))),
       )
+    where
+      both : (k : ℕ) → count k (names a ++ (names b ++ names c)) ≡ count k (names a) + count k (names b ++ names c)
+      both k = count-append k (names a) (names b ++ names c)
 
 -- ---- the judge takes an operation with its operands on the stack
-judge-two : (o : Two) (h : ℕ) (l : List ℕ) → 2 + h ≤ stackPlaces → Leads (judgeAt 3 (2 + h) l) (instrTwo o ∷ []) (judgeAt 3 (1 + h) l)
-judge-two plus h l m = leads-op Add 3 (2 + h) (1 + h) l refl refl refl (omega arith) (omega arith) (omega arith) (omega arith)
-judge-two minus h l m = leads-op Sub 3 (2 + h) (1 + h) l refl refl refl (omega arith) (omega arith) (omega arith) (omega arith)
-judge-two times h l m = leads-op Mul 3 (2 + h) (1 + h) l refl refl refl (omega arith) (omega arith) (omega arith) (omega arith)
-judge-two over h l m = leads-op Div 3 (2 + h) (1 + h) l refl refl refl (omega arith) (omega arith) (omega arith) (omega arith)
-judge-two compar h l m = leads-op Compar 3 (2 + h) (1 + h) l refl refl refl (omega arith) (omega arith) (omega arith) (omega arith)
+judge-two : (o : Two) (h : ℕ) (l : List ℕ) → 2 + h ≤ stackPlaces
+    → Leads (judgeAt 3 (2 + h) l) (instrTwo o ∷ []) (judgeAt 3 (1 + h) l)
+judge-two plus h l m =
+    leads-op Add 3 (2 + h) (1 + h) l refl refl refl (omega arith) (omega arith) (omega arith) (omega arith)
+judge-two minus h l m =
+    leads-op Sub 3 (2 + h) (1 + h) l refl refl refl (omega arith) (omega arith) (omega arith) (omega arith)
+judge-two times h l m =
+    leads-op Mul 3 (2 + h) (1 + h) l refl refl refl (omega arith) (omega arith) (omega arith) (omega arith)
+judge-two over h l m =
+    leads-op Div 3 (2 + h) (1 + h) l refl refl refl (omega arith) (omega arith) (omega arith) (omega arith)
+judge-two compar h l m =
+    leads-op Compar 3 (2 + h) (1 + h) l refl refl refl (omega arith) (omega arith) (omega arith) (omega arith)
 
 -- on three values
-judge-three : (o : Three) (h : ℕ) (l : List ℕ) → 3 + h ≤ stackPlaces → Leads (judgeAt 3 (3 + h) l) (instrThree o ∷ []) (judgeAt 3 (1 + h) l)
-judge-three insw h l m = leads-op Insw 3 (3 + h) (1 + h) l refl refl refl (omega arith) (omega arith) (omega arith) (omega arith)
-judge-three limit h l m = leads-op Limit 3 (3 + h) (1 + h) l refl refl refl (omega arith) (omega arith) (omega arith) (omega arith)
+judge-three : (o : Three) (h : ℕ) (l : List ℕ) → 3 + h ≤ stackPlaces
+    → Leads (judgeAt 3 (3 + h) l) (instrThree o ∷ []) (judgeAt 3 (1 + h) l)
+judge-three insw h l m =
+    leads-op Insw 3 (3 + h) (1 + h) l refl refl refl (omega arith) (omega arith) (omega arith) (omega arith)
+judge-three limit h l m =
+    leads-op Limit 3 (3 + h) (1 + h) l refl refl refl (omega arith) (omega arith) (omega arith) (omega arith)
 
 -- a tree puts at least one value on the stack
 peak-pos : (e : Tree) → 1 ≤ peak e
@@ -160,18 +174,21 @@ module _ (slot : ℕ → ℕ) where
   -- a slot that is set is pushed
   judge-slot : (s p h : ℕ) (l : List ℕ) → (getD l s 0 ≡ 0 → ⊥) → h + 1 ≤ stackPlaces → p ≤ 3
       → Leads (judgeAt p h l) (Slot s ∷ []) (judgeAt 3 (1 + h) l)
-  judge-slot s p h l n m q = leads-op (Slot s) p h (1 + h) l refl (rw (ne-eqb (getD l s 0) 0 n)) refl (omega arith) (omega arith) (omega arith) q
+  judge-slot s p h l n m q = leads-op (Slot s) p h (1 + h) l refl (rw (ne-eqb (getD l s 0) 0 n)) refl (omega arith)
+      (omega arith) (omega arith) q
 
   -- JUDGED with room for all that stands at once, a tree is good and leaves one value more
   pub judge-tree : (e : Tree) (p h : ℕ) (l : List ℕ) → AllSet l e → h + peak e ≤ stackPlaces → p ≤ 3
       → Leads (judgeAt p h l) (steps slot e) (judgeAt 3 (1 + h) l)
   unfolding steps peak names count
-  judge-tree (value x) p h l n m q = leads-op (Value x) p h (1 + h) l refl refl refl (omega arith) (omega arith) (omega arith) q
+  judge-tree (value x) p h l n m q =
+      leads-op (Value x) p h (1 + h) l refl refl refl (omega arith) (omega arith) (omega arith) q
   judge-tree (named k) p h l n m q = judge-slot (slot k) p h l (n .1 k (omega (arith, once-same k))) m q
   judge-tree time p h l n m q = judge-slot 0 p h l (n .0) m q
   judge-tree (negated a) p h l n m q =
       leads-append _ (judgeAt 3 (1 + h) l) _ (steps slot a) _ (judge-tree a p h l n m q)
-      (leads-op Neg 3 (1 + h) (1 + h) l refl refl refl (omega arith) (omega arith) (omega (arith, peak-pos a)) (omega arith))
+      (leads-op Neg 3 (1 + h) (1 + h) l refl refl refl (omega arith) (omega arith) (omega (arith, peak-pos a))
+      (omega arith))
   judge-tree (two o a b) p h l n m q =
       let pa = peak-pos a in
       let pb = peak-pos b in
@@ -179,19 +196,23 @@ module _ (slot : ℕ → ℕ) where
       let nb : AllSet l b = (n .0, λ k i. n .1 k (omega (arith, count-append k (names a) (names b)))) in
       let e : 1 + (1 + h) ≡ 2 + h = omega arith in
       leads-append _ (judgeAt 3 (1 + h) l) _ (steps slot a) _ (judge-tree a p h l na (omega arith) q)
-      (leads-append _ (judgeAt 3 (1 + (1 + h)) l) _ (steps slot b) _ (judge-tree b 3 (1 + h) l nb (omega arith) (omega arith))
+      (leads-append _ (judgeAt 3 (1 + (1 + h)) l) _ (steps slot b) _
+      (judge-tree b 3 (1 + h) l nb (omega arith) (omega arith))
       (rw e (judge-two o h l (omega arith))))
   judge-tree (three o a b c) p h l n m q =
       let pa = peak-pos a in
       let pb = peak-pos b in
       let pc = peak-pos c in
-      let ca : (k : ℕ) → count k (names a ++ (names b ++ names c)) ≡ count k (names a) + (count k (names b) + count k (names c)) =
+      let ca : (k : ℕ) → count k (names a ++ (names b ++ names c))
+      ≡ count k (names a) + (count k (names b) + count k (names c)) =
       λ k. omega (arith, count-append k (names a) (names b ++ names c), count-append k (names b) (names c)) in
       let na : AllSet l a = (n .0, λ k i. n .1 k (omega (arith, ca k))) in
       let nb : AllSet l b = (n .0, λ k i. n .1 k (omega (arith, ca k))) in
       let nc : AllSet l c = (n .0, λ k i. n .1 k (omega (arith, ca k))) in
       let e : 1 + (1 + (1 + h)) ≡ 3 + h = omega arith in
       leads-append _ (judgeAt 3 (1 + h) l) _ (steps slot a) _ (judge-tree a p h l na (omega arith) q)
-      (leads-append _ (judgeAt 3 (1 + (1 + h)) l) _ (steps slot b) _ (judge-tree b 3 (1 + h) l nb (omega arith) (omega arith))
-      (leads-append _ (judgeAt 3 (1 + (1 + (1 + h))) l) _ (steps slot c) _ (judge-tree c 3 (1 + (1 + h)) l nc (omega arith) (omega arith))
+      (leads-append _ (judgeAt 3 (1 + (1 + h)) l) _ (steps slot b) _
+      (judge-tree b 3 (1 + h) l nb (omega arith) (omega arith))
+      (leads-append _ (judgeAt 3 (1 + (1 + (1 + h))) l) _ (steps slot c) _
+      (judge-tree c 3 (1 + (1 + h)) l nc (omega arith) (omega arith))
       (rw e (judge-three o h l (omega arith)))))

@@ -13,20 +13,24 @@ use Rattle.limits.specs.Limits.{slots, mostDefinitions}
 use Rattle.laws.specs.Lists.{concat-map}
 use Rattle.laws.specs.Counts.{count, _∈_}
 use Rattle.laws.proofs.Counts.{once-same, count-append}
-use Rattle.drafts.specs.Tree.{Two, plus, minus, times, over, compar, Three, insw, limit, Tree, value, named, time, negated, two, three, names}
+use Rattle.drafts.specs.Tree.{Two, plus, minus, times, over, compar, Three, insw, limit, Tree, value, named, time}
+use Rattle.drafts.specs.Tree.{negated, two, three, names}
 use Rattle.drafts.specs.Tree.{Initial, plain, from}
 use Rattle.order.proofs.Sorting.{perm-below}
-use Rattle.model.specs.Definitions.{What, constant, assigned, integral, Def, keys, slotIn, equations, noEquation, equationAt, equationCount}
+use Rattle.model.specs.Definitions.{What, constant, assigned, integral, Def, keys, slotIn, equations, noEquation}
+use Rattle.model.specs.Definitions.{equationAt, equationCount}
 use Rattle.model.specs.Faults.{usesIn, GoodOrder}
 use Rattle.model.proofs.KeyPlaces.{Once}
 use Rattle.records.specs.Record.{instrs}
-use Rattle.program.specs.Program.{instrTwo, instrThree, constantValue, valueIn, initialValue, constantRecs, initialRecs, lastInstr, program}
+use Rattle.program.specs.Program.{instrTwo, instrThree, constantValue, valueIn, initialValue, constantRecs, initialRecs}
+use Rattle.program.specs.Program.{lastInstr, program}
 use Rattle.promises.proofs.Decoding.{Double, Proper}
 use Rattle.promises.proofs.Numbers.{Doubles, DoubleInitial}
 use Rattle.promises.proofs.Texts.{FitsTree, FitsWhat, FitsAll, equations-fit}
 use Rattle.promises.proofs.Postfix.{steps}
 use Rattle.promises.proofs.Owned.{eq-mine, slot-mine}
-use Rattle.promises.proofs.Runs.{instrs-append, constantPart, initialPart, orderedPart, program-parts, ordered-first}
+use Rattle.promises.proofs.Runs.{instrs-append, constantPart, initialPart, orderedPart, program-parts}
+use Rattle.promises.proofs.Runs.{ordered-first}
 
 -- ---- expressions
 
@@ -62,8 +66,10 @@ module _ (slot : ℕ → ℕ) where
       (every-append Proper (steps slot b) _ (proper-tree b (d .1) sb) (proper-two o, tt))
   proper-tree (three o a b c) d s =
       let sa : Slotted a = λ k h. s k (omega (arith, count-append k (names a) (names b ++ names c))) in
-      let sb : Slotted b = λ k h. s k (omega (arith, count-append k (names a) (names b ++ names c), count-append k (names b) (names c))) in
-      let sc : Slotted c = λ k h. s k (omega (arith, count-append k (names a) (names b ++ names c), count-append k (names b) (names c))) in
+      let sb : Slotted b =
+      λ k h. s k (omega (arith, count-append k (names a) (names b ++ names c), count-append k (names b) (names c))) in
+      let sc : Slotted c =
+      λ k h. s k (omega (arith, count-append k (names a) (names b ++ names c), count-append k (names b) (names c))) in
       every-append Proper (steps slot a) _ (proper-tree a (d .0) sa)
       (every-append Proper (steps slot b) _ (proper-tree b (d .1) sb)
       (every-append Proper (steps slot c) _ (proper-tree c (d .2) sc) (proper-three o, tt)))
@@ -139,8 +145,11 @@ module _ (ds : List Def) (one : Once (keys ds)) (few : length ds ≤ mostDefinit
       let hi = b i (omega (arith, once-same i)) in
       let tree = every-at (λ e. FitsTree (e .tree)) (equations ds) noEquation (equations-fit ds fit) i hi .0 in
       rw (ordered-first ds i q)
-      (every-append Proper (steps (slotIn ds) (e .tree)) _ (proper-tree (slotIn ds) (e .tree) tree (λ k h. inside k (known i hi k h)))
-      (proper-last (e .held) (slotIn ds (e .key)) (inside (e .key) (eq-mine ds one i hi)), proper-order q (λ m h. b m (omega arith))))
+      (every-append Proper (steps (slotIn ds) (e .tree)) _
+      (proper-tree (slotIn ds) (e .tree) tree (λ k h. inside k (known i hi k h))) (
+        proper-last (e .held) (slotIn ds (e .key)) (inside (e .key) (eq-mine ds one i hi)),
+        proper-order q (λ m h. b m (omega arith)),
+      ))
 
   -- THE PROGRAM of a good order
   pub readable : (q : List ℕ) → GoodOrder ds q → Every Proper (instrs (program ds q))

@@ -57,7 +57,8 @@ module _ (ds : List Def) where
   orderedPart q = concat-map (λ (i : ℕ). equationRecs ds (eqn i)) q
 
   -- one behind the other
-  pub program-parts : (q : List ℕ) → instrs (program ds q) ≡ instrs (constantPart ds) ++ (instrs (initialPart ds) ++ instrs (orderedPart q))
+  pub program-parts : (q : List ℕ) → instrs (program ds q)
+      ≡ instrs (constantPart ds) ++ (instrs (initialPart ds) ++ instrs (orderedPart q))
   unfolding program
   program-parts q =
       instrs-append (constantPart ds) (initialPart ds ++ orderedPart q)
@@ -69,21 +70,26 @@ module _ (ds : List Def) where
 
   -- the first of the ordered equations, and the others
   pub ordered-first : (i : ℕ) (q : List ℕ)
-      → instrs (orderedPart (i ∷ q)) ≡ steps slot (eqn i .tree) ++ (lastInstr ds (eqn i .held) (slot (eqn i .key)) ∷ instrs (orderedPart q))
+      → instrs (orderedPart (i ∷ q)) ≡ steps slot (eqn i .tree) ++
+      (lastInstr ds (eqn i .held) (slot (eqn i .key)) ∷ instrs (orderedPart q))
   unfolding concat-map
   ordered-first i q =
       rw (
         instrs-append (equationRecs ds (eqn i)) (orderedPart q),
         instrs-of (eqn i .line) (code ds (eqn i)),
         code-of (eqn i),
-        append-assoc (steps slot (eqn i .tree)) (lastInstr ds (eqn i .held) (slot (eqn i .key)) ∷ []) (instrs (orderedPart q)),
+        append-assoc (steps slot (eqn i .tree)) (lastInstr ds (eqn i .held) (slot (eqn i .key)) ∷ [])
+            (instrs (orderedPart q)),
       )
 
   -- ---- constants
   run-constant : (a : Def) (w : What) (R : List Rec) (E : List Equation) (r : List Instr) (d : List Float)
-      → ((v : List Float) → run (machine [] v d) (instrs R ++ r) ≡ run (machine [] (valuesAfter slot E v) (derivsAfter slot E v d)) r)
+      → ((v : List Float) → run (machine [] v d) (instrs R ++ r)
+      ≡ run (machine [] (valuesAfter slot E v) (derivsAfter slot E v d)) r)
       → (v : List Float) → run (machine [] v d) (instrs (constantRecs ds a w ++ R) ++ r)
-      ≡ run (machine [] (valuesAfter slot (asEquation (a .line) (a .key) w ++ E) v) (derivsAfter slot (asEquation (a .line) (a .key) w ++ E) v d)) r
+      ≡ run
+      (machine [] (valuesAfter slot (asEquation (a .line) (a .key) w ++ E) v)
+      (derivsAfter slot (asEquation (a .line) (a .key) w ++ E) v d)) r
   unfolding run step valuesAfter derivsAfter valueOf
   run-constant a (constant x) R E r d h v = h (set v (slot (a .key)) x)
   run-constant a (assigned e) R E r d h v = h v
@@ -91,7 +97,8 @@ module _ (ds : List Def) where
 
   -- they are worked out as their numbers
   run-constants : (es : List Def) (r : List Instr) (d v : List Float)
-      → run (machine [] v d) (instrs (constantPart es) ++ r) ≡ run (machine [] (valuesAfter slot (fixed es) v) (derivsAfter slot (fixed es) v d)) r
+      → run (machine [] v d) (instrs (constantPart es) ++ r)
+      ≡ run (machine [] (valuesAfter slot (fixed es) v) (derivsAfter slot (fixed es) v d)) r
   unfolding concat-map valuesAfter derivsAfter
   run-constants [] r d v = refl
   run-constants (a ∷ es) r d v = run-constant a (a .what) _ (fixed es) r d (run-constants es r d) v
@@ -121,7 +128,8 @@ module _ (ds : List Def) where
 
   -- they are worked out in their order
   run-ordered : (q : List ℕ) (v d : List Float)
-      → run (machine [] v d) (instrs (orderedPart q)) ≡ machine [] (valuesAfter slot (map eqn q) v) (derivsAfter slot (map eqn q) v d)
+      → run (machine [] v d) (instrs (orderedPart q)) ≡ machine [] (valuesAfter slot (map eqn q) v)
+      (derivsAfter slot (map eqn q) v d)
   unfolding concat-map valuesAfter derivsAfter run
   run-ordered [] v d = refl
   run-ordered (i ∷ q) v d =

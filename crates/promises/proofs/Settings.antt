@@ -11,7 +11,8 @@ use Rattle.laws.specs.Lists.{concat-map}
 use Rattle.laws.specs.Counts.{count, _∈_}
 use Rattle.laws.proofs.Tests.{eq-or-ne}
 use Rattle.laws.proofs.Counts.{once-same, once-other}
-use Rattle.model.specs.Definitions.{What, constant, assigned, integral, Def, keys, slotIn, Equation, equationOf, equations}
+use Rattle.model.specs.Definitions.{What, constant, assigned, integral, Def, keys, slotIn, Equation, equationOf}
+use Rattle.model.specs.Definitions.{equations}
 use Rattle.model.specs.Faults.{constantKey, constantKeys}
 use Rattle.model.proofs.KeyPlaces.{Once, place-same}
 use Rattle.records.specs.declared.Instr.{Instr}
@@ -31,7 +32,8 @@ pub passes-none : (b : ℕ) (l : List ℕ) → Passes b l [] l
 passes-none b l p h = (p, h, refl)
 
 -- one list after another
-pub passes-append : (b : ℕ) (l m n : List ℕ) (xs ys : List Instr) → Passes b l xs m → Passes b m ys n → Passes b l (xs ++ ys) n
+pub passes-append : (b : ℕ) (l m n : List ℕ) (xs ys : List Instr) → Passes b l xs m → Passes b m ys n
+    → Passes b l (xs ++ ys) n
 passes-append b l m n xs ys f g p h =
     let r = f p h in
     let s = g (r .0) (r .1) in
@@ -51,7 +53,8 @@ module _ (slot : ℕ → ℕ) where
   marks-long x (k ∷ ks) l = marks-long x ks (set l (slot k) x) ∙ length-set l (slot k) x
 
   -- other slots keep theirs
-  pub marks-other : (x : ℕ) (ks l : List ℕ) (p : ℕ) → ((k : ℕ) → k ∈ ks → slot k ≡ p → ⊥) → getD (marksOn x ks l) p 0 ≡ getD l p 0
+  pub marks-other : (x : ℕ) (ks l : List ℕ) (p : ℕ) → ((k : ℕ) → k ∈ ks → slot k ≡ p → ⊥)
+      → getD (marksOn x ks l) p 0 ≡ getD l p 0
   unfolding marksOn count
   marks-other x [] l p h = refl
   marks-other x (k ∷ ks) l p h =
@@ -64,7 +67,8 @@ module _ (slot : ℕ → ℕ) where
   marks-stay x [] l p h e = e
   marks-stay x (k ∷ ks) l p h e =
       marks-stay x ks (set l (slot k) x) p (rw length-set h)
-      (⊎-elim (λ (q : p ≡ slot k). rw q (getD-set-same l (slot k) x 0 (rw q at h))) (λ q. getD-set-other l (slot k) p x 0 q ∙ e) (eq-or-ne p (slot k)))
+      (⊎-elim (λ (q : p ≡ slot k). rw q (getD-set-same l (slot k) x 0 (rw q at h)))
+      (λ q. getD-set-other l (slot k) p x 0 q ∙ e) (eq-or-ne p (slot k)))
 
   -- the slots of these keys have it
   pub marks-same : (x : ℕ) (ks l : List ℕ) (k : ℕ) → k ∈ ks → slot k < length l → getD (marksOn x ks l) (slot k) 0 ≡ x
@@ -77,14 +81,16 @@ module _ (slot : ℕ → ℕ) where
       (λ e. marks-same x ks l′ k (omega (arith, once-other k j e)) m′) (eq-or-ne k j)
 
   -- a place has its mark from one of the keys, or as before
-  pub marks-either : (x : ℕ) (ks l : List ℕ) (p : ℕ) → ((k : ℕ) × (k ∈ ks) × (slot k ≡ p)) ⊎ (getD (marksOn x ks l) p 0 ≡ getD l p 0)
+  pub marks-either : (x : ℕ) (ks l : List ℕ) (p : ℕ)
+      → ((k : ℕ) × (k ∈ ks) × (slot k ≡ p)) ⊎ (getD (marksOn x ks l) p 0 ≡ getD l p 0)
   unfolding marksOn count
   marks-either x [] l p = inr refl
   marks-either x (k ∷ ks) l p =
       ⊎-elim (λ (e : slot k ≡ p). inl (k, omega (arith, once-same k), e))
       (λ e.
       ⊎-elim (λ (z : (k : ℕ) × (k ∈ ks) × (slot k ≡ p)). inl (z .0, omega (arith, z .1), z .2))
-      (λ z. inr (z ∙ getD-set-other l (slot k) p x 0 (λ s. e (sym s)))) (marks-either x ks (set l (slot k) x) p)) (eq-or-ne (slot k) p)
+      (λ z. inr (z ∙ getD-set-other l (slot k) p x 0 (λ s. e (sym s)))) (marks-either x ks (set l (slot k) x) p))
+      (eq-or-ne (slot k) p)
 
 -- ---- constants and initials
 module _ (ds : List Def) where
@@ -139,12 +145,15 @@ module _ (ds : List Def) where
   unfolding concat-map marksOn
   pass-constants [] l o = passes-none 1 l
   pass-constants (a ∷ es) l o =
-      rw (instrs-append (constantRecs ds a (a .what)) (constantPart ds es)) (pass-constant a (a .what) _ (constantKeys es) l o (pass-constants es))
+      rw (instrs-append (constantRecs ds a (a .what)) (constantPart ds es))
+      (pass-constant a (a .what) _ (constantKeys es) l o (pass-constants es))
 
   -- one definition more in front
-  pass-initial : (a : Def) (w : What) (R : List Instr) (es : List Equation) (l : List ℕ) → Open (heldKeys (equationOf (a .line) (a .key) w ++ es)) l
+  pass-initial : (a : Def) (w : What) (R : List Instr) (es : List Equation) (l : List ℕ)
+      → Open (heldKeys (equationOf (a .line) (a .key) w ++ es)) l
       → ((l : List ℕ) → Open (heldKeys es) l → Passes 2 l R (marksOn slot 2 (heldKeys es) l))
-      → Passes 2 l (instrs (initialRecs ds a w) ++ R) (marksOn slot 2 (heldKeys (equationOf (a .line) (a .key) w ++ es)) l)
+      → Passes 2 l (instrs (initialRecs ds a w) ++ R)
+      (marksOn slot 2 (heldKeys (equationOf (a .line) (a .key) w ++ es)) l)
   unfolding marksOn heldKeys
   pass-initial a (constant x) R es l o f = f l o
   pass-initial a (assigned e) R es l o f = f l o
@@ -162,4 +171,5 @@ module _ (ds : List Def) where
   unfolding concat-map marksOn heldKeys
   pass-initials [] l o = passes-none 2 l
   pass-initials (a ∷ es) l o =
-      rw (instrs-append (initialRecs ds a (a .what)) (initialPart ds es)) (pass-initial a (a .what) _ (equations es) l o (pass-initials es))
+      rw (instrs-append (initialRecs ds a (a .what)) (initialPart ds es))
+      (pass-initial a (a .what) _ (equations es) l o (pass-initials es))

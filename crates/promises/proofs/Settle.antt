@@ -68,7 +68,8 @@ module _ (slot : ℕ → ℕ) where
   unfoldable pub derivsAfter : List Equation → List Float → List Float → List Float
   derivsAfter [] v d = d
   derivsAfter (e ∷ es) v d =
-      derivsAfter es (stored (e .held) (slot (e .key)) (valueOf slot v (e .tree)) v) (derived (e .held) (slot (e .key)) (valueOf slot v (e .tree)) d)
+      derivsAfter es (stored (e .held) (slot (e .key)) (valueOf slot v (e .tree)) v)
+      (derived (e .held) (slot (e .key)) (valueOf slot v (e .tree)) d)
 
   -- after two rows
   pub values-append : (x y : List Equation) (v : List Float) → valuesAfter (x ++ y) v ≡ valuesAfter y (valuesAfter x v)
@@ -77,7 +78,8 @@ module _ (slot : ℕ → ℕ) where
   values-append (e ∷ x) y v = values-append x y _
 
   -- likewise the derivatives
-  pub derivs-append : (x y : List Equation) (v d : List Float) → derivsAfter (x ++ y) v d ≡ derivsAfter y (valuesAfter x v) (derivsAfter x v d)
+  pub derivs-append : (x y : List Equation) (v d : List Float)
+      → derivsAfter (x ++ y) v d ≡ derivsAfter y (valuesAfter x v) (derivsAfter x v d)
   unfolding valuesAfter derivsAfter
   derivs-append [] y v d = refl
   derivs-append (e ∷ x) y v d = derivs-append x y _ _
@@ -125,7 +127,8 @@ module _ (slot : ℕ → ℕ) where
   kept-derived true k x d ks p h = getD-set-other d (slot k) p x nan (λ e. h k (omega (arith, once-same k)) (sym e))
 
   -- so it is after all of them
-  pub kept-values : (es : List Equation) (v : List Float) (p : ℕ) → Free (assignedKeys es) p → getD (valuesAfter es v) p nan ≡ getD v p nan
+  pub kept-values : (es : List Equation) (v : List Float) (p : ℕ) → Free (assignedKeys es) p
+      → getD (valuesAfter es v) p nan ≡ getD v p nan
   unfolding valuesAfter assignedKeys
   kept-values [] v p h = refl
   kept-values (e ∷ es) v p h =
@@ -133,7 +136,8 @@ module _ (slot : ℕ → ℕ) where
       ∙ kept-stored (e .held) (e .key) _ v (assignedKeys es) p h
 
   -- with the derivatives too
-  pub kept-derivs : (es : List Equation) (v d : List Float) (p : ℕ) → Free (heldKeys es) p → getD (derivsAfter es v d) p nan ≡ getD d p nan
+  pub kept-derivs : (es : List Equation) (v d : List Float) (p : ℕ) → Free (heldKeys es) p
+      → getD (derivsAfter es v d) p nan ≡ getD d p nan
   unfolding derivsAfter heldKeys
   kept-derivs [] v d p h = refl
   kept-derivs (e ∷ es) v d p h =
@@ -168,14 +172,17 @@ module _ (slot : ℕ → ℕ) where
   Placed v d e = (slot (e .key) < length v) × (slot (e .key) < length d)
 
   -- the first holds at the end
-  met-one : (b : Bool) (k : ℕ) (x : Float) (v d : List Float) (es : List Equation) → slot k < length v → slot k < length d
+  met-one : (b : Bool) (k : ℕ) (x : Float) (v d : List Float) (es : List Equation) → slot k < length v
+      → slot k < length d
       → Free (assignedKeys es) (slot k) → Free (heldKeys es) (slot k)
-      → Meets (valuesAfter es (stored b (slot k) x v)) (derivsAfter es (stored b (slot k) x v) (derived b (slot k) x d)) b (slot k) x
+      → Meets (valuesAfter es (stored b (slot k) x v))
+      (derivsAfter es (stored b (slot k) x v) (derived b (slot k) x d)) b (slot k) x
   met-one false k x v d es hv hd a h = kept-values es (set v (slot k) x) (slot k) a ∙ getD-set-same v (slot k) x nan hv
   met-one true k x v d es hv hd a h = kept-derivs es v (set d (slot k) x) (slot k) h ∙ getD-set-same d (slot k) x nan hd
 
   -- EACH holds over the final values
-  pub settled : (es : List Equation) (v d : List Float) → Fair es → Every (Placed v d) es → Every (Met (valuesAfter es v) (derivsAfter es v d)) es
+  pub settled : (es : List Equation) (v d : List Float) → Fair es → Every (Placed v d) es
+      → Every (Met (valuesAfter es v) (derivsAfter es v d)) es
   unfolding valuesAfter derivsAfter
   settled [] v d f w = tt
   settled (e ∷ es) v d f w =
@@ -186,5 +193,8 @@ module _ (slot : ℕ → ℕ) where
       (λ k m. sym (kept-values (e ∷ es) v (slot k) (f .0 .early k m))) in
       let one = met-one (e .held) (e .key) x v d es (w .0 .0) (w .0 .1) (f .0 .apart) (f .0 .alone) in
       let lv = long-stored (e .held) (slot (e .key)) x v in
-      let ld = long-derived (e .held) (slot (e .key)) x d in
-      (rw (← same) one, settled es _ _ (f .1) (every-map _ _ es (λ (g : Equation) a. (rw lv (a .0), rw ld (a .1))) (w .1)))
+      let ld = long-derived (e .held) (slot (e .key)) x d in (
+        rw (← same) one,
+        settled es _ _ (f .1)
+            (every-map _ _ es (λ (g : Equation) a. (rw lv (a .0), rw ld (a .1))) (w .1)),
+      )

@@ -16,13 +16,15 @@ use Rattle.laws.proofs.Tests.{not-both, eq-or-ne}
 use Rattle.laws.proofs.Counts.{count-append, once-same, once-other}
 use Rattle.drafts.specs.Tree.{value}
 use Rattle.order.proofs.Sorting.{perm-below}
-use Rattle.model.specs.Definitions.{What, constant, assigned, integral, Def, keys, slotIn, Equation, equationAt, equationCount}
+use Rattle.model.specs.Definitions.{What, constant, assigned, integral, Def, keys, slotIn, Equation, equationAt}
+use Rattle.model.specs.Definitions.{equationCount}
 use Rattle.model.specs.Faults.{constantKey, constantKeys, usesIn, GoodOrder}
 use Rattle.model.proofs.KeyPlaces.{Once, equationKeys, count-keys}
 use Rattle.promises.specs.Meaning.{valueOf, definitionAt, Holds, Solution}
 use Rattle.promises.proofs.Settle.{assignedKeys, heldKeys, valuesAfter, derivsAfter, Free, Met, Placed, settled}
 use Rattle.promises.proofs.Settle.{kept-values, kept-derivs, long-values, long-derivs}
-use Rattle.promises.proofs.Owned.{ownEquation, locate, constant-key, at-most, own, eq-in, eq-mine, eq-same, slot-mine, slot-at, def-mine}
+use Rattle.promises.proofs.Owned.{ownEquation, locate, constant-key, at-most, own, eq-in, eq-mine, eq-same}
+use Rattle.promises.proofs.Owned.{slot-mine, slot-at, def-mine}
 use Rattle.promises.proofs.Runs.{asEquation, fixed}
 use Rattle.promises.proofs.Fairness.{fair-all, assigned-from, held-from}
 
@@ -37,7 +39,8 @@ every-fixed P (d ∷ es) a (suc i) x h e =
     every-fixed P es (every-right P (asEquation (d .line) (d .key) (d .what)) (fixed es) a) i x (omega arith) e
 
 -- what holds of each equation with a constant's key
-to-fixed : (P : Equation → Type 0) (es : List Def) → ((e : Equation) → e .key ∈ constantKeys es → P e) → Every P (fixed es)
+to-fixed : (P : Equation → Type 0) (es : List Def) → ((e : Equation) → e .key ∈ constantKeys es → P e)
+    → Every P (fixed es)
 unfolding concat-map count
 to-fixed P [] f = tt
 to-fixed P (d ∷ es) f =
@@ -46,7 +49,8 @@ to-fixed P (d ∷ es) f =
     (by (d .what) (λ (e : Equation) h. f e (omega (arith, count-append (e .key) ks (constantKeys es)))))
     (to-fixed P es (λ (e : Equation) h. f e (omega (arith, count-append (e .key) ks (constantKeys es)))))
   where
-    by : (w : What) → ((e : Equation) → e .key ∈ constantKey (d .key) w → P e) → Every P (asEquation (d .line) (d .key) w)
+    by : (w : What) → ((e : Equation) → e .key ∈ constantKey (d .key) w → P e)
+        → Every P (asEquation (d .line) (d .key) w)
     by (constant x) g = (g _ (omega (arith, once-same (d .key))), tt)
     by (assigned e) g = tt
     by (integral i e) g = tt
@@ -71,7 +75,8 @@ module _ (ds : List Def) where
   to-eqn P [] f = tt
   to-eqn P (i ∷ q) f = (f i (omega (arith, once-same i)), to-eqn P q (λ m h. f m (omega arith)))
 
-  module _ (one : Once (keys ds)) (q : List ℕ) (g : GoodOrder ds q) (v d : List Float) (few : length ds ≤ mostDefinitions)
+  module _ (one : Once (keys ds)) (q : List ℕ) (g : GoodOrder ds q) (v d : List Float)
+      (few : length ds ≤ mostDefinitions)
       (lv : slots ≤ length v) (ld : slots ≤ length d) where
     -- only places of equations stand in q
     below : (m : ℕ) → m ∈ q → m < equationCount ds
@@ -97,14 +102,16 @@ module _ (ds : List Def) where
     met : Every (Met slot v′ d′) all
     met =
         settled slot all v d (fair-all ds one q below (g .after) (at-most ds q g))
-        (every-append _ (fixed ds) (map eqn q) (to-fixed _ ds (λ (e : Equation) h. placed e (omega (arith, count-keys (e .key) ds))))
+        (every-append _ (fixed ds) (map eqn q)
+        (to-fixed _ ds (λ (e : Equation) h. placed e (omega (arith, count-keys (e .key) ds))))
         (to-eqn _ q (λ i h. placed (eqn i) (eq-mine ds one i (below i h)))))
 
     -- ---- TIME and the places behind the last definition stay
     assigned-mine : (j : ℕ) → j ∈ assignedKeys all → j ∈ keys ds
     assigned-mine j h =
         ⊎-elim (λ z. omega (arith, count-keys j ds))
-        (λ (z : (i : ℕ) × (i < equationCount ds) × (eqn i .held ≡ false) × (eqn i .key ≡ j)). rw (z .3) at (eq-mine ds one (z .0) (z .1)))
+        (λ (z : (i : ℕ) × (i < equationCount ds) × (eqn i .held ≡ false) × (eqn i .key ≡ j)). rw (z .3) at
+        (eq-mine ds one (z .0) (z .1)))
         (assigned-from ds one q below j h)
 
     -- so it is with a state's
@@ -144,7 +151,8 @@ module _ (ds : List Def) where
         is-X : (j : ℕ) → j < equationCount ds → eqn j .key ≡ it .key → eqn j ≡ X
         is-X j m k =
             let r = locate ds i X h e in
-            let z : j ≡ r .0 = eq-same ds one j (r .0) m (r .1) (k ∙ sym s ∙ sym (ap (λ (y : Equation). y .key) (r .2))) in
+            let z : j ≡ r .0 =
+            eq-same ds one j (r .0) m (r .1) (k ∙ sym s ∙ sym (ap (λ (y : Equation). y .key) (r .2))) in
             rw z (r .2)
 
         -- so nothing assigns its slot if X is a state's, and no derivative is its if X is not
@@ -153,7 +161,9 @@ module _ (ds : List Def) where
             let z = same j t in
             let r = locate ds i X h e in
             let k : eqn (r .0) .key ≡ j = ap (λ (y : Equation). y .key) (r .2) ∙ s ∙ sym z in
-            ⊎-elim (λ c. let y : j ∈ equationKeys ds = rw k at (eq-in ds one (r .0) (r .1)) in omega (arith, one j, count-keys j ds))
+            ⊎-elim
+            (λ c. let y : j ∈ equationKeys ds = rw k at (eq-in ds one (r .0) (r .1)) in omega
+            (arith, one j, count-keys j ds))
             (λ (a : (n : ℕ) × (n < equationCount ds) × (eqn n .held ≡ false) × (eqn n .key ≡ j)).
             not-both b (sym (ap (λ (y : Equation). y .held) (is-X (a .0) (a .1) (a .3 ∙ z))) ∙ a .2))
             (assigned-from ds one q below j m)
@@ -174,11 +184,15 @@ module _ (ds : List Def) where
           λ j m s. let a = held-from ds one q below j m in no-equation x e (a .0) (a .1) (a .3 ∙ same j s) in
           (rw (slot-at ds one i h) at m, kept-derivs slot all v d (suc i) none)
       holds (assigned t) e =
-          let X : Equation = record { line = it .line; key = it .key; held = false; tree = t } in
-          (rw (slot-at ds one i h) at (is-met X refl (rw e)), kept-derivs slot all v d (suc i) (underived X refl (rw e) refl))
+          let X : Equation = record { line = it .line; key = it .key; held = false; tree = t } in (
+            rw (slot-at ds one i h) at (is-met X refl (rw e)),
+            kept-derivs slot all v d (suc i) (underived X refl (rw e) refl),
+          )
       holds (integral n t) e =
-          let X : Equation = record { line = it .line; key = it .key; held = true; tree = t } in
-          (kept-values slot all v (suc i) (unassigned X refl (rw e) refl), rw (slot-at ds one i h) at (is-met X refl (rw e)))
+          let X : Equation = record { line = it .line; key = it .key; held = true; tree = t } in (
+            kept-values slot all v (suc i) (unassigned X refl (rw e) refl),
+            rw (slot-at ds one i h) at (is-met X refl (rw e)),
+          )
 
     -- THE SOLUTION
     pub solves : Solution ds v d v′ d′

@@ -9,7 +9,8 @@ use lib.Seq.{getD-set-same, getD-set-other}
 use lib.Ieee.{Float, nan}
 use Rattle.limits.specs.Limits.{slots, mostDefinitions}
 use Rattle.laws.specs.Lists.{concat-map}
-use Rattle.drafts.specs.Tree.{Two, plus, minus, times, over, compar, Three, insw, limit, Tree, value, named, time, negated, two, three}
+use Rattle.drafts.specs.Tree.{Two, plus, minus, times, over, compar, Three, insw, limit, Tree, value, named, time}
+use Rattle.drafts.specs.Tree.{negated, two, three}
 use Rattle.drafts.specs.Tree.{Initial}
 use Rattle.model.specs.Definitions.{What, constant, assigned, integral, Def, keys, slotIn, equationAt}
 use Rattle.model.specs.Faults.{orderOf}
@@ -25,7 +26,8 @@ use Rattle.promises.specs.Meaning.{definitionAt, Resolved, Begins, Begin
 use Rattle.promises.specs.Outcomes.{handedOn, Starts}
 use Rattle.promises.proofs.Postfix.{zero-same, steps}
 use Rattle.promises.proofs.Owned.{slot-at}
-use Rattle.promises.proofs.Runs.{instrs-append, constantPart, initialPart, orderedPart, program-parts, ordered-first}
+use Rattle.promises.proofs.Runs.{instrs-append, constantPart, initialPart, orderedPart, program-parts}
+use Rattle.promises.proofs.Runs.{ordered-first}
 use Rattle.promises.proofs.Zero.{clear}
 use Rattle.promises.proofs.Acceptance.{once, initials, read-back, not-refused, handed-on}
 
@@ -60,7 +62,8 @@ start-tree slot (named k) v = refl
 start-tree slot time v = refl
 start-tree slot (negated a) v = rw (start-append v (steps slot a), start-tree slot a v)
 start-tree slot (two o a b) v =
-    rw (start-append v (steps slot a), start-tree slot a v, start-append v (steps slot b), start-tree slot b v) (start-two o v)
+    rw (start-append v (steps slot a), start-tree slot a v, start-append v (steps slot b), start-tree slot b v)
+    (start-two o v)
 start-tree slot (three o a b c) v =
     rw (start-append v (steps slot a), start-tree slot a v, start-append v (steps slot b), start-tree slot b v)
     (rw (start-append v (steps slot c), start-tree slot c v) (start-three o v))
@@ -93,7 +96,11 @@ module _ (ds : List Def) where
   unfolding concat-map eachState
   start-constants [] v = refl
   start-constants (a ∷ es) v =
-      rw (instrs-append (constantRecs ds a (a .what)) (constantPart ds es), start-append v (instrs (constantRecs ds a (a .what))), by (a .what))
+      rw (
+        instrs-append (constantRecs ds a (a .what)) (constantPart ds es),
+        start-append v (instrs (constantRecs ds a (a .what))),
+        by (a .what),
+      )
       (start-constants es v)
     where
       by : (w : What) → startAll v (instrs (constantRecs ds a w)) ≡ v
@@ -102,12 +109,14 @@ module _ (ds : List Def) where
       by (integral i e) = refl
 
   -- the initials are all
-  start-program : (q : List ℕ) (v : List Float) → startAll v (instrs (program ds q)) ≡ startAll v (instrs (initialPart ds ds))
+  start-program : (q : List ℕ) (v : List Float)
+      → startAll v (instrs (program ds q)) ≡ startAll v (instrs (initialPart ds ds))
   start-program q v =
       let C = instrs (constantPart ds ds) in
       let I = instrs (initialPart ds ds) in
       let Q = instrs (orderedPart ds q) in
-      rw (program-parts ds q, start-append v C (I ++ Q), start-constants ds v, start-append v I Q) (start-ordered q (startAll v I))
+      rw (program-parts ds q, start-append v C (I ++ Q), start-constants ds v, start-append v I Q)
+      (start-ordered q (startAll v I))
 
   -- ---- the initials
 
@@ -152,11 +161,13 @@ module _ (ds : List Def) where
   after es v = startAll v (instrs (initialPart ds es))
 
   -- the first and the others
-  after-first : (a : Def) (es : List Def) (v : List Float) → after (a ∷ es) v ≡ after es (put (slot (a .key)) (a .what) v)
+  after-first : (a : Def) (es : List Def) (v : List Float)
+      → after (a ∷ es) v ≡ after es (put (slot (a .key)) (a .what) v)
   unfolding concat-map eachState
   after-first a es v = rw (instrs-append (initialRecs ds a (a .what)) (initialPart ds es)) (by (a .what))
     where
-      by : (w : What) → startAll v (instrs (initialRecs ds a w) ++ instrs (initialPart ds es)) ≡ after es (put (slot (a .key)) w v)
+      by : (w : What) → startAll v (instrs (initialRecs ds a w) ++ instrs (initialPart ds es))
+          ≡ after es (put (slot (a .key)) w v)
       by (constant x) = refl
       by (assigned e) = refl
       by (integral i e) = refl
@@ -165,14 +176,16 @@ module _ (ds : List Def) where
   after-long : (es : List Def) (v : List Float) → length (after es v) ≡ length v
   unfolding concat-map eachState
   after-long [] v = refl
-  after-long (a ∷ es) v = ap length (after-first a es v) ∙ after-long es (put (slot (a .key)) (a .what) v) ∙ put-long (slot (a .key)) (a .what) v
+  after-long (a ∷ es) v = ap length (after-first a es v) ∙ after-long es (put (slot (a .key)) (a .what) v)
+      ∙ put-long (slot (a .key)) (a .what) v
 
   -- the slot of definition j
   abbrev slotOf : List Def → ℕ → ℕ
   slotOf es j = slot (definitionAt es j .key)
 
   -- a place that is none of their slots stays
-  after-other : (es : List Def) (v : List Float) (p : ℕ) → ((j : ℕ) → j < length es → slotOf es j ≡ p → ⊥) → getD (after es v) p nan ≡ getD v p nan
+  after-other : (es : List Def) (v : List Float) (p : ℕ) → ((j : ℕ) → j < length es → slotOf es j ≡ p → ⊥)
+      → getD (after es v) p nan ≡ getD v p nan
   unfolding concat-map eachState
   after-other [] v p h = refl
   after-other (a ∷ es) v p h =
@@ -194,18 +207,22 @@ module _ (ds : List Def) where
       let s = slotOf es i in
       let v′ = put (slot (a .key)) (a .what) v in
       ap (λ (z : List Float). getD z s nan) (after-first a es v)
-      ∙ after-own es v′ i (omega arith) (λ j n e. h (suc j) (omega arith) (λ q. e (omega arith))) (rw (put-long (slot (a .key)) (a .what) v) l)
-      ∙ held-same s (definitionAt es i .what) v′ v (put-other (slot (a .key)) s (a .what) v (h 0 (omega arith) (λ e. omega arith)))
+      ∙ after-own es v′ i (omega arith) (λ j n e. h (suc j) (omega arith) (λ q. e (omega arith)))
+      (rw (put-long (slot (a .key)) (a .what) v) l)
+      ∙ held-same s (definitionAt es i .what) v′ v
+      (put-other (slot (a .key)) s (a .what) v (h 0 (omega arith) (λ e. omega arith)))
 
   module _ (one : Once (keys ds)) (few : length ds ≤ mostDefinitions)
-      (known : (i : ℕ) → i < length ds → (n : Initial) (t : Tree) → definitionAt ds i .what ≡ integral n t → Resolved ds n (initialValue ds n))
+      (known : (i : ℕ) → i < length ds → (n : Initial) (t : Tree) → definitionAt ds i .what ≡ integral n t
+      → Resolved ds n (initialValue ds n))
       (v : List Float) (lv : slots ≤ length v) where
     -- TIME is 0
     abbrev v₀ : List Float
     v₀ = set v 0 zero64
 
     -- what definition i sets its slot to, by what its name is
-    begins : (i : ℕ) → i < length ds → (w : What) → definitionAt ds i .what ≡ w → (v′ : List Float) → getD v′ (suc i) nan ≡ held (suc i) w v₀
+    begins : (i : ℕ) → i < length ds → (w : What) → definitionAt ds i .what ≡ w → (v′ : List Float)
+        → getD v′ (suc i) nan ≡ held (suc i) w v₀
         → Begins ds v v′ w (suc i)
     begins i h (constant x) q v′ e = e ∙ getD-set-other v 0 (suc i) zero64 nan (λ z. omega arith)
     begins i h (assigned t) q v′ e = e ∙ getD-set-other v 0 (suc i) zero64 nan (λ z. omega arith)
@@ -227,15 +244,19 @@ module _ (ds : List Def) where
     beginning =
         record {
           long = after-long ds v₀ ∙ length-set v 0 zero64;
-          clock = after-other ds v₀ 0 (λ j m e. omega arith) ∙ getD-set-same v 0 zero64 nan (omega arith) ∙ sym zero-same;
+          clock =
+              after-other ds v₀ 0 (λ j m e. omega arith) ∙ getD-set-same v 0 zero64 nan (omega arith) ∙ sym zero-same;
           each = each;
           rest =
               λ p h.
-              after-other ds v₀ p (λ j m e. omega (arith, slot-at ds one j m)) ∙ getD-set-other v 0 p zero64 nan (λ z. omega arith);
+              after-other ds v₀ p (λ j m e. omega (arith, slot-at ds one j m))
+              ∙ getD-set-other v 0 p zero64 nan (λ z. omega arith);
         }
 
--- STARTED. For verdict 0 and every start: starting the program writes 0 to TIME and each state's initial value to its slot, and no other place changes
-pub started : (text : List ℕ) (faults room : ℕ) (rs : List Rec) (ls : List ℕ) → verdictOf text faults room ≡ translated rs ls
+-- STARTED. For verdict 0 and every start: starting the program writes 0 to TIME and each state's initial value to its
+-- slot, and no other place changes
+pub started : (text : List ℕ) (faults room : ℕ) (rs : List Rec) (ls : List ℕ)
+    → verdictOf text faults room ≡ translated rs ls
     → (v d : List Float) → slots ≤ length v → slots ≤ length d → Starts text v d (starting (programBytes rs) v d)
 unfolding starting
 started text faults room rs ls e v d hv hd =
@@ -244,11 +265,14 @@ started text faults room rs ls e v d hv hd =
     let v₀ = set v 0 zero64 in
     let w : startAll v₀ (instrs rs) ≡ startAll v₀ (instrs (initialPart ds ds)) =
     ap (λ (x : List Rec). startAll v₀ (instrs x)) (c .written) ∙ start-program ds (orderOf ds) v₀ in
-    rw (not-refused c v d hv hd, read-back c, w) (record { accepted = refl; begun = beginning ds (once c) (c .few) (initials c) v hv; kept = refl })
+    rw (not-refused c v d hv hd, read-back c, w)
+    (record { accepted = refl; begun = beginning ds (once c) (c .few) (initials c) v hv; kept = refl })
 
 -- the same of the lent program buffer after a translation with number 0, cut to its count of records
 pub started-lent : (text f p : List ℕ) → translation text f p .number ≡ 0
-    → (v d : List Float) → slots ≤ length v → slots ≤ length d → Starts text v d (starting (handedOn (translation text f p)) v d)
+    → (v d : List Float) → slots ≤ length v → slots ≤ length d
+    → Starts text v d (starting (handedOn (translation text f p)) v d)
 started-lent text f p z v d hv hd =
     let r = handed-on text f p z in
-    subst (λ (b : List ℕ). Starts text v d (starting b v d)) (sym (r .3)) (started text (length f) (length p) (r .0) (r .1) (r .2) v d hv hd)
+    subst (λ (b : List ℕ). Starts text v d (starting b v d)) (sym (r .3))
+    (started text (length f) (length p) (r .0) (r .1) (r .2) v d hv hd)

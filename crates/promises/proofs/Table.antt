@@ -10,7 +10,7 @@ use Rattle.laws.specs.Runs.{run}
 use Rattle.laws.specs.Counts.{count}
 use Rattle.laws.proofs.Closed.{at-mem}
 use Rattle.limits.specs.Limits.{faultRoom, programRoom}
-use Rattle.bits.specs.Low.{lowBytes, lowWord}
+use Rattle.bits.specs.Low.{lowWord}
 use Rattle.deck.specs.Lines.{linesOf, trimmed, dotted, passed}
 use Rattle.deck.specs.Reading.{after, ended, left, reading}
 use Rattle.deck.specs.Joined.{partOf, joined}
@@ -22,17 +22,19 @@ use Rattle.tokens.specs.Row.{rowFrom, rowOf}
 use Rattle.drafts.specs.Tree.{names}
 use Rattle.drafts.specs.Items.{postfix}
 use Rattle.grammar.specs.Look.{next, rest, byteOf, give-to, shapeOf, startOf}
-use Rattle.grammar.specs.Parser.{bind, parse, signedNumber, many, initially, assigned, integrated, statement, entire, readRow}
+use Rattle.grammar.specs.Parser.{bind, parse, signedNumber, many, initially, assigned, integrated, statement, entire}
+use Rattle.grammar.specs.Parser.{readRow}
 use Rattle.sheet.specs.Sheet.{Fault}
 use Rattle.sheet.specs.Reader.{told, sheetOf}
 use Rattle.order.specs.Order.{any, chained}
 use Rattle.order.specs.Greedy.{all, first, ready, next as nextReady, place, order}
 use Rattle.model.specs.Definitions.{placeIn}
 use Rattle.model.specs.Faults.{again, faults21, within, modelFaults}
-use Rattle.records.specs.declared.Instr.the-variants.{Constant, Initial, Value, Slot, Add, Sub, Mul, Div, Neg, Insw, Limit, Compar, Store, Deriv}
+use Rattle.records.specs.declared.Instr.the-variants.{Constant, Initial, Value, Slot, Sub, Mul, Neg, Limit, Store}
+use Rattle.records.specs.declared.Instr.the-variants.{Deriv}
 use Rattle.records.specs.Record.{Rec, rec}
 use Rattle.program.specs.Program.{valueIn, program}
-use Rattle.translator.specs.Verdict.{Verdict, refused, faulty, translated, judged, verdictOf}
+use Rattle.translator.specs.Verdict.{Verdict, faulty, translated, judged, verdictOf}
 use Rattle.listing_text.specs.Listing.{figuresIn, listed, listing}
 
 -- the numbers that the texts have, by their bits
@@ -51,7 +53,8 @@ three64 = ofBits binary64 0x4008_0000_0000_0000
 abbrev fault : ℕ → ℕ → Place → Fault
 fault l c p = record { line = l; code = c; place = p }
 
--- a row: a text, its verdict with the fault list or the records and the first lines of the ordered statements, and its listing
+-- a row: a text, its verdict with the fault list or the records and the first lines of the ordered statements, and its
+-- listing
 pub record Row : Type 0 where
   pub text : String
   pub verdict : Verdict
@@ -64,7 +67,8 @@ row t v l = record { text = t; verdict = v; listing = l }
 abbrev pub tank : String
 tank = "* TANK\nPARAM K=2\nQ=K*H\nH=INTGRL(1,F-Q)\nF=LIMIT(0,3,TIME)\n"
 
--- its 15 records: the constant, the initial, then Q (line 3), F (line 5) and H (line 4). The slots are 1 K, 2 Q, 3 H, 4 F
+-- its 15 records: the constant, the initial, then Q (line 3), F (line 5) and H (line 4). The slots are 1 K, 2 Q, 3 H, 4
+-- F
 abbrev tankRecords : List Rec
 tankRecords =
     rec 2 (Constant 1 two64)
@@ -89,15 +93,19 @@ unfoldable pub rows : List Row
 rows =
     row "" (translated [] []) "OK 0\n"
     ∷ row tank (translated tankRecords (3 ∷ 5 ∷ 4 ∷ [])) "OK 15\n3\n5\n4\n"
-    ∷ row "* TANK\nPARAM K=2\nQ=K*\nH=INTGRL(1,F-Q)\nF=LIMIT(0,3,TIME)\n" (faulty 5 (fault 3 18 at-end ∷ [])) "NO 5\n3 18\n"
-    ∷ row "X=INTGRL(1,-X)" (translated (rec 1 (Initial 1 one64) ∷ rec 1 (Slot 1) ∷ rec 1 Neg ∷ rec 1 (Deriv 1) ∷ []) (1 ∷ [])) "OK 4\n1\n"
+    ∷ row "* TANK\nPARAM K=2\nQ=K*\nH=INTGRL(1,F-Q)\nF=LIMIT(0,3,TIME)\n"
+    (faulty 5 (fault 3 18 at-end ∷ [])) "NO 5\n3 18\n"
+    ∷ row "X=INTGRL(1,-X)"
+    (translated (rec 1 (Initial 1 one64) ∷ rec 1 (Slot 1) ∷ rec 1 Neg ∷ rec 1 (Deriv 1) ∷ []) (1 ∷ [])) "OK 4\n1\n"
     ∷ row "A=A+1" (faulty 7 (fault 1 24 at-start ∷ [])) "NO 7\n1 24\n"
     ∷ row "A=B\nB=A\nC=1" (faulty 7 (fault 1 24 at-start ∷ fault 2 24 at-start ∷ [])) "NO 7\n1 24\n2 24\n"
-    ∷ row "A=B\nB=A\nD=A" (faulty 7 (fault 1 24 at-start ∷ fault 2 24 at-start ∷ fault 3 24 at-start ∷ [])) "NO 7\n1 24\n2 24\n3 24\n"
+    ∷ row "A=B\nB=A\nD=A" (faulty 7 (fault 1 24 at-start ∷ fault 2 24 at-start ∷ fault 3 24 at-start ∷ []))
+    "NO 7\n1 24\n2 24\n3 24\n"
     ∷ row "CONST A=1,A=2" (faulty 7 (fault 1 21 at-start ∷ [])) "NO 7\n1 21\n"
     ∷ row "X=INTGRL(Y,1)\nY=2" (faulty 7 (fault 1 23 at-start ∷ [])) "NO 7\n1 23\n"
     ∷ row "A=1..." (faulty 5 (fault 1 11 at-end ∷ [])) "NO 5\n1 11\n"
-    ∷ row "A=3...\n*2" (translated (rec 1 (Value three64) ∷ rec 1 (Value two64) ∷ rec 1 Mul ∷ rec 1 (Store 1) ∷ []) (1 ∷ [])) "OK 4\n1\n"
+    ∷ row "A=3...\n*2"
+    (translated (rec 1 (Value three64) ∷ rec 1 (Value two64) ∷ rec 1 Mul ∷ rec 1 (Store 1) ∷ []) (1 ∷ [])) "OK 4\n1\n"
     ∷ row "ABCDEFG=1" (faulty 5 (fault 1 15 (at-token 0) ∷ [])) "NO 5\n1 15\n"
     ∷ row "ABCDEF=1" (translated (rec 1 (Value one64) ∷ rec 1 (Store 1) ∷ []) (1 ∷ [])) "OK 2\n1\n"
     ∷ []
@@ -115,11 +123,15 @@ wanted r = record { verdict = r .verdict; listing = bytes (r .listing) }
 
 -- THE TABLE. Each text has the verdict and the listing that stand beside it
 pub tried : map shown rows ≡ map wanted rows
-unfolding rows listing listed figuresIn verdictOf judged linesOf trimmed dotted passed after ended left reading partOf joined anyLong sizeFlaw told sheetOf
-    concat-map sameBytes numbers run count lowWord decimal digitsFrom exponentFrom tenTo scaled numberOf numberAt nameAt tokenAt cutAt
+unfolding rows listing listed figuresIn verdictOf judged linesOf trimmed dotted passed after ended left reading partOf
+    joined anyLong sizeFlaw told sheetOf
+    concat-map sameBytes numbers run count lowWord decimal digitsFrom exponentFrom tenTo scaled numberOf numberAt nameAt
+    tokenAt cutAt
     lookUp symbolNamed rowFrom rowOf
-    names postfix next rest byteOf give-to shapeOf startOf bind parse signedNumber many initially assigned integrated statement entire readRow
-    any chained all first ready nextReady place order placeIn again faults21 within modelFaults valueIn program ofBits ofInt mul div neg round
+    names postfix next rest byteOf give-to shapeOf startOf bind parse signedNumber many initially assigned integrated
+    statement entire readRow
+    any chained all first ready nextReady place order placeIn again faults21 within modelFaults valueIn program ofBits
+    ofInt mul div neg round
     units size climb span odd
 tried = refl
 

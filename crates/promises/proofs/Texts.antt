@@ -1,4 +1,5 @@
--- What is known of the statements of a text that have no fault: their numbers are doubles, and the stack's places suffice for them.
+-- What is known of the statements of a text that have no fault: their numbers are doubles, and the stack's places
+-- suffice for them.
 use Prim.Native.Nat.{ℕ, _≤_}
 use mathlib.Core.Path.{_≡_, refl, ap}
 use mathlib.Core.Bool.{Bool}
@@ -22,7 +23,8 @@ use Rattle.grammar.proofs.Accepts.{accepts}
 use Rattle.grammar.proofs.Stack.{peak, peakOf, suffices}
 use Rattle.sheet.specs.Sheet.{Told, says, faulty, Numbered, saidBy, said}
 use Rattle.sheet.specs.Reader.{parsed, scanned, sized, told, sheetOf}
-use Rattle.model.specs.Definitions.{What, constant, assigned, integral, Def, definedBy, definitions, Equation, equationOf, equations}
+use Rattle.model.specs.Definitions.{What, constant, assigned, integral, Def, definedBy, definitions, Equation}
+use Rattle.model.specs.Definitions.{equationOf, equations}
 use Rattle.promises.proofs.Decoding.{Double}
 use Rattle.promises.proofs.Numbers.{DoubleToken, Doubles, DoubleInitial, DoubleSays, double-says}
 
@@ -78,7 +80,8 @@ abbrev Reported : Report Told → Type 0
 Reported r = (x : Says) → r .what ≡ says x → Fits x
 
 -- what is told and has no fault fits
-said-fits : (l : ℕ) (t : Told) → ((x : Says) → t ≡ says x → Fits x) → Every (λ (s : Numbered). Fits (s .says)) (saidBy l t)
+said-fits : (l : ℕ) (t : Told) → ((x : Says) → t ≡ says x → Fits x)
+    → Every (λ (s : Numbered). Fits (s .says)) (saidBy l t)
 said-fits l (says x) f = (f x refl, tt)
 said-fits l (faulty c p) f = tt
 
@@ -89,7 +92,8 @@ text-fits text =
     every-concat Reported (λ (s : Numbered). Fits (s .says)) (λ (r : Report Told). saidBy (r .line) (r .what))
     (λ r f. said-fits (r .line) (r .what) f) (sheetOf text)
     (every-mapped (λ (s : Statement). Unit {0}) Reported (report told) (λ s _ x e. told-fits (s .cards) (s .closed) x e)
-    (reading fresh 1 (linesOf text)) (every-all (λ (s : Statement). Unit {0}) (λ s. tt) (reading fresh 1 (linesOf text))))
+    (reading fresh 1 (linesOf text))
+    (every-all (λ (s : Statement). Unit {0}) (λ s. tt) (reading fresh 1 (linesOf text))))
 
 -- ---- definitions and equations
 
@@ -117,7 +121,8 @@ defined-fits l (state k i e) f = ((f .0 .0, (f .0 .1, f .1)), tt)
 -- EACH DEFINITION of a text
 pub definitions-fit : (text : List ℕ) → FitsAll (definitions (said (sheetOf text)))
 definitions-fit text =
-    every-concat (λ (s : Numbered). Fits (s .says)) (λ (d : Def). FitsWhat (d .what)) (λ (s : Numbered). definedBy (s .line) (s .says))
+    every-concat (λ (s : Numbered). Fits (s .says)) (λ (d : Def). FitsWhat (d .what))
+    (λ (s : Numbered). definedBy (s .line) (s .says))
     (λ s f. defined-fits (s .line) (s .says) f) (said (sheetOf text)) (text-fits text)
 
 -- of the equation of a definition
@@ -129,5 +134,6 @@ equation-fits l k (integral i e) f = (f .1, tt)
 -- EACH EQUATION
 pub equations-fit : (ds : List Def) → FitsAll ds → Every (λ (e : Equation). FitsTree (e .tree)) (equations ds)
 equations-fit ds f =
-    every-concat (λ (d : Def). FitsWhat (d .what)) (λ (e : Equation). FitsTree (e .tree)) (λ (d : Def). equationOf (d .line) (d .key) (d .what))
+    every-concat (λ (d : Def). FitsWhat (d .what)) (λ (e : Equation). FitsTree (e .tree))
+    (λ (d : Def). equationOf (d .line) (d .key) (d .what))
     (λ d h. equation-fits (d .line) (d .key) (d .what) h) ds f

@@ -9,7 +9,8 @@ use borrow.Author.Tests.{le-ltb}
 use lib.Dec.{ltb}
 use lib.ListN.{length}
 use Rattle.laws.proofs.Tests.{cond-ind}
-use Rattle.limits.specs.Limits.{faultRoom, textBytes, textLines, mostStatements, mostDefinitions, mostRecords, recordBytes}
+use Rattle.limits.specs.Limits.{faultRoom, textBytes, textLines, mostStatements, mostDefinitions, mostRecords}
+use Rattle.limits.specs.Limits.{recordBytes}
 use Rattle.deck.specs.Lines.{linesOf}
 use Rattle.sheet.specs.Sheet.{Numbered, Fault, said}
 use Rattle.sheet.specs.Reader.{sheetOf}
@@ -17,7 +18,8 @@ use Rattle.model.specs.Definitions.{definitions}
 use Rattle.model.specs.Faults.{modelFaults, orderOf}
 use Rattle.model.specs.Text.{textDefinitions, lineAt}
 use Rattle.program.specs.Program.{program}
-use Rattle.translator.specs.Verdict.{Verdict, refused, faulty, translated, ifFaults, modelled, judged, verdictOf, numberOf, translationOf, translation}
+use Rattle.translator.specs.Verdict.{Verdict, refused, faulty, translated, ifFaults, modelled, judged, verdictOf}
+use Rattle.translator.specs.Verdict.{numberOf, translationOf, translation}
 use Rattle.promises.specs.Change.{Admitted, faultsOf, Convicts}
 
 -- a test that would give another number fails
@@ -28,12 +30,14 @@ not-given n false v h = refl
 module _ (text : List ℕ) (f p : ℕ) (room : faultRoom ≤ f) (ok : Admitted (verdictOf text f p)) where
   -- not 1: so the verdict is found by the text's size
   roomy : verdictOf text f p
-      ≡ cond (ltb textBytes (length text)) (refused 2) (cond (ltb textLines (length (linesOf text))) (refused 3) (judged p (sheetOf text)))
+      ≡ cond (ltb textBytes (length text)) (refused 2)
+      (cond (ltb textLines (length (linesOf text))) (refused 3) (judged p (sheetOf text)))
   unfolding verdictOf
   roomy = rw (le-ltb f faultRoom room)
 
   -- not 2, 3 or 4: so it is within all three sizes
-  pub sizes : (ltb textBytes (length text) ≡ false) × (ltb textLines (length (linesOf text)) ≡ false) × (ltb mostStatements (length (sheetOf text)) ≡ false)
+  pub sizes : (ltb textBytes (length text) ≡ false) × (ltb textLines (length (linesOf text)) ≡ false)
+      × (ltb mostStatements (length (sheetOf text)) ≡ false)
   unfolding judged
   sizes =
       let bytes = not-given 2 (ltb textBytes (length text)) _ (λ e. ok .not-two (ap numberOf roomy ∙ e)) in
@@ -48,10 +52,12 @@ module _ (text : List ℕ) (f p : ℕ) (room : faultRoom ≤ f) (ok : Admitted (
   by-faults = roomy ∙ rw (sizes .0, sizes .1, sizes .2)
 
 -- A STATEMENT FAULT means verdict 5 with the list of them all, and the program as lent
-pub convicts : (text f p : List ℕ) → faultRoom ≤ length f → Admitted (verdictOf text (length f) (length p)) → Convicts text f p
+pub convicts : (text f p : List ℕ) → faultRoom ≤ length f → Admitted (verdictOf text (length f) (length p))
+    → Convicts text f p
 unfolding translation
 convicts text f p room ok x xs e =
-    let v = by-faults text (length f) (length p) room ok ∙ ap (λ (fs : List Fault). ifFaults 5 fs (modelled (length p) (said (sheetOf text)))) e in
+    let v = by-faults text (length f) (length p) room ok
+    ∙ ap (λ (fs : List Fault). ifFaults 5 fs (modelled (length p) (said (sheetOf text)))) e in
     ap (λ (w : Verdict). translationOf w f p) v
 
 -- the model gives no 5
@@ -61,7 +67,8 @@ model-number room ss =
     let Other : Verdict → Type 0 = λ (v : Verdict). numberOf v ≡ 5 → ⊥ in
     cond-ind Other (ltb mostDefinitions (length (definitions ss))) (refused 6) _ (λ _ e. omega arith)
     (λ _. given (modelFaults ss) _
-    (cond-ind Other (ltb mostRecords (length rs) || ltb (room / recordBytes) (length rs)) (refused 8) _ (λ _ e. omega arith) (λ _ e. omega arith)))
+    (cond-ind Other (ltb mostRecords (length rs) || ltb (room / recordBytes) (length rs)) (refused 8) _
+    (λ _ e. omega arith) (λ _ e. omega arith)))
   where
     given : (fs : List Fault) (v : Verdict) → (numberOf v ≡ 5 → ⊥) → numberOf (ifFaults 7 fs v) ≡ 5 → ⊥
     given [] v h e = h e
@@ -73,8 +80,12 @@ pub five-exactly : (text : List ℕ) (f p : ℕ) → faultRoom ≤ f → Admitte
 five-exactly text f p room ok =
     let v = by-faults text f p room ok in
     let ss = said (sheetOf text) in
-    let none : faultsOf text ≡ [] → verdictOf text f p ≡ modelled p ss = λ z. v ∙ ap (λ (fs : List Fault). ifFaults 5 fs (modelled p ss)) z in
-    (λ e z. model-number p ss (sym (ap numberOf (none z)) ∙ e), λ n. ap numberOf v ∙ some (faultsOf text) (modelled p ss) n)
+    let none : faultsOf text ≡ [] → verdictOf text f p ≡ modelled p ss =
+    λ z. v ∙ ap (λ (fs : List Fault). ifFaults 5 fs (modelled p ss)) z in (
+      λ e z. model-number p ss (sym (ap numberOf (none z)) ∙ e),
+      λ n. ap numberOf v
+          ∙ some (faultsOf text) (modelled p ss) n,
+    )
   where
     some : (fs : List Fault) (v : Verdict) → (fs ≡ [] → ⊥) → numberOf (ifFaults 5 fs v) ≡ 5
     some [] v n = absurd (n refl)
@@ -94,7 +105,9 @@ module _ (P : Verdict → Type 0) (refuses : (n : ℕ) → 0 < n → P (refused 
 
   -- what holds of each of them holds of every text's verdict
   pub verdict-ind : (text : List ℕ) (f p : ℕ)
-      → P (translated (program (textDefinitions text) (orderOf (textDefinitions text))) (map (lineAt (textDefinitions text)) (orderOf (textDefinitions text))))
+      → P
+      (translated (program (textDefinitions text) (orderOf (textDefinitions text)))
+      (map (lineAt (textDefinitions text)) (orderOf (textDefinitions text))))
       → P (verdictOf text f p)
   unfolding verdictOf judged
   verdict-ind text f p h =

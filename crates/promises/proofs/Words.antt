@@ -1,22 +1,23 @@
 -- Every number of every text has the value that the paper gives it; names have one key exactly if they are one name.
 use Prim.Native.Nat.{ℕ, zero, suc, _+_, _-_, _^_, _<_}
 use mathlib.Core.Path.{_≡_, refl, sym, ap, subst}
-use mathlib.Core.Bool.{Bool, true, false, _&&_, _||_}
+use mathlib.Core.Bool.{Bool, true, false, _||_}
 use mathlib.Core.List.{List, List·Memᴰ, List·Memᴰ·not-nil, List·Memᴰ·cases-cons}
 use mathlib.Core.Logic.{⊎-elim, _↔_}
 use native.Mathlib.Nat.{lt-of-lt-of-le, pow-le-pow-right}
 use native.Mathlib.Omega.{arith}
-use borrow.Author.Tests.{leb-true, le-leb, lt-leb}
+use borrow.Author.Tests.{le-leb, lt-leb}
 use lib.Dec.{eqb, leb, ltb, lit<}
 use lib.ListN.{length, getD, take, drop}
 use lib.Ieee.{Float}
-use Rattle.laws.proofs.Tests.{cond-ind, and-true}
-use Rattle.limits.specs.Limits.{mostDigits, mostTens, nameBytes}
+use Rattle.laws.proofs.Tests.{cond-ind}
+use Rattle.limits.specs.Limits.{nameBytes}
 use Rattle.tokens.specs.declared.Token.{Token}
 use Rattle.tokens.specs.declared.Token.the-variants.{Name as Named, Mark, Number, End, Bad}
 use Rattle.tokens.specs.declared.Cut.{Cut}
 use Rattle.tokens.specs.Bytes.{isLetter, isDigit, isPoint, isMark, isWord, wordAt, spacesAt}
-use Rattle.tokens.specs.Number.{Digits, digitsFrom, Exponent, exponent, wrong, exponentFrom, scaled, inRange, numberOf, signedNumber}
+use Rattle.tokens.specs.Number.{Digits, digitsFrom, Exponent, exponent, wrong, exponentFrom, scaled, inRange, numberOf}
+use Rattle.tokens.specs.Number.{signedNumber}
 use Rattle.tokens.specs.Token.{cutOf, badAt, numberEnd, numberAt, nameAt, tokenAt, cutAt}
 use Rattle.tokens.specs.Symbol.{Symbol, mark, number, name, word, keyOf, symbolNamed}
 use Rattle.tokens.specs.Row.{Placed, Row, onto, ahead, rowFrom, rowOf}
@@ -60,7 +61,15 @@ number-valued : (m up down : ℕ) → Valued (numberOf m up down)
 unfolding numberOf
 number-valued m up down =
     cond-ind Valued (inRange m up down) (Number (scaled m up down)) (Bad 17)
-    (λ t. record { m = m; up = up; down = down; range = in-range m up down t; value = refl; rounded = rounded-once m up down t }) (λ _. tt)
+    (λ t.
+    record {
+      m = m;
+      up = up;
+      down = down;
+      range = in-range m up down t;
+      value = refl;
+      rounded = rounded-once m up down t;
+    }) (λ _. tt)
 
 -- by the sign of the exponent
 signed-valued : (m : Digits) (minus : Bool) (e : ℕ) → Valued (signedNumber m minus e)
@@ -75,7 +84,8 @@ Good c = Valued (c .token)
 end-valued : (s : List ℕ) (at : ℕ) (m : Digits) (e : Exponent) → Good (numberEnd s at m e)
 end-valued s at m wrong = tt
 end-valued s at m (exponent minus e stop) =
-    cond-ind Good (isWord (getD s stop 0) || isPoint (getD s stop 0)) (badAt 16 at) (cutOf (signedNumber m minus e) at stop) (λ _. tt)
+    cond-ind Good (isWord (getD s stop 0) || isPoint (getD s stop 0)) (badAt 16 at)
+    (cutOf (signedNumber m minus e) at stop) (λ _. tt)
     (λ _. signed-valued m minus e)
 
 -- by the digits
@@ -121,11 +131,14 @@ AllWorth ps = (q : Placed) → List·Memᴰ q ps → Worth (q .symbol)
 
 -- one more in front
 onto-worth : (t : Symbol) (at : ℕ) (r : Row) → Worth t → AllWorth (r .tokens) → AllWorth (onto t at r .tokens)
-onto-worth t at r h f q m = ⊎-elim (λ e. subst (λ (x : Placed). Worth (x .symbol)) (sym e) h) (f q) (List·Memᴰ·cases-cons m)
+onto-worth t at r h f q m =
+    ⊎-elim (λ e. subst (λ (x : Placed). Worth (x .symbol)) (sym e) h) (f q) (List·Memᴰ·cases-cons m)
 
 -- the token of a cut in front
-ahead-worth : (s : List ℕ) (t : Token) (at : ℕ) (r : Row) → Valued t → AllWorth (r .tokens) → AllWorth (ahead s t at r .tokens)
-ahead-worth s (Named p n) at r v f = onto-worth (symbolNamed (take n (drop p s))) at r (named-worth (take n (drop p s))) f
+ahead-worth : (s : List ℕ) (t : Token) (at : ℕ) (r : Row) → Valued t → AllWorth (r .tokens)
+    → AllWorth (ahead s t at r .tokens)
+ahead-worth s (Named p n) at r v f =
+    onto-worth (symbolNamed (take n (drop p s))) at r (named-worth (take n (drop p s))) f
 ahead-worth s (Mark b) at r v f = onto-worth (mark b) at r tt f
 ahead-worth s (Number x) at r v f = onto-worth (number x) at r v f
 ahead-worth s End at r v f = λ q m. absurd (List·Memᴰ·not-nil m)
@@ -136,10 +149,12 @@ from-worth : (f : ℕ) (s : List ℕ) (i : ℕ) → AllWorth (rowFrom f s i .tok
 unfolding rowFrom
 from-worth zero s i = λ q m. absurd (List·Memᴰ·not-nil m)
 from-worth (suc f) s i =
-    let c = cutAt s i in ahead-worth s (c .token) (c .at) (rowFrom f s (c .next)) (cut-valued s i) (from-worth f s (c .next))
+    let c = cutAt s i in
+    ahead-worth s (c .token) (c .at) (rowFrom f s (c .next)) (cut-valued s i) (from-worth f s (c .next))
 
 -- EVERY NUMBER of every row of tokens has such a value
-pub row-values : (s : List ℕ) (at : ℕ) (x : Float) → List·Memᴰ (record { symbol = number x; at = at }) (rowOf s .tokens) → IsValue x
+pub row-values : (s : List ℕ) (at : ℕ) (x : Float) → List·Memᴰ (record { symbol = number x; at = at }) (rowOf s .tokens)
+    → IsValue x
 unfolding rowOf
 row-values s at x m = from-worth (suc (length s)) s 0 (record { symbol = number x; at = at }) m
 
@@ -150,7 +165,8 @@ pub key-iff : (x y : List ℕ) → Name x → Name y → (keyOf x ≡ keyOf y) �
 key-iff x y a b = (key-injective x y (a .spelled) (b .spelled), ap keyOf)
 
 -- so have name tokens, which are no reserved words
-pub name-iff : (x y : List ℕ) (j k : ℕ) → Name x → Name y → symbolNamed x ≡ name j → symbolNamed y ≡ name k → (j ≡ k) ↔ (x ≡ y)
+pub name-iff : (x y : List ℕ) (j k : ℕ) → Name x → Name y → symbolNamed x ≡ name j → symbolNamed y ≡ name k
+    → (j ≡ k) ↔ (x ≡ y)
 name-iff x y j k a b p q =
     let e = name-key x j p in
     let f = name-key y k q in

@@ -7,7 +7,8 @@ use native.Mathlib.Omega.{arith}
 use borrow.Author.Tests.{ltb-false}
 use lib.Dec.{ltb, lit<}
 use lib.ListN.{length}
-use Rattle.limits.specs.Limits.{faultRoom, textBytes, textLines, mostStatements, mostDefinitions, mostRecords, recordBytes}
+use Rattle.limits.specs.Limits.{faultRoom, textBytes, textLines, mostStatements, mostDefinitions, mostRecords}
+use Rattle.limits.specs.Limits.{recordBytes}
 use Rattle.laws.proofs.Tests.{cond-ind}
 use Rattle.laws.proofs.Bools.{or-false}
 use Rattle.deck.specs.Lines.{linesOf}
@@ -17,7 +18,8 @@ use Rattle.model.specs.Definitions.{definitions}
 use Rattle.model.specs.Faults.{modelFaults, orderOf}
 use Rattle.records.specs.Record.{Rec}
 use Rattle.program.specs.Program.{program}
-use Rattle.translator.specs.Verdict.{Verdict, refused, faulty, translated, ifFaults, programmed, modelled, judged, verdictOf, numberOf}
+use Rattle.translator.specs.Verdict.{Verdict, refused, faulty, translated, ifFaults, programmed, modelled, judged}
+use Rattle.translator.specs.Verdict.{verdictOf, numberOf}
 
 -- no statement fault, no model fault, not too many definitions; the program is that of the order, and has room
 pub record Clear (text : List ℕ) (room : ℕ) (rs : List Rec) : Type 0 where
@@ -40,17 +42,20 @@ module _ (text : List ℕ) (room : ℕ) where
   sheet = sheetOf text
 
   -- where some fault stands the number is not 0
-  known-faults : (n : ℕ) (fs : List Fault) (next : Verdict) → 0 < n → (fs ≡ [] → Known text room next) → Known text room (ifFaults n fs next)
+  known-faults : (n : ℕ) (fs : List Fault) (next : Verdict) → 0 < n → (fs ≡ [] → Known text room next)
+      → Known text room (ifFaults n fs next)
   known-faults n [] next h f = f refl
   known-faults n (x ∷ fs) next h f = h
 
   -- 8
-  known-fitted : statementFaults sheet ≡ [] → length (definitions (said sheet)) ≤ mostDefinitions → modelFaults (said sheet) ≡ []
+  known-fitted : statementFaults sheet ≡ [] → length (definitions (said sheet)) ≤ mostDefinitions
+      → modelFaults (said sheet) ≡ []
       → Known text room (programmed room (definitions (said sheet)))
   known-fitted a b c =
       let ds = definitions (said sheet) in
       let rs = program ds (orderOf ds) in
-      cond-ind (Known text room) (ltb mostRecords (length rs) || ltb (room / recordBytes) (length rs)) (refused 8) (translated rs _) (λ _. lit< tt)
+      cond-ind (Known text room) (ltb mostRecords (length rs) || ltb (room / recordBytes) (length rs)) (refused 8)
+      (translated rs _) (λ _. lit< tt)
       (λ t.
       let p = or-false (ltb mostRecords (length rs)) (ltb (room / recordBytes) (length rs)) t in
       record {
@@ -67,7 +72,8 @@ module _ (text : List ℕ) (room : ℕ) where
   known-modelled a =
       let ds = definitions (said sheet) in
       cond-ind (Known text room) (ltb mostDefinitions (length ds)) (refused 6) _ (λ _. lit< tt)
-      (λ t. known-faults 7 (modelFaults (said sheet)) (programmed room ds) (lit< tt) (known-fitted a (ltb-false mostDefinitions (length ds) t)))
+      (λ t. known-faults 7 (modelFaults (said sheet)) (programmed room ds) (lit< tt)
+      (known-fitted a (ltb-false mostDefinitions (length ds) t)))
 
   -- 4 and 5
   known-judged : Known text room (judged room sheet)
@@ -87,7 +93,8 @@ known text faults room =
     (λ _. known-judged text room)))
 
 -- a text that is translated is clear
-pub clear : (text : List ℕ) (faults room : ℕ) (rs : List Rec) (ls : List ℕ) → verdictOf text faults room ≡ translated rs ls → Clear text room rs
+pub clear : (text : List ℕ) (faults room : ℕ) (rs : List Rec) (ls : List ℕ)
+    → verdictOf text faults room ≡ translated rs ls → Clear text room rs
 clear text faults room rs ls e = subst (Known text room) e (known text faults room)
 
 -- number 0 is that of a text that is translated, and of no other

@@ -1,5 +1,5 @@
--- Agreement: any two outcomes that a contract allows are equal. For each open entry its contract, in its own words, over an outcome: the
--- answer, then each lent buffer afterwards. An entry without an answer has its buffer alone.
+-- Agreement: any two outcomes that a contract allows are equal. For each open entry its contract, in its own words,
+-- over an outcome: the answer, then each lent buffer afterwards. An entry without an answer has its buffer alone.
 use Prim.Native.Nat.{ℕ, _-_, _*_, _≤_, _<_, _^_, min}
 use mathlib.Core.Path.{_≡_}
 use mathlib.Core.Bool.{Bool}
@@ -61,7 +61,8 @@ Agree3 {A} {B} {D} C = (r s : A) (a b : B) (c d : D) → C r a c → C s b d →
 -- of five: an answer, three buffers, and further arrays that were lent
 abbrev pub Agree5 : {A B D E L : Type 0} → (A → B → D → E → L → Type 0) → Type 0
 Agree5 {A} {B} {D} {E} {L} C =
-    (r s : A) (a b : B) (c d : D) (e f : E) (l m : L) → C r a c e l → C s b d f m → (r ≡ s) × (a ≡ b) × (c ≡ d) × (e ≡ f) × (l ≡ m)
+    (r s : A) (a b : B) (c d : D) (e f : E) (l m : L) → C r a c e l → C s b d f m
+    → (r ≡ s) × (a ≡ b) × (c ≡ d) × (e ≡ f) × (l ≡ m)
 
 -- wide, index, byte_at, short_at, word_at, least, room, get_low, put_low, put_eight, float_of, bits_of
 pub record Bits : Type 0 where
@@ -80,12 +81,15 @@ pub record Bits : Type 0 where
 
 -- line_count, next_statement, survey, size_code, join
 pub record Deck : Type 0 where
-  pub next-statement : (text : List ℕ) (c : Cursor) → Agree (λ (r : Found). (r ≡ foundFrom text c) × Further (length text) c r)
+  pub next-statement : (text : List ℕ) (c : Cursor)
+      → Agree (λ (r : Found). (r ≡ foundFrom text c) × Further (length text) c r)
   pub line-count : (text : List ℕ) → Agree (λ (r : ℕ). r ≡ length (linesOf text))
   pub survey : (text : List ℕ) → Agree (λ (r : Sizes). r ≡ sizesOf text)
   pub size-code : (cards : ℕ) (closed long : Bool) → Agree (λ (r : ℕ). r ≡ sizeCode cards closed long)
   pub join : (text : List ℕ) (start cards : ℕ) (out : List ℕ)
-      → Agree2 (λ (r : ℕ) (o : List ℕ). (r ≡ length (joined (cardsAt text start cards))) × (o ≡ sets out 0 (joined (cardsAt text start cards))))
+      → Agree2
+      (λ (r : ℕ) (o : List ℕ). (r ≡ length (joined (cardsAt text start cards)))
+      × (o ≡ sets out 0 (joined (cardsAt text start cards))))
 
 -- take_cut, row
 pub record Tokens : Type 0 where
@@ -117,7 +121,8 @@ pub record Records : Type 0 where
 
 -- put_fault
 pub record Sheet : Type 0 where
-  pub put-fault : (list : List ℕ) (count line code : ℕ) → Agree (λ (l : List ℕ). l ≡ sets list (faultBytes * count) (entryOf line code))
+  pub put-fault : (list : List ℕ) (count line code : ℕ)
+      → Agree (λ (l : List ℕ). l ≡ sets list (faultBytes * count) (entryOf line code))
 
 -- plan
 pub record Model : Type 0 where
@@ -136,7 +141,8 @@ pub record Program : Type 0 where
 pub record Evaluator : Type 0 where
   pub evaluate : (p : List ℕ) (v d : List Float) → Agree3 (λ (r : Answer) (v′ d′ : List Float). Evaluated p v d r v′ d′)
   pub start : (p : List ℕ) (v d : List Float) → Agree3 (λ (r : Answer) (v′ d′ : List Float). Started p v d r v′ d′)
-  pub step : (p : List ℕ) (h : Float) (v d : List Float) → Agree3 (λ (r : Answer) (v′ d′ : List Float). Stepped p h v d r v′ d′)
+  pub step : (p : List ℕ) (h : Float) (v d : List Float)
+      → Agree3 (λ (r : Answer) (v′ d′ : List Float). Stepped p h v d r v′ d′)
 
 -- translate
 pub record Translator : Type 0 where
@@ -149,9 +155,11 @@ pub record Listing : Type 0 where
 -- floesedge_translate, floesedge_evaluate, floesedge_start, floesedge_step
 pub record Library : Type 0 where
   pub translate : (text f p : List ℕ) → Agree3 (λ (r : CVerdict) (f′ p′ : List ℕ). Translates′ text f p r f′ p′)
-  pub evaluate : (p : List ℕ) (v d : List Float) → Agree3 (λ (r : CAnswer) (v′ d′ : List Float). Evaluates p v d r v′ d′)
+  pub evaluate : (p : List ℕ) (v d : List Float)
+      → Agree3 (λ (r : CAnswer) (v′ d′ : List Float). Evaluates p v d r v′ d′)
   pub start : (p : List ℕ) (v d : List Float) → Agree3 (λ (r : CAnswer) (v′ d′ : List Float). Starts p v d r v′ d′)
-  pub step : (p : List ℕ) (h : Float) (v d : List Float) → Agree3 (λ (r : CAnswer) (v′ d′ : List Float). Steps p h v d r v′ d′)
+  pub step : (p : List ℕ) (h : Float) (v d : List Float)
+      → Agree3 (λ (r : CAnswer) (v′ d′ : List Float). Steps p h v d r v′ d′)
 
 -- none, right, number
 pub record Counting : Type 0 where

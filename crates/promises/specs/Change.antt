@@ -1,4 +1,5 @@
--- Demand 3: one run of lines of a text is changed. What the reading, the sheet and the statement faults keep, and what a fault means.
+-- Demand 3: one run of lines of a text is changed. What the reading, the sheet and the statement faults keep, and what
+-- a fault means.
 use Prim.Native.Nat.{ℕ, _+_, _*_}
 use mathlib.Core.Path.{_≡_}
 use mathlib.Core.Bool.{false}
@@ -88,20 +89,25 @@ pub record Share {A : Type 0} (raise : ℕ → A → A) (front tail : List A) (m
 pub record FrontKept (pre old new post : List ℕ) : Type 0 where
   pub statements : Begin (closedOf pre) (statementsOf (textOf pre old post)) (statementsOf (textOf pre new post))
   pub sheet : Begin (closedSheet pre) (sheetOf (textOf pre old post)) (sheetOf (textOf pre new post))
-  pub faults : Begin (statementFaults (closedSheet pre)) (faultsOf (textOf pre old post)) (faultsOf (textOf pre new post))
+  pub faults : Begin (statementFaults (closedSheet pre)) (faultsOf (textOf pre old post))
+      (faultsOf (textOf pre new post))
 
 -- both readings begin afresh behind p, the front of the later lines
 pub record Afresh (pre old new p : List ℕ) : Type 0 where
   pub in-old : FreshBehind (pre ++ (old ++ p))
   pub in-new : FreshBehind (pre ++ (new ++ p))
 
--- from there on statements and statement faults are those of the lines q that are left, numbers raised by the count of lines before them
+-- from there on statements and statement faults are those of the lines q that are left, numbers raised by the count of
+-- lines before them
 pub record TailKept (pre old new p q : List ℕ) : Type 0 where
-  pub statements : Share later (closedOf pre) (statementsOf q) (linesIn (pre ++ (old ++ p))) (linesIn (pre ++ (new ++ p)))
+  pub statements : Share later (closedOf pre) (statementsOf q) (linesIn (pre ++ (old ++ p)))
+      (linesIn (pre ++ (new ++ p)))
       (statementsOf (textOf pre old (p ++ q))) (statementsOf (textOf pre new (p ++ q)))
-  pub sheet : Share laterReport (closedSheet pre) (sheetOf q) (linesIn (pre ++ (old ++ p))) (linesIn (pre ++ (new ++ p)))
+  pub sheet : Share laterReport (closedSheet pre) (sheetOf q) (linesIn (pre ++ (old ++ p)))
+      (linesIn (pre ++ (new ++ p)))
       (sheetOf (textOf pre old (p ++ q))) (sheetOf (textOf pre new (p ++ q)))
-  pub faults : Share laterFault (statementFaults (closedSheet pre)) (faultsOf q) (linesIn (pre ++ (old ++ p))) (linesIn (pre ++ (new ++ p)))
+  pub faults : Share laterFault (statementFaults (closedSheet pre)) (faultsOf q) (linesIn (pre ++ (old ++ p)))
+      (linesIn (pre ++ (new ++ p)))
       (faultsOf (textOf pre old (p ++ q))) (faultsOf (textOf pre new (p ++ q)))
   -- so all of them move alike: by the lines that the run gained or lost
   pub shift : linesIn (pre ++ (old ++ p)) + linesIn new ≡ linesIn (pre ++ (new ++ p)) + linesIn old
@@ -116,7 +122,8 @@ pub record Undotted (p : List ℕ) : Type 0 where
 -- a statement fault means verdict 5 with the list of them all, and the program as lent
 abbrev pub Convicts : List ℕ → List ℕ → List ℕ → Type 0
 Convicts text f p = (x : Fault) (xs : List Fault) → faultsOf text ≡ x ∷ xs
-    → translation text f p ≡ record { number = 5; count = length (x ∷ xs); faults = sets f 0 (faultList (x ∷ xs)); program = p }
+    → translation text f p
+    ≡ record { number = 5; count = length (x ∷ xs); faults = sets f 0 (faultList (x ∷ xs)); program = p }
 
 -- what a caller has of it: that answer, the list in full at the front of the lent f′, and the program p′ as lent
 pub record Answered (fs : List Fault) (r : Verdict) (f′ p p′ : List ℕ) : Type 0 where

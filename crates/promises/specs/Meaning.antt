@@ -1,5 +1,5 @@
--- What the equations of a text mean: the value of an expression, and what evaluating and starting must leave. This knows nothing of
--- records or of the machine that runs them.
+-- What the equations of a text mean: the value of an expression, and what evaluating and starting must leave. This
+-- knows nothing of records or of the machine that runs them.
 use Prim.Native.Nat.{ℕ, suc, _<_}
 use mathlib.Core.Path.{_≡_}
 use mathlib.Core.Bool.{cond}
@@ -8,11 +8,13 @@ use mathlib.Core.List.{List}
 use lib.IntN.{pos}
 use lib.ListN.{length, getD}
 use lib.Ieee.{Float, nan, binary64, ofInt, add, sub, mul, div, neg, lt, le}
-use Rattle.drafts.specs.Tree.{Two, plus, minus, times, over, compar, Three, insw, limit, Tree, value, named, time, negated, two, three}
+use Rattle.drafts.specs.Tree.{Two, plus, minus, times, over, compar, Three, insw, limit, Tree, value, named, time}
+use Rattle.drafts.specs.Tree.{negated, two, three}
 use Rattle.drafts.specs.Tree.{Initial, plain, from}
 use Rattle.model.specs.Definitions.{What, constant, assigned, integral, Def, slotIn}
 
--- ---- the value of an expression. Operators group as the tree says; each operation is IEEE 754's on f64 and rounds once
+-- ---- the value of an expression. Operators group as the tree says; each operation is IEEE 754's on f64 and rounds
+-- once
 
 -- the numbers 0 and 1
 abbrev pub nought : Float
@@ -56,12 +58,14 @@ definitionAt ds i = getD ds i noDef
 -- y is the value of an initial: a number is itself; a name is resolved, to the value of the constant of that name
 abbrev pub Resolved : List Def → Initial → Float → Type 0
 Resolved ds (plain x) y = y ≡ x
-Resolved ds (from k) y = (j : ℕ) × (j < length ds) × (definitionAt ds j .key ≡ k) × (definitionAt ds j .what ≡ constant y)
+Resolved ds (from k) y =
+    (j : ℕ) × (j < length ds) × (definitionAt ds j .key ≡ k) × (definitionAt ds j .what ≡ constant y)
 
 -- ---- evaluating: v and d are the values and the derivatives before it, v′ and d′ those after it
 module _ (ds : List Def) (v d v′ d′ : List Float) where
-  -- what slot s must hold, by what its name is: a constant's slot its value; an assigned slot the value of its expression over the final
-  -- values; a state's slot what it held, and its derivative the value of its expression over the final values. No other derivative changes
+  -- what slot s must hold, by what its name is: a constant's slot its value; an assigned slot the value of its
+  -- expression over the final values; a state's slot what it held, and its derivative the value of its expression over
+  -- the final values. No other derivative changes
   abbrev pub Holds : What → ℕ → Type 0
   Holds (constant x) s = (getD v′ s nan ≡ x) × (getD d′ s nan ≡ getD d s nan)
   Holds (assigned e) s = (getD v′ s nan ≡ valueOf (slotIn ds) v′ e) × (getD d′ s nan ≡ getD d s nan)

@@ -1,5 +1,5 @@
--- Demand 2: which texts are unsortable, which statements are named, and the order of the others. ds are a text's definitions, and n is the
--- count of its assignments and state statements, of which i is one.
+-- Demand 2: which texts are unsortable, which statements are named, and the order of the others. ds are a text's
+-- definitions, and n is the count of its assignments and state statements, of which i is one.
 use Prim.Native.Nat.{ℕ, _≤_}
 use mathlib.Core.Path.{_≡_}
 use mathlib.Core.List.{List, [], map}
@@ -35,7 +35,8 @@ NoOrder ds = (q : List ℕ) → GoodOrder ds q → ⊥
 abbrev pub loopFault : List Def → ℕ → Fault
 loopFault ds i = record { line = lineAt ds i; code = 24; place = at-start }
 
--- the faults are a 24 at each statement from which a chain of n + 1 starts, and at no other, in text order and each once
+-- the faults are a 24 at each statement from which a chain of n + 1 starts, and at no other, in text order and each
+-- once
 pub record NamesLoops (ds : List Def) (fs : List Fault) : Type 0 where
   pub which : List ℕ
   pub rising : Rising 0 which
@@ -52,7 +53,8 @@ pub record Decided (text : List ℕ) (f p : ℕ) : Type 0 where
   -- 7 exactly if there is no such order
   pub exactly : (numberOf (verdictOf text f p) ≡ 7) ↔ NoOrder (textDefinitions text)
   -- and then with these faults
-  pub named : NoOrder (textDefinitions text) → (fs : List Fault) × (verdictOf text f p ≡ faulty 7 fs) × NamesLoops (textDefinitions text) fs
+  pub named : NoOrder (textDefinitions text)
+      → (fs : List Fault) × (verdictOf text f p ≡ faulty 7 fs) × NamesLoops (textDefinitions text) fs
   -- otherwise the program has its statements in the first such order, unless it is too long
   pub ordered : (r : List ℕ) → GoodOrder (textDefinitions text) r
       → (q : List ℕ) × FirstOrder (textDefinitions text) q

@@ -38,13 +38,16 @@ abbrev pub block : List Def → ℕ → Tree → Instr → List Rec
 block ds l e x = map (rec l) (map (instrItem (slotIn ds)) (postfix e) ++ (x ∷ []))
 
 module _ (ds : List Def) (rs : List Rec) where
-  -- of a definition with slot s and its statement's first line l: of the kinds that set a slot, 1, 2 and 13, and of kind 14 the program has
-  -- for s a constant alone; or a store alone, behind its expression; or an initial with its value and a derivative, this behind its expression
+  -- of a definition with slot s and its statement's first line l: of the kinds that set a slot, 1, 2 and 13, and of
+  -- kind 14 the program has for s a constant alone; or a store alone, behind its expression; or an initial with its
+  -- value and a derivative, this behind its expression
   abbrev pub RecordsOf : ℕ → ℕ → What → Type 0
   RecordsOf l s (constant x) =
-      (recordsFor 1 s rs ≡ rec l (Constant s x) ∷ []) × (recordsFor 2 s rs ≡ []) × (recordsFor 13 s rs ≡ []) × (recordsFor 14 s rs ≡ [])
+      (recordsFor 1 s rs ≡ rec l (Constant s x) ∷ []) × (recordsFor 2 s rs ≡ []) × (recordsFor 13 s rs ≡ [])
+      × (recordsFor 14 s rs ≡ [])
   RecordsOf l s (assigned e) =
-      (recordsFor 1 s rs ≡ []) × (recordsFor 2 s rs ≡ []) × (recordsFor 13 s rs ≡ rec l (Store s) ∷ []) × (recordsFor 14 s rs ≡ [])
+      (recordsFor 1 s rs ≡ []) × (recordsFor 2 s rs ≡ []) × (recordsFor 13 s rs ≡ rec l (Store s) ∷ [])
+      × (recordsFor 14 s rs ≡ [])
       × Within (block ds l e (Store s)) rs
   RecordsOf l s (integral i e) =
       (x : Float) × Resolved ds i x
@@ -55,8 +58,8 @@ module _ (ds : List Def) (rs : List Rec) where
 abbrev pub reported : Numbered → Report Told
 reported s = record { line = s .line; what = says (s .says) }
 
--- NOTHING IS LOST of a text: the sheet, which has one report for each statement of the reading, is made of statements without fault, all of
--- them taken; and the definition at place i of theirs has its records, with slot i + 1
+-- NOTHING IS LOST of a text: the sheet, which has one report for each statement of the reading, is made of statements
+-- without fault, all of them taken; and the definition at place i of theirs has its records, with slot i + 1
 pub record NothingLost (text : List ℕ) (rs : List Rec) : Type 0 where
   pub taken : sheetOf text ≡ map reported (said (sheetOf text))
   pub recorded :

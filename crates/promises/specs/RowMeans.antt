@@ -1,4 +1,5 @@
--- What a row of tokens means: the statement that the grammar derives, or where reading stops, 18 or 19. And the same of a statement's text.
+-- What a row of tokens means: the statement that the grammar derives, or where reading stops, 18 or 19. And the same of
+-- a statement's text.
 use Prim.Native.Nat.{ℕ, suc, _+_, _≤_, _<_}
 use mathlib.Core.Path.{_≡_}
 use mathlib.Core.Bool.{Bool}
@@ -20,8 +21,8 @@ use Rattle.sheet.specs.Reader.{placeOf, told}
 
 -- ---- a row of tokens
 
--- 18 at token i: the tokens before it begin some statement of the grammar, those up to and including it begin none at any depth (at the
--- early end: the row is none), and no earlier opening is too deep
+-- 18 at token i: the tokens before it begin some statement of the grammar, those up to and including it begin none at
+-- any depth (at the early end: the row is none), and no earlier opening is too deep
 pub record Eighteen (row : List Symbol) (i : ℕ) : Type 0 where
   pub within : i ≤ length row
   pub depth : ℕ
@@ -61,10 +62,14 @@ pub record Scanned (cards : List Line) (closed : Bool) : Type 0 where
 -- what it says, or its fault
 pub record StatementMeans (cards : List Line) (closed : Bool) : Type 0 where
   pub for-size : (c : ℕ) (p : Place) → sizeFlaw cards closed ≡ flaw c p → told cards closed ≡ faulty c p
-  pub for-token : sizeFlaw cards closed ≡ none → (c at : ℕ) → rowOf (joined cards) .close ≡ bad c at → told cards closed ≡ faulty c (at-token at)
-  pub for-grammar : Scanned cards closed → (x : Says) → (told cards closed ≡ says x) ↔ Derives levels (symbols (tokensOf cards)) x
-  pub for-eighteen : Scanned cards closed → (i : ℕ) → Eighteen (symbols (tokensOf cards)) i → told cards closed ≡ faulty 18 (placeOf (tokensOf cards) i)
-  pub for-nineteen : Scanned cards closed → (i : ℕ) → Nineteen (symbols (tokensOf cards)) i → told cards closed ≡ faulty 19 (placeOf (tokensOf cards) i)
+  pub for-token : sizeFlaw cards closed ≡ none → (c at : ℕ) → rowOf (joined cards) .close ≡ bad c at
+      → told cards closed ≡ faulty c (at-token at)
+  pub for-grammar : Scanned cards closed → (x : Says)
+      → (told cards closed ≡ says x) ↔ Derives levels (symbols (tokensOf cards)) x
+  pub for-eighteen : Scanned cards closed → (i : ℕ) → Eighteen (symbols (tokensOf cards)) i
+      → told cards closed ≡ faulty 18 (placeOf (tokensOf cards) i)
+  pub for-nineteen : Scanned cards closed → (i : ℕ) → Nineteen (symbols (tokensOf cards)) i
+      → told cards closed ≡ faulty 19 (placeOf (tokensOf cards) i)
   -- and there is no other fault
   pub no-other : Scanned cards closed → (c : ℕ) (p : Place) → told cards closed ≡ faulty c p
       → (i : ℕ) × (p ≡ placeOf (tokensOf cards) i)

@@ -1,4 +1,5 @@
--- What the plan of a sheet is worth: by its number the verdict on the model, with the faults listed or all that the program needs.
+-- What the plan of a sheet is worth: by its number the verdict on the model, with the faults listed or all that the
+-- program needs.
 use Prim.Native.Nat.{ℕ, _+_, _<_, _≤_}
 use mathlib.Core.Path.{_≡_, refl, sym, ap, _∙_}
 use mathlib.Core.Bool.{Bool, true, false, cond}
@@ -22,8 +23,10 @@ use Rattle.laws.proofs.Tests.{bool-cases}
 use Rattle.model.proofs.NoModelFault.{order-good}
 use Rattle.model.specs.Definitions.{Def, definitions, equationCount}
 use Rattle.model.specs.Faults.{faults21, nameFaults, faults24, modelFaults, orderOf, usesIn as uses}
-use Rattle.model.specs.Places.{keysIn, placesIn, doubles, resolved, nameless, equationRows, assignedSlots, usedIn, startsFrom, loopAt, loops}
-use Rattle.model.specs.Plan.{Lent, lent, PlanOutcome, planOutcome, refused, faulted, some, fit, orderedPlan, weighed, tested, linkedPlan, distinct}
+use Rattle.model.specs.Places.{keysIn, placesIn, doubles, resolved, nameless, equationRows, assignedSlots, usedIn}
+use Rattle.model.specs.Places.{startsFrom, loopAt, loops}
+use Rattle.model.specs.Plan.{Lent, lent, PlanOutcome, planOutcome, refused, faulted, some, fit, orderedPlan, weighed}
+use Rattle.model.specs.Plan.{tested, linkedPlan, distinct}
 use Rattle.model.specs.Plan.{sheeted, planned}
 use Rattle.translator.specs.Working.{blank, held}
 use Rattle.model.proofs.ArraysMean.{keys-meant, doubles-meant, names-meant, rows-meant, order-meant, loops-meant}
@@ -31,10 +34,12 @@ use Rattle.model.proofs.ArraysMean.{keys-meant, doubles-meant, names-meant, row
 -- without a 24 all equations are placed
 pub all-placed : (ds : List Def) → faults24 ds ≡ [] → length (orderOf ds) ≡ equationCount ds
 all-placed ds e =
-    length-order-iff (equationCount ds) (uses ds) .1 (good-none-left (equationCount ds) (uses ds) (orderOf ds) (order-good ds e))
+    length-order-iff (equationCount ds) (uses ds) .1
+    (good-none-left (equationCount ds) (uses ds) (orderOf ds) (order-good ds e))
 
 -- where all are placed none is named
-no-loops : (ds : List Def) (rows lines : List ℕ) → equationCount ds ≤ length (orderOf ds) → length rows ≡ equationCount ds
+no-loops : (ds : List Def) (rows lines : List ℕ) → equationCount ds ≤ length (orderOf ds)
+    → length rows ≡ equationCount ds
     → loops (orderOf ds) rows lines ≡ []
 unfolding loops order
 no-loops ds rows lines h n = none (length rows) 0 (λ r k. named-none r (omega arith))
@@ -48,10 +53,12 @@ no-loops ds rows lines h n = none (length rows) 0 (λ r k. named-none r (omega a
         (λ t. absurd (length-order-iff (equationCount ds) (uses ds) .0 full r (k, has-false r (orderOf ds) t)))
         (bool-cases (has r (orderOf ds)))
 
-    none : (k i : ℕ) → ((r : ℕ) → r < i + k → loopAt (orderOf ds) rows lines r ≡ []) → gather (loopAt (orderOf ds) rows lines) k i ≡ []
+    none : (k i : ℕ) → ((r : ℕ) → r < i + k → loopAt (orderOf ds) rows lines r ≡ [])
+        → gather (loopAt (orderOf ds) rows lines) k i ≡ []
     none k i g = gather-none (loopAt (orderOf ds) rows lines) k i (λ r a b. g r b)
 
-module _ (ss : List Numbered) (kinds args lines bounds : List ℕ) (laid : Laid ss kinds args lines bounds) (used faults : List ℕ) where
+module _ (ss : List Numbered) (kinds args lines bounds : List ℕ) (laid : Laid ss kinds args lines bounds)
+    (used faults : List ℕ) where
   abbrev ds : List Def
   ds = definitions ss
 
@@ -86,12 +93,14 @@ module _ (ss : List Numbered) (kinds args lines bounds : List ℕ) (laid : Laid 
   -- the plan of a sheet without fault
   abbrev pub soundPlan : PlanOutcome
   soundPlan =
-      planOutcome (record { number = 0; count = 0; definitions = length places; equations = length rows }) slots (sets used 0 table) faults filled
+      planOutcome (record { number = 0; count = 0; definitions = length places; equations = length rows }) slots
+      (sets used 0 table) faults filled
 
   -- too many definitions; or faults, listed; or none
   pub data Conclusion (o : PlanOutcome) : Type 0 where
     many : ltb mostDefinitions (length ds) ≡ true → o .plan .number ≡ 6 → o .faults ≡ faults → Conclusion o
-    flawed : (f : Fault) (fs : List Fault) → ltb mostDefinitions (length ds) ≡ false → modelFaults ss ≡ f ∷ fs → o .plan .number ≡ 7
+    flawed : (f : Fault) (fs : List Fault) → ltb mostDefinitions (length ds) ≡ false → modelFaults ss ≡ f ∷ fs
+        → o .plan .number ≡ 7
         → o .plan .count ≡ length (f ∷ fs) → o .faults ≡ sets faults 0 (faultList (f ∷ fs)) → Conclusion o
     sound : ltb mostDefinitions (length ds) ≡ false → modelFaults ss ≡ [] → o ≡ soundPlan → Conclusion o
 
@@ -100,7 +109,8 @@ module _ (ss : List Numbered) (kinds args lines bounds : List ℕ) (laid : Laid 
 
   module _ (few : ltb mostDefinitions (length ds) ≡ false) where
     -- faults that stand are the model's
-    flawed-by : (f : Fault) (fs : List Fault) (a u : List ℕ) (l : Lent) → modelFaults ss ≡ f ∷ fs → Conclusion (faulted (f ∷ fs) a u faults l)
+    flawed-by : (f : Fault) (fs : List Fault) (a u : List ℕ) (l : Lent) → modelFaults ss ≡ f ∷ fs
+        → Conclusion (faulted (f ∷ fs) a u faults l)
     flawed-by f fs a u l e = flawed f fs few e refl refl refl
 
     some-cons : (f : Fault) (fs : List Fault) → some (f ∷ fs) ≡ true
@@ -121,13 +131,18 @@ module _ (ss : List Numbered) (kinds args lines bounds : List ℕ) (laid : Laid 
 
         fewer : (fs : List Fault) → loops (orderOf ds) rows lines ≡ fs → length (orderOf ds) < length rows
             → Conclusion (faulted fs slots (sets used 0 table) faults filled)
-        fewer [] q h = absurd (let w = all-placed ds (sym (loops-meant ss kinds args lines bounds laid) ∙ q) in omega (arith, h, n, w))
+        fewer [] q h =
+            absurd
+            (let w = all-placed ds (sym (loops-meant ss kinds args lines bounds laid) ∙ q) in omega (arith, h, n, w))
         fewer (f ∷ fs) q h = flawed-by f fs slots (sets used 0 table) filled (model ∙ q)
 
         go : (b : Bool) → ltb (length (orderOf ds)) (length rows) ≡ b
-            → Conclusion (cond b (faulted (loops (orderOf ds) rows lines) slots (sets used 0 table) faults filled) soundPlan)
+            → Conclusion
+            (cond b (faulted (loops (orderOf ds) rows lines) slots (sets used 0 table) faults filled) soundPlan)
         go true t = fewer (loops (orderOf ds) rows lines) refl (ltb-true (length (orderOf ds)) (length rows) t)
-        go false t = sound few (model ∙ no-loops ds rows lines (omega (arith, ltb-false (length (orderOf ds)) (length rows) t, n)) n) refl
+        go false t =
+            sound few
+            (model ∙ no-loops ds rows lines (omega (arith, ltb-false (length (orderOf ds)) (length rows) t, n)) n) refl
 
     -- 22 and 23
     by-names : faults21 [] ss ≡ [] → Conclusion (linkedPlan places lines bounds kinds slots used faults placed)
@@ -139,7 +154,9 @@ module _ (ss : List Numbered) (kinds args lines bounds : List ℕ) (laid : Laid 
             (weighed rows (length places) lines bounds kinds slots (sets used 0 table) faults ruled))
         go [] q = by-loops e (sym (names-meant ss kinds args lines bounds laid e) ∙ q)
         go (f ∷ fs) q =
-            rw (some-cons f fs) (flawed-by f fs slots (sets used 0 table) ruled (rw (e, sym (names-meant ss kinds args lines bounds laid e) ∙ q)))
+            rw (some-cons f fs)
+            (flawed-by f fs slots (sets used 0 table) ruled
+            (rw (e, sym (names-meant ss kinds args lines bounds laid e) ∙ q)))
 
     -- 21
     by-doubles : Conclusion (distinct lines bounds kinds args used faults placed)
@@ -147,17 +164,26 @@ module _ (ss : List Numbered) (kinds args lines bounds : List ℕ) (laid : Laid 
     by-doubles = go (doubles lines bounds kinds args) refl
       where
         go : (fs : List Fault) → doubles lines bounds kinds args ≡ fs
-            → Conclusion (cond (some fs) (faulted fs args used faults placed) (linkedPlan places lines bounds kinds slots used faults placed))
+            → Conclusion
+            (cond (some fs) (faulted fs args used faults placed)
+            (linkedPlan places lines bounds kinds slots used faults placed))
         go [] q = by-names (sym (doubles-meant ss kinds args lines bounds laid) ∙ q)
-        go (f ∷ fs) q = rw (some-cons f fs) (flawed-by f fs args used placed (rw (sym (doubles-meant ss kinds args lines bounds laid) ∙ q)))
+        go (f ∷ fs) q =
+            rw (some-cons f fs)
+            (flawed-by f fs args used placed (rw (sym (doubles-meant ss kinds args lines bounds laid) ∙ q)))
 
   -- CONCLUSION: of arrays that fit, what is planned is one of the three
-  pub concluded : fit lines bounds kinds (length args) (length used) (length faults) mostDefinitions mostStatements mostStatements ≡ true
+  pub concluded : fit lines bounds kinds (length args) (length used)
+      (length faults) mostDefinitions mostStatements mostStatements ≡ true
       → Conclusion (planned lines bounds kinds args used faults blank)
   unfolding planned sheeted
-  concluded h = rw (length-replicate {A = ℕ} mostDefinitions 0, length-replicate {A = ℕ} mostStatements 0, h, count-keys) (go (ltb mostDefinitions (length ds)) refl)
+  concluded h =
+      rw (length-replicate {A = ℕ} mostDefinitions 0, length-replicate {A = ℕ} mostStatements 0, h, count-keys)
+      (go (ltb mostDefinitions (length ds)) refl)
     where
       go : (b : Bool) → ltb mostDefinitions (length ds) ≡ b
-          → Conclusion (cond b (planOutcome (refused 6 0) args used faults placed) (distinct lines bounds kinds args used faults placed))
+          → Conclusion
+          (cond b (planOutcome (refused 6 0) args used faults placed)
+          (distinct lines bounds kinds args used faults placed))
       go true t = many t refl refl
       go false t = by-doubles t

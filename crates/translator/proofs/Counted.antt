@@ -1,4 +1,5 @@
--- How large a count is: at most one fault for each statement, so that the list holds them all, and no more records than there may be.
+-- How large a count is: at most one fault for each statement, so that the list holds them all, and no more records than
+-- there may be.
 use Prim.Native.Nat.{ℕ, zero, suc, _+_, _/_, _≤_}
 use mathlib.Core.Path.{_≡_, refl, ap}
 use mathlib.Core.Bool.{Bool, true, false, _||_}
@@ -7,7 +8,8 @@ use native.Mathlib.Omega.{arith}
 use borrow.Author.Tests.{ltb-false}
 use lib.Dec.{ltb}
 use lib.ListN.{length, length-append}
-use Rattle.limits.specs.Limits.{mostStatements, mostDefinitions, mostRecords, recordBytes, faultRoom, textBytes, textLines}
+use Rattle.limits.specs.Limits.{mostStatements, mostDefinitions, mostRecords, recordBytes, faultRoom, textBytes}
+use Rattle.limits.specs.Limits.{textLines}
 use Rattle.laws.specs.Lists.{concat-map, numbers}
 use Rattle.laws.proofs.Bools.{or-false}
 use Rattle.laws.proofs.Tests.{cond-ind}
@@ -15,8 +17,10 @@ use Rattle.deck.specs.Lines.{linesOf}
 use Rattle.sheet.specs.Sheet.{Told, says, faulty, Sheet, Numbered, Fault, said, saidBy, faultBy, statementFaults}
 use Rattle.sheet.specs.Reader.{sheetOf}
 use Rattle.order.specs.Order.{unsortable}
-use Rattle.model.specs.Definitions.{What, constant, assigned, integral, Def, keys, definedBy, definitions, equationOf, equationAt, equationCount}
-use Rattle.model.specs.Faults.{faultIf, again, faults21, within, namedBy, initialOf, constantKeys, nameFault, nameFaultOf, nameFaults}
+use Rattle.model.specs.Definitions.{What, constant, assigned, integral, Def, keys, definedBy, definitions, equationOf}
+use Rattle.model.specs.Definitions.{equationAt, equationCount}
+use Rattle.model.specs.Faults.{faultIf, again, faults21, within, namedBy, initialOf, constantKeys, nameFault}
+use Rattle.model.specs.Faults.{nameFaultOf, nameFaults}
 use Rattle.model.specs.Faults.{usesIn, fault24, faults24, orElse, modelFaults, orderOf}
 use Rattle.records.specs.Record.{Rec}
 use Rattle.program.specs.Program.{program}
@@ -26,7 +30,8 @@ use Rattle.translator.specs.Verdict.{Verdict, refused, ifFaults, fitted,
 use Rattle.translator.specs.Verdict.{faulty as flawed, translated}
 
 -- at most one for each element
-pub concat-few : {A B : Type 0} (f : A → List B) → ((a : A) → length (f a) ≤ 1) → (l : List A) → length (concat-map f l) ≤ length l
+pub concat-few : {A B : Type 0} (f : A → List B) → ((a : A) → length (f a) ≤ 1) → (l : List A)
+    → length (concat-map f l) ≤ length l
 unfolding concat-map
 concat-few f h [] = omega arith
 concat-few f h (a ∷ l) = omega (arith, h a, concat-few f h l, length-append (f a) (concat-map f l))
@@ -42,7 +47,12 @@ doubles-few seen [] = omega arith
 doubles-few seen (s ∷ ss) =
     let ks = keys (definedBy (s .line) (s .says)) in
     let more = faults21 (seen ++ ks) ss in
-    omega (arith, one-if (again seen ks) (s .line) 21, doubles-few (seen ++ ks) ss, length-append (faultIf (again seen ks) (s .line) 21) more)
+    omega (
+      arith,
+      one-if (again seen ks) (s .line) 21,
+      doubles-few (seen ++ ks) ss,
+      length-append (faultIf (again seen ks) (s .line) 21) more,
+    )
 
 names-few : (ds es : List Def) → length (nameFaults ds es) ≤ length es
 names-few ds es =
@@ -71,7 +81,9 @@ numbers-many (suc k) i = ap suc (numbers-many k (suc i))
 loops-few : (ds : List Def) → length (faults24 ds) ≤ length ds
 loops-few ds =
     let n = equationCount ds in
-    let each = concat-few (fault24 ds) (λ i. one-if (unsortable (equationCount ds) (usesIn ds) i) (equationAt ds i .line) 24) (numbers n 0) in
+    let each =
+    concat-few (fault24 ds) (λ i. one-if (unsortable (equationCount ds) (usesIn ds) i) (equationAt ds i .line) 24)
+    (numbers n 0) in
     omega (arith, each, numbers-many n 0, equations-few ds)
 
 -- of m statements with at most m definitions
@@ -95,7 +107,8 @@ counts [] = refl
 counts (r ∷ done) = go (r .what) (counts done)
   where
     go : (t : Told) → length (said done) + length (statementFaults done) ≡ length done
-        → length (saidBy (r .line) t ++ said done) + length (faultBy (r .line) t ++ statementFaults done) ≡ suc (length done)
+        → length (saidBy (r .line) t ++ said done) + length (faultBy (r .line) t ++ statementFaults done)
+        ≡ suc (length done)
     go (says x) h = omega arith
     go (faulty c q) h = omega arith
 
@@ -116,14 +129,17 @@ few-if n (f ∷ fs) next h k = h
 
 few-fitted : (room : ℕ) (rs : List Rec) (ls : List ℕ) → Few (fitted room rs ls)
 few-fitted room rs ls =
-    cond-ind Few (ltb mostRecords (length rs) || ltb (room / recordBytes) (length rs)) (refused 8) (translated rs ls) (λ _. tt)
-    (λ e. ltb-false mostRecords (length rs) (or-false (ltb mostRecords (length rs)) (ltb (room / recordBytes) (length rs)) e .0))
+    cond-ind Few (ltb mostRecords (length rs) || ltb (room / recordBytes) (length rs)) (refused 8) (translated rs ls)
+    (λ _. tt)
+    (λ e. ltb-false mostRecords (length rs)
+    (or-false (ltb mostRecords (length rs)) (ltb (room / recordBytes) (length rs)) e .0))
 
 few-modelled : (room : ℕ) (ss : List Numbered) → length ss ≤ mostStatements → Few (modelled room ss)
 few-modelled room ss h =
     let ds = definitions ss in
     cond-ind Few (ltb mostDefinitions (length ds)) (refused 6) _ (λ _. tt)
-    (λ e. few-if 7 (modelFaults ss) _ (model-few ss mostStatements h (omega (arith, ltb-false mostDefinitions (length ds) e)))
+    (λ e. few-if 7 (modelFaults ss) _
+    (model-few ss mostStatements h (omega (arith, ltb-false mostDefinitions (length ds) e)))
     (few-fitted room (program ds (orderOf ds)) _))
 
 few-judged : (room : ℕ) (sheet : Sheet) → Few (judged room sheet)
@@ -141,7 +157,8 @@ unfolding verdictOf
 few text faults room =
     cond-ind Few (ltb faults faultRoom) (refused 1) _ (λ _. tt)
     (λ _. cond-ind Few (ltb textBytes (length text)) (refused 2) _ (λ _. tt)
-    (λ _. cond-ind Few (ltb textLines (length (linesOf text))) (refused 3) _ (λ _. tt) (λ _. few-judged room (sheetOf text))))
+    (λ _. cond-ind Few (ltb textLines (length (linesOf text))) (refused 3) _ (λ _. tt)
+    (λ _. few-judged room (sheetOf text))))
 
 -- the count is at most that of the most records
 pub count-few : (v : Verdict) → Few v → countOf v ≤ mostRecords

@@ -33,7 +33,8 @@ unfolding programBytes concat-map recBytes lowBytes
 length-program [] = refl
 length-program (r ∷ rs) = omega (arith, length-program rs)
 
-module _ (ss : List Numbered) (kinds args lines bounds : List ℕ) (laid : Laid ss kinds args lines bounds) (used faults prog : List ℕ) where
+module _ (ss : List Numbered) (kinds args lines bounds : List ℕ) (laid : Laid ss kinds args lines bounds)
+    (used faults prog : List ℕ) where
   abbrev ds : List Def
   ds = definitions ss
 
@@ -43,7 +44,8 @@ module _ (ss : List Numbered) (kinds args lines bounds : List ℕ) (laid : Laid 
   -- the bytes that the code writes
   abbrev pub written : List ℕ
   written =
-      writtenProgram (placesIn kinds) (equationRows (length lines) bounds kinds) lines bounds kinds (resolved (keysIn kinds args) kinds args) (orderOf ds)
+      writtenProgram (placesIn kinds) (equationRows (length lines) bounds kinds) lines bounds kinds
+      (resolved (keysIn kinds args) kinds args) (orderOf ds)
 
   -- what the verdict on the model leaves
   abbrev pub Decides : Verdict → List ℕ → List ℕ → Type 0
@@ -63,18 +65,21 @@ module _ (ss : List Numbered) (kinds args lines bounds : List ℕ) (laid : Laid 
     pub decides-seven : o .plan .number ≡ 7 → Decides (Faulty 7 (o .plan .count)) (o .faults) prog
     decides-seven e = go c
       where
-        go : Conclusion ss kinds args lines bounds laid used faults o → Decides (Faulty 7 (o .plan .count)) (o .faults) prog
+        go : Conclusion ss kinds args lines bounds laid used faults o
+            → Decides (Faulty 7 (o .plan .count)) (o .faults) prog
         go (many t n f) = absurd (omega arith)
         go (flawed f fs t m n k l) = rw (t, m, k, l)
         go (sound t m q) = absurd (let z : 0 ≡ 7 = sym (ap (λ (x : PlanOutcome). x .plan .number) q) ∙ e in omega arith)
 
     -- neither: the model is sound
     pub decides-sound : (o .plan .number ≡ 6 → ⊥) → (o .plan .number ≡ 7 → ⊥)
-        → (ltb mostDefinitions (length ds) ≡ false) × (modelFaults ss ≡ []) × (o ≡ soundPlan ss kinds args lines bounds laid used faults)
+        → (ltb mostDefinitions (length ds) ≡ false) × (modelFaults ss ≡ [])
+        × (o ≡ soundPlan ss kinds args lines bounds laid used faults)
     decides-sound a b = go c
       where
         go : Conclusion ss kinds args lines bounds laid used faults o
-            → (ltb mostDefinitions (length ds) ≡ false) × (modelFaults ss ≡ []) × (o ≡ soundPlan ss kinds args lines bounds laid used faults)
+            → (ltb mostDefinitions (length ds) ≡ false) × (modelFaults ss ≡ [])
+            × (o ≡ soundPlan ss kinds args lines bounds laid used faults)
         go (many t n f) = absurd (a n)
         go (flawed f fs t m n k l) = absurd (b n)
         go (sound t m q) = (t, m, q)
@@ -91,9 +96,14 @@ module _ (ss : List Numbered) (kinds args lines bounds : List ℕ) (laid : Laid 
     pub decides-eight : (mostRecords < recordCount kinds) → Decides (Refused 8) faults prog
     decides-eight h = rw (modelled-sound, lt-ltb mostRecords (length recs) (rw (← count) h))
 
-    pub decides-eight′ : length prog / recordBytes < recordCount kinds → recordCount kinds ≤ mostRecords → Decides (Refused 8) faults prog
+    pub decides-eight′ : length prog / recordBytes < recordCount kinds → recordCount kinds ≤ mostRecords
+        → Decides (Refused 8) faults prog
     decides-eight′ h k =
-        rw (modelled-sound, le-ltb mostRecords (length recs) (rw (← count) k), lt-ltb (length prog / recordBytes) (length recs) (rw (← count) h))
+        rw (
+          modelled-sound,
+          le-ltb mostRecords (length recs) (rw (← count) k),
+          lt-ltb (length prog / recordBytes) (length recs) (rw (← count) h),
+        )
 
     -- 0: the program is written
     pub decides-zero : recordCount kinds ≤ mostRecords → recordCount kinds ≤ length prog / recordBytes

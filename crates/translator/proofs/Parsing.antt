@@ -43,7 +43,8 @@ answerOf NoRoom = Faulty 0
 abbrev outOf : List Placed → List Draft
 outOf ps = entire (calls (symbols ps)) levels (symbols ps) .out
 
-module _ {ks us : List ℕ} {p : ℕ} {l u : List ℕ} (h : RowRoom ks us p l u) (r : Parsed) (l′ u′ : List ℕ) (w : ParsesRow ks us l u p r l′ u′)
+module _ {ks us : List ℕ} {p : ℕ} {l u : List ℕ} (h : RowRoom ks us p l u) (r : Parsed) (l′ u′ : List ℕ)
+    (w : ParsesRow ks us l u p r l′ u′)
     (ps : List Placed) (held : heldRow ks us ≡ symbols ps) where
   -- there is room
   same : parseOutcome r l′ u′ ≡ rowWrote (symbols ps) p l u
@@ -71,7 +72,8 @@ module _ {ks us : List ℕ} {p : ℕ} {l u : List ℕ} (h : RowRoom ks us p l u)
   args-are = ap (λ (z : ParseOutcome Parsed). z .args) same
 
   -- by what was read
-  by-read : (d : Read) → readRow (symbols ps) ≡ d → r ≡ parsedAs (p + length (outOf ps)) d → TellsOf (parsed ps d) p l u (answerOf r) l′ u′
+  by-read : (d : Read) → readRow (symbols ps) ≡ d → r ≡ parsedAs (p + length (outOf ps)) d
+      → TellsOf (parsed ps d) p l u (answerOf r) l′ u′
   by-read (read x) e a =
       let d : outOf ps ≡ draftsOf x = written (symbols ps) x e in (
         ap answerOf a ∙ ap (λ (ds : List Draft). Says (p + length ds)) d,
@@ -101,7 +103,8 @@ module _ {ks us : List ℕ} {p : ℕ} {l u : List ℕ} (h : RowRoom ks us p l u)
 
 module _ (s : List ℕ) (x : Statement) where
   -- a row of as many tokens as bytes, at most, says x by as many drafts, at most
-  few-parsed : (ps : List Placed) → length ps ≤ length s → (d : Read) → readRow (symbols ps) ≡ d → parsed ps d ≡ says x → length (draftsOf x) ≤ length s
+  few-parsed : (ps : List Placed) → length ps ≤ length s → (d : Read) → readRow (symbols ps) ≡ d → parsed ps d ≡ says x
+      → length (draftsOf x) ≤ length s
   few-parsed ps h (read y) e q =
       let z : y ≡ x = cc in
       omega (
@@ -113,7 +116,8 @@ module _ (s : List ℕ) (x : Statement) where
   few-parsed ps h (fault c i) e q = absurd (let z : _≡_ {A = ℕ} 0 1 = cc in omega arith)
 
   -- by how the row closes
-  few-scanned : (ps : List Placed) → length ps ≤ length s → (c : Close) → scanned ps c ≡ says x → length (draftsOf x) ≤ length s
+  few-scanned : (ps : List Placed) → length ps ≤ length s → (c : Close) → scanned ps c ≡ says x
+      → length (draftsOf x) ≤ length s
   few-scanned ps h all-good q = few-parsed ps h (readRow (symbols ps)) refl q
   few-scanned ps h (bad c at) q = absurd (let z : _≡_ {A = ℕ} 0 1 = cc in omega arith)
 
@@ -123,6 +127,7 @@ module _ (s : List ℕ) (x : Statement) where
   few-sized (flaw c p) q = absurd (let z : _≡_ {A = ℕ} 0 1 = cc in omega arith)
 
 -- each draft of a statement takes a byte of its joined text
-pub drafts-few : (cards : List Line) (closed : Bool) (x : Statement) → told cards closed ≡ says x → length (draftsOf x) ≤ length (joined cards)
+pub drafts-few : (cards : List Line) (closed : Bool) (x : Statement) → told cards closed ≡ says x
+    → length (draftsOf x) ≤ length (joined cards)
 unfolding told
 drafts-few cards closed x q = few-sized (joined cards) x (sizeFlaw cards closed) q

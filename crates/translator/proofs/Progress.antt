@@ -21,7 +21,8 @@ use Rattle.deck.specs.declared.Cursor.{Cursor}
 use Rattle.deck.proofs.Walking.{Walk}
 use Rattle.drafts.specs.Tree.{Says}
 use Rattle.drafts.specs.Drafts.{Draft, draftsOf}
-use Rattle.sheet.specs.Sheet.{Told, says, faulty, Sheet, Numbered, said, Fault, statementFaults, entryOf, faultEntry, faultList}
+use Rattle.sheet.specs.Sheet.{Told, says, faulty, Sheet, Numbered, said, Fault, statementFaults, entryOf, faultEntry}
+use Rattle.sheet.specs.Sheet.{faultList}
 use Rattle.sheet.specs.Reader.{told, sheetOf}
 use Rattle.sheet.specs.Layout.{draftsIn, boundsFrom}
 use Rattle.sheet.proofs.Entries.{list-length}
@@ -31,13 +32,16 @@ use Rattle.translator.specs.Working.{kindsOf, argsOf, Progress, Read}
 -- ---- rows written behind what is held
 
 -- what is written from a place on keeps what stands before it, and stands behind that
-pub take-sets : (l : List ℕ) (d : ℕ) (vs : List ℕ) → d + length vs ≤ length l → take (d + length vs) (sets l d vs) ≡ take d l ++ vs
+pub take-sets : (l : List ℕ) (d : ℕ) (vs : List ℕ) → d + length vs ≤ length l
+    → take (d + length vs) (sets l d vs) ≡ take d l ++ vs
 take-sets l d vs h =
-    let e : length (take d l ++ vs) ≡ d + length vs = length-append (take d l) vs ∙ ap (λ (n : ℕ). n + length vs) (length-take-le d l (omega arith)) in
+    let e : length (take d l ++ vs) ≡ d + length vs =
+    length-append (take d l) vs ∙ ap (λ (n : ℕ). n + length vs) (length-take-le d l (omega arith)) in
     rw (sets-eq vs l d h) (take-at (take d l ++ vs) (drop (d + length vs) l) (d + length vs) e)
 
 -- the same of a row that is held before it, read off drafts
-held-more : (l : List ℕ) (m : Draft → ℕ) (d : ℕ) (ds es all : List Draft) → d + length es ≤ length l → take d l ≡ map m ds → all ≡ ds ++ es
+held-more : (l : List ℕ) (m : Draft → ℕ) (d : ℕ) (ds es all : List Draft) → d + length es ≤ length l
+    → take d l ≡ map m ds → all ≡ ds ++ es
     → take (d + length es) (sets l d (map m es)) ≡ map m all
 held-more l m d ds es all h e q =
     let n : length (map m es) ≡ length es = length-map es m in
@@ -48,11 +52,13 @@ held-more l m d ds es all h e q =
     ∙ ap (map m) (sym q)
 
 -- one number more
-take-set : (l : List ℕ) (s v : ℕ) (row : List ℕ) → s < length l → take s l ≡ row → take (s + 1) (set l s v) ≡ row ++ (v ∷ [])
+take-set : (l : List ℕ) (s v : ℕ) (row : List ℕ) → s < length l → take s l ≡ row
+    → take (s + 1) (set l s v) ≡ row ++ (v ∷ [])
 take-set l s v row h e = rw add-one (take-suc-set l s v h ∙ ap (λ (r : List ℕ). r ++ (v ∷ [])) e)
 
 -- the same behind one more
-take-set′ : (l : List ℕ) (s v : ℕ) (row : List ℕ) → s + 1 < length l → take (suc s) l ≡ row → take (suc (s + 1)) (set l (s + 1) v) ≡ row ++ (v ∷ [])
+take-set′ : (l : List ℕ) (s v : ℕ) (row : List ℕ) → s + 1 < length l → take (suc s) l ≡ row
+    → take (suc (s + 1)) (set l (s + 1) v) ≡ row ++ (v ∷ [])
 take-set′ l s v row h e =
     take-suc-set l (s + 1) v h ∙ ap (λ (r : List ℕ). r ++ (v ∷ [])) (ap (λ (k : ℕ). take k l) (add-one s) ∙ e)
 
@@ -71,7 +77,8 @@ module _ (done : Sheet) (r : Report Told) where
 drafts-snoc : (ss : List Numbered) (s : Numbered) → draftsIn (ss ++ (s ∷ [])) ≡ draftsIn ss ++ draftsOf (s .says)
 unfolding concat-map
 drafts-snoc ss s =
-    concat-append (λ (z : Numbered). draftsOf (z .says)) ss (s ∷ []) ∙ ap (λ (r : List Draft). draftsIn ss ++ r) (append-nil (draftsOf (s .says)))
+    concat-append (λ (z : Numbered). draftsOf (z .says)) ss (s ∷ [])
+    ∙ ap (λ (r : List Draft). draftsIn ss ++ r) (append-nil (draftsOf (s .says)))
 
 bounds-snoc : (o : ℕ) (ss : List Numbered) (s : Numbered)
     → boundsFrom o (ss ++ (s ∷ [])) ≡ boundsFrom o ss ++ ((o + length (draftsIn ss) + length (draftsOf (s .says))) ∷ [])
@@ -84,12 +91,14 @@ bounds-snoc o (z ∷ ss) s =
 
 list-snoc : (fs : List Fault) (f : Fault) → faultList (fs ++ (f ∷ [])) ≡ faultList fs ++ faultEntry f
 unfolding faultList concat-map
-list-snoc fs f = concat-append faultEntry fs (f ∷ []) ∙ ap (λ (r : List ℕ). concat-map faultEntry fs ++ r) (append-nil (faultEntry f))
+list-snoc fs f = concat-append faultEntry fs (f ∷ [])
+    ∙ ap (λ (r : List ℕ). concat-map faultEntry fs ++ r) (append-nil (faultEntry f))
 
 -- ---- the beginning
 module _ (text list : List ℕ) (kinds args lines bounds : List ℕ) where
   pub progress-first : take 1 bounds ≡ 0 ∷ []
-      → Progress text list (record { at = 0; line = 1 }) (record { statements = 0; drafts = 0; faults = 0 }) kinds args lines bounds list
+      → Progress text list (record { at = 0; line = 1 })
+      (record { statements = 0; drafts = 0; faults = 0 }) kinds args lines bounds list
   unfolding sheetOf concat-map boundsFrom faultList
   progress-first b =
       record {
@@ -110,11 +119,13 @@ module _ (text list : List ℕ) (kinds args lines bounds : List ℕ) where
 
 -- ---- one statement more, found at the cursor c
 module _ {text list₀ kinds args lines bounds list : List ℕ} {c : Cursor} {n : Tally}
-    (p : Progress text list₀ c n kinds args lines bounds list) {f s k : ℕ} {d g : Bool} {nx : Cursor} (w : Walk text c f s k d g nx) where
+    (p : Progress text list₀ c n kinds args lines bounds list) {f s k : ℕ} {d g : Bool} {nx : Cursor}
+    (w : Walk text c f s k d g nx) where
   here : Told → Report Told
   here t = record { line = f; what = t }
 
-  split-next : {t : Told} → told (cardsAt text s k) d ≡ t → sheetOf text ≡ (p .done ++ (here t ∷ [])) ++ map (report told) (statementsFrom text nx)
+  split-next : {t : Told} → told (cardsAt text s k) d ≡ t
+      → sheetOf text ≡ (p .done ++ (here t ∷ [])) ++ map (report told) (statementsFrom text nx)
   unfolding here
   split-next {t} e =
       p .split
@@ -126,16 +137,20 @@ module _ {text list₀ kinds args lines bounds list : List ℕ} {c : Cursor} {n 
       → n .drafts + length (draftsOf x) ≤ length text
       → n .drafts + length (draftsOf x) ≤ length kinds → n .drafts + length (draftsOf x) ≤ length args
       → n .statements < length lines → n .statements + 1 < length bounds
-      → Progress text list₀ nx (record { statements = n .statements + 1; drafts = n .drafts + length (draftsOf x); faults = n .faults })
-      (sets kinds (n .drafts) (kindsOf (draftsOf x))) (sets args (n .drafts) (argsOf (draftsOf x))) (set lines (n .statements) f)
+      → Progress text list₀ nx
+      (record { statements = n .statements + 1; drafts = n .drafts + length (draftsOf x); faults = n .faults })
+      (sets kinds (n .drafts) (kindsOf (draftsOf x))) (sets args (n .drafts) (argsOf (draftsOf x)))
+      (set lines (n .statements) f)
       (set bounds (n .statements + 1) (n .drafts + length (draftsOf x))) list
   unfolding here concat-map
   progress-said x e short within rk ra rl rb =
       let done : Sheet = p .done ++ (here (says x) ∷ []) in
       let one : Numbered = record { line = f; says = x } in
       let more : said done ≡ said (p .done) ++ (one ∷ []) = said-snoc (p .done) (here (says x)) in
-      let same : statementFaults done ≡ statementFaults (p .done) = faults-snoc (p .done) (here (says x)) ∙ append-nil (statementFaults (p .done)) in
-      let all : draftsIn (said done) ≡ draftsIn (said (p .done)) ++ draftsOf x = ap draftsIn more ∙ drafts-snoc (said (p .done)) one in
+      let same : statementFaults done ≡ statementFaults (p .done) =
+      faults-snoc (p .done) (here (says x)) ∙ append-nil (statementFaults (p .done)) in
+      let all : draftsIn (said done) ≡ draftsIn (said (p .done)) ++ draftsOf x =
+      ap draftsIn more ∙ drafts-snoc (said (p .done)) one in
       record {
         done = done;
         split = split-next e;
@@ -143,9 +158,12 @@ module _ {text list₀ kinds args lines bounds list : List ℕ} {c : Cursor} {n 
         statements = omega (arith, p .statements, ap length more, length-append (said (p .done)) (one ∷ []));
         drafts = omega (arith, p .drafts, ap length all, length-append (draftsIn (said (p .done))) (draftsOf x));
         faults = p .faults ∙ sym (ap length same);
-        kinds-held = held-more kinds (λ (z : Draft). z .kind) (n .drafts) (draftsIn (said (p .done))) (draftsOf x) _ rk (p .kinds-held) all;
-        args-held = held-more args (λ (z : Draft). z .arg) (n .drafts) (draftsIn (said (p .done))) (draftsOf x) _ ra (p .args-held) all;
-        lines-held = take-set lines (n .statements) f _ rl (p .lines-held) ∙ sym (lines-snoc (said done) (said (p .done)) one more);
+        kinds-held = held-more kinds (λ (z : Draft). z .kind) (n .drafts) (draftsIn (said (p .done))) (draftsOf x) _ rk
+            (p .kinds-held) all;
+        args-held = held-more args (λ (z : Draft). z .arg) (n .drafts) (draftsIn (said (p .done))) (draftsOf x) _ ra
+            (p .args-held) all;
+        lines-held = take-set lines (n .statements) f _ rl (p .lines-held)
+            ∙ sym (lines-snoc (said done) (said (p .done)) one more);
         bounds-held =
             take-set′ bounds (n .statements) (n .drafts + length (draftsOf x)) _ rb (p .bounds-held)
             ∙ rw (p .drafts) (sym (ap (boundsFrom 0) more ∙ bounds-snoc 0 (said (p .done)) one ∙ rw zero-add));
@@ -155,17 +173,20 @@ module _ {text list₀ kinds args lines bounds list : List ℕ} {c : Cursor} {n 
       }
 
   -- it has a fault: what is held stays, and the fault is listed behind those before it
-  pub progress-faulty : (code : ℕ) (q : Place) → told (cardsAt text s k) d ≡ faulty code q → (kinds′ args′ list′ : List ℕ)
+  pub progress-faulty : (code : ℕ) (q : Place) → told (cardsAt text s k) d ≡ faulty code q
+      → (kinds′ args′ list′ : List ℕ)
       → take (n .drafts) kinds′ ≡ take (n .drafts) kinds → take (n .drafts) args′ ≡ take (n .drafts) args
       → list′ ≡ sets list (faultBytes * n .faults) (entryOf f code)
-      → Progress text list₀ nx (record { statements = n .statements; drafts = n .drafts; faults = n .faults + 1 }) kinds′ args′ lines bounds list′
+      → Progress text list₀ nx (record { statements = n .statements; drafts = n .drafts; faults = n .faults + 1 })
+      kinds′ args′ lines bounds list′
   unfolding here concat-map faultEntry
   progress-faulty code q e kinds′ args′ list′ hk ha hl =
       let done : Sheet = p .done ++ (here (faulty code q) ∷ []) in
       let old : List Fault = statementFaults (p .done) in
       let new : Fault = record { line = f; code = code; place = q } in
       let more : statementFaults done ≡ old ++ (new ∷ []) = faults-snoc (p .done) (here (faulty code q)) in
-      let same : said done ≡ said (p .done) = said-snoc (p .done) (here (faulty code q)) ∙ append-nil (said (p .done)) in
+      let same : said done ≡ said (p .done) =
+      said-snoc (p .done) (here (faulty code q)) ∙ append-nil (said (p .done)) in
       let at : faultBytes * n .faults ≡ 0 + length (faultList old) = omega (arith, p .faults, list-length old) in
       record {
         done = done;
@@ -187,7 +208,8 @@ module _ {text list₀ kinds args lines bounds list : List ℕ} {c : Cursor} {n 
       }
 
 -- ---- the end: nothing more is found
-module _ {text list₀ kinds args lines bounds list : List ℕ} {c : Cursor} {n : Tally} (p : Progress text list₀ c n kinds args lines bounds list) where
+module _ {text list₀ kinds args lines bounds list : List ℕ} {c : Cursor} {n : Tally}
+    (p : Progress text list₀ c n kinds args lines bounds list) where
   -- all is done
   pub all-done : statementsFrom text c ≡ [] → p .done ≡ sheetOf text
   all-done e = sym (p .split ∙ ap (λ (r : List Statement). p .done ++ map (report told) r) e ∙ append-nil (p .done))

@@ -35,7 +35,8 @@ module _ {text list₀ kinds₀ args₀ lines₀ bounds₀ : List ℕ} (room : R
   says-five p h = rw (few, r .faults, r .listed) (go (statementFaults (sheetOf text)) (rw (← r .faults) h))
     where
       go : (fs : List Fault) → 0 < length fs
-          → reply (Faulty 5 (length fs)) (sets list₀ 0 (faultList fs)) p ≡ replyOf (ifFaults 5 fs (modelled (length p) (said (sheetOf text)))) list₀ p
+          → reply (Faulty 5 (length fs)) (sets list₀ 0 (faultList fs)) p
+          ≡ replyOf (ifFaults 5 fs (modelled (length p) (said (sheetOf text)))) list₀ p
       go [] h = absurd (omega arith)
       go (f ∷ fs) h = refl
 
@@ -53,7 +54,8 @@ module _ {text list₀ kinds₀ args₀ lines₀ bounds₀ : List ℕ} (room : R
     listed-none = r .listed ∙ ap (λ (fs : List Fault). sets list₀ 0 (faultList fs)) clean
 
     -- the model decides
-    pub says-model : (v : Verdict) (p : List ℕ) {f′ p′ : List ℕ} → Concludes (said (sheetOf text)) list p v f′ p′ → Judges text list₀ p v f′ p′
+    pub says-model : (v : Verdict) (p : List ℕ) {f′ p′ : List ℕ} → Concludes (said (sheetOf text)) list p v f′ p′
+        → Judges text list₀ p v f′ p′
     unfolding judged
     says-model v p w = rw (few, clean, ← listed-none) w
 
@@ -77,11 +79,13 @@ module _ {text list₀ kinds₀ args₀ lines₀ bounds₀ : List ℕ} (room : R
   pub args-enough : n .drafts ≤ length args
   args-enough = omega (arith, args-many, length-take (n .drafts) args)
 
-  pub bounds-laid : Laid (said (sheetOf text)) (take (n .drafts) kinds) (take (n .drafts) args) (take (n .statements) lines) (take (n .statements + 1) bounds)
+  pub bounds-laid : Laid (said (sheetOf text)) (take (n .drafts) kinds) (take (n .drafts) args)
+      (take (n .statements) lines) (take (n .statements + 1) bounds)
   bounds-laid = rw add-one (r .laid)
 
   pub lines-many : length (take (n .statements) lines) ≡ n .statements
-  lines-many = ap length (r .laid .lines-held) ∙ length-map (said (sheetOf text)) (λ (s : Numbered). s .line) ∙ sym (r .statements)
+  lines-many = ap length (r .laid .lines-held) ∙ length-map (said (sheetOf text)) (λ (s : Numbered). s .line)
+      ∙ sym (r .statements)
 
   pub lines-enough : n .statements ≤ length lines
   lines-enough = omega (arith, lines-many, length-take (n .statements) lines)

@@ -33,7 +33,8 @@ use Rattle.translator.specs.Working.{TellsOf, Tells, Size, AddsOf, Adds}
 -- ---- what is told
 
 -- the same of what is told otherwise
-pub tells-of : {t v : Told} {p : ℕ} {l u l′ u′ : List ℕ} {r : Answer} → t ≡ v → Tells v p l u r l′ u′ → Tells t p l u r l′ u′
+pub tells-of : {t v : Told} {p : ℕ} {l u l′ u′ : List ℕ} {r : Answer} → t ≡ v → Tells v p l u r l′ u′
+    → Tells t p l u r l′ u′
 tells-of e w = rw e w
 
 -- a fault, and nothing written
@@ -64,12 +65,15 @@ module _ (s : List ℕ) where
   tokened-bad {code} {n} {at} e = ap (scanned (rowOf s .tokens)) (ends-badly (rowOf s) code n at e .0)
 
   -- with none
-  pub tokened-well : {n : ℕ} → rowEnd (rowOf s) ≡ Tokens n → tokened (rowOf s) ≡ parsed (rowOf s .tokens) (readRow (symbols (rowOf s .tokens)))
+  pub tokened-well : {n : ℕ} → rowEnd (rowOf s) ≡ Tokens n
+      → tokened (rowOf s) ≡ parsed (rowOf s .tokens) (readRow (symbols (rowOf s .tokens)))
   tokened-well {n} e = ap (scanned (rowOf s .tokens)) (ends-well (rowOf s) n e .0)
 
   -- the row that was written holds its tokens
-  pub row-held : {n : ℕ} (ks us ks′ us′ : List ℕ) → rowEnd (rowOf s) ≡ Tokens n → length s ≤ length ks → length s ≤ length us
-      → ks′ ≡ sets ks 0 (kindsOf (rowOf s)) → us′ ≡ sets us 0 (argsOf (rowOf s)) → heldRow (take n ks′) (take n us′) ≡ symbols (rowOf s .tokens)
+  pub row-held : {n : ℕ} (ks us ks′ us′ : List ℕ) → rowEnd (rowOf s) ≡ Tokens n → length s ≤ length ks
+      → length s ≤ length us
+      → ks′ ≡ sets ks 0 (kindsOf (rowOf s)) → us′ ≡ sets us 0 (argsOf (rowOf s))
+      → heldRow (take n ks′) (take n us′) ≡ symbols (rowOf s .tokens)
   row-held {n} ks us ks′ us′ e hk hu ek eu =
       rw (held kindOf ks ks′ hk ek, held argOf us us′ hu eu) (held-back ts (all-hold ts (symbols-fine s)))
     where
@@ -78,7 +82,8 @@ module _ (s : List ℕ) where
 
       held : (f : Symbol → ℕ) (l l′ : List ℕ) → length s ≤ length l → l′ ≡ sets l 0 (map f ts) → take n l′ ≡ map f ts
       held f l l′ h q =
-          let m : length (map f ts) ≡ n = length-map ts f ∙ length-map (rowOf s .tokens) (λ (p : Placed). p .symbol) ∙ ends-well (rowOf s) n e .1 in
+          let m : length (map f ts) ≡ n =
+          length-map ts f ∙ length-map (rowOf s .tokens) (λ (p : Placed). p .symbol) ∙ ends-well (rowOf s) n e .1 in
           taken l (map f ts) l′ (sym m) (omega (arith, row-short s, ends-well (rowOf s) n e .1)) q
 
 -- a row ends some way
@@ -92,7 +97,8 @@ never-full r e = go (r .close) (length (r .tokens)) e
 -- ---- by its size
 module _ (cards : List Line) (closed : Bool) where
   -- with a fault for size
-  pub told-sized : (code : ℕ) → Size cards closed code → (code ≡ 0 → ⊥) → told cards closed ≡ faulty code (cond closed at-start at-end)
+  pub told-sized : (code : ℕ) → Size cards closed code → (code ≡ 0 → ⊥)
+      → told cards closed ≡ faulty code (cond closed at-start at-end)
   unfolding told
   told-sized code e h =
       let f : sizeFlaw cards closed ≡ flaw code (cond closed at-start at-end) = e ∙ rw (ne-eqb code 0 h) in
@@ -106,7 +112,8 @@ module _ (cards : List Line) (closed : Bool) where
 -- ---- one statement more
 module _ {t : Told} {l u l′ u′ : List ℕ} {r : Answer} (n : Tally) (w : Tells t (n .drafts) l u r l′ u′) where
   -- where it says something, by at most m drafts, the answer is not too far on
-  pub end-near : {end : ℕ} (m : ℕ) → ((x : Statement) → t ≡ says x → length (draftsOf x) ≤ m) → r ≡ Says end → end ≤ n .drafts + m
+  pub end-near : {end : ℕ} (m : ℕ) → ((x : Statement) → t ≡ says x → length (draftsOf x) ≤ m) → r ≡ Says end
+      → end ≤ n .drafts + m
   end-near {end} m few e = go t refl (w .by-told)
     where
       go : (v : Told) → t ≡ v → TellsOf v (n .drafts) l u r l′ u′ → end ≤ n .drafts + m
@@ -117,21 +124,27 @@ module _ {t : Told} {l u l′ u′ : List ℕ} {r : Answer} (n : Tally) (w : Tel
   pub adds-says : {end : ℕ} (first : ℕ) (ls bs fs : List ℕ) → r ≡ Says end
       → Adds t first n l u ls bs fs (record { statements = n .statements + 1; drafts = end; faults = n .faults }) l′ u′
       (set ls (n .statements) first) (set bs (n .statements + 1) end) fs
-  adds-says {end} first ls bs fs e = record { long-kinds = w .long-kinds; long-args = w .long-args; by-told = go t (w .by-told) }
+  adds-says {end} first ls bs fs e =
+      record { long-kinds = w .long-kinds; long-args = w .long-args; by-told = go t (w .by-told) }
     where
       go : (t : Told) → TellsOf t (n .drafts) l u r l′ u′
-          → AddsOf t first n l u ls bs fs (record { statements = n .statements + 1; drafts = end; faults = n .faults }) l′ u′
+          → AddsOf t first n l u ls bs fs
+          (record { statements = n .statements + 1; drafts = end; faults = n .faults }) l′ u′
           (set ls (n .statements) first) (set bs (n .statements + 1) end) fs
       go (says x) (a, b, c) = let q : end ≡ n .drafts + length (draftsOf x) = cc in (rw q, b, c, refl, rw q, refl)
       go (faulty c q) (a, b, d) = absurd (let z : _≡_ {A = ℕ} 0 1 = cc in omega arith)
 
   -- where it has a fault, that is listed
-  pub adds-faulty : {code : ℕ} (first : ℕ) (ls bs fs fs′ : List ℕ) → r ≡ Faulty code → fs′ ≡ sets fs (faultBytes * n .faults) (entryOf first code)
-      → Adds t first n l u ls bs fs (record { statements = n .statements; drafts = n .drafts; faults = n .faults + 1 }) l′ u′ ls bs fs′
-  adds-faulty {code} first ls bs fs fs′ e f = record { long-kinds = w .long-kinds; long-args = w .long-args; by-told = go t (w .by-told) }
+  pub adds-faulty : {code : ℕ} (first : ℕ) (ls bs fs fs′ : List ℕ) → r ≡ Faulty code
+      → fs′ ≡ sets fs (faultBytes * n .faults) (entryOf first code)
+      → Adds t first n l u ls bs fs (record { statements = n .statements; drafts = n .drafts; faults = n .faults + 1 })
+      l′ u′ ls bs fs′
+  adds-faulty {code} first ls bs fs fs′ e f =
+      record { long-kinds = w .long-kinds; long-args = w .long-args; by-told = go t (w .by-told) }
     where
       go : (t : Told) → TellsOf t (n .drafts) l u r l′ u′
-          → AddsOf t first n l u ls bs fs (record { statements = n .statements; drafts = n .drafts; faults = n .faults + 1 }) l′ u′ ls bs fs′
+          → AddsOf t first n l u ls bs fs
+          (record { statements = n .statements; drafts = n .drafts; faults = n .faults + 1 }) l′ u′ ls bs fs′
       go (says x) (a, b, c) = absurd (let z : _≡_ {A = ℕ} 0 1 = cc in omega arith)
       go (faulty c q) (a, b, d) =
           let k : code ≡ c = cc in

@@ -29,7 +29,8 @@ closed k true long h = refl
 closed k false long h = absurd (omega arith)
 
 -- what is read so far; the buffers are as long as those of the beginning
-pub record Going (text kinds₀ args₀ lines₀ bounds₀ list₀ kinds args lines bounds list : List ℕ) (n : Tally) (c : Cursor) : Type 0 where
+pub record Going (text kinds₀ args₀ lines₀ bounds₀ list₀ kinds args lines bounds list : List ℕ) (n : Tally)
+    (c : Cursor) : Type 0 where
   pub progress : Progress text list₀ c n kinds args lines bounds list
   pub long-kinds : length kinds ≡ length kinds₀
   pub long-args : length args ≡ length args₀
@@ -89,7 +90,8 @@ module _ {text kinds₀ args₀ lines₀ bounds₀ list₀ kinds args lines boun
         → Able text f s k d long (nx .at) n ks us kinds args lines bounds
     going-able hk hu =
         let p = g .progress in
-        let places : n .drafts + length (joined (cardsAt text s k)) ≤ length text = omega (arith, p .short, near .within) in
+        let places : n .drafts + length (joined (cardsAt text s k)) ≤ length text =
+        omega (arith, p .short, near .within) in
         record {
           size = step .size;
           before =
@@ -124,16 +126,20 @@ module _ {text kinds₀ args₀ lines₀ bounds₀ list₀ kinds args lines boun
       where
         go : (t : Told) → told (cardsAt text s k) d ≡ t
             → AddsOf t f n kinds args lines bounds list n′ kinds′ args′ lines′ bounds′ list′
-            → Progress text list₀ nx n′ kinds′ args′ lines′ bounds′ list′ × (length lines′ ≡ length lines) × (length bounds′ ≡ length bounds)
+            → Progress text list₀ nx n′ kinds′ args′ lines′ bounds′ list′ × (length lines′ ≡ length lines)
+            × (length bounds′ ≡ length bounds)
         go (says x) q (en, ek, ea, el, eb, ef) =
             let few = drafts-few (cardsAt text s k) d x q in
             let p = g .progress in
             let row : List ℕ = replicate joinedRoom 0 in
             let a = going-able {ks = row} {us = row} (omega arith) (omega arith) in
             let more : Progress text list₀ nx _ _ _ _ _ list =
-            progress-said p step x q (omega (arith, p .short, near .from, near .joins)) (omega (arith, p .short, near .within))
-            (omega (arith, a .before .room-kinds)) (omega (arith, a .before .room-args)) (a .lines-room) (a .bounds-room) in
+            progress-said p step x q (omega (arith, p .short, near .from, near .joins))
+            (omega (arith, p .short, near .within))
+            (omega (arith, a .before .room-kinds)) (omega (arith, a .before .room-args)) (a .lines-room)
+            (a .bounds-room) in
             (rw (en, ek, ea, el, eb, ef) more, ap length el ∙ simp length-set, ap length eb ∙ simp length-set)
         go (faulty code place) q (en, ek, ea, el, eb, ef) =
-            let more : Progress text list₀ nx _ kinds′ args′ lines bounds list′ = progress-faulty (g .progress) step code place q kinds′ args′ list′ ek ea ef in
+            let more : Progress text list₀ nx _ kinds′ args′ lines bounds list′ =
+            progress-faulty (g .progress) step code place q kinds′ args′ list′ ek ea ef in
             (rw (en, el, eb) more, ap length el, ap length eb)

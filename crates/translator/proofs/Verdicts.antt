@@ -16,7 +16,8 @@ use Rattle.sheet.specs.Reader.{told, sheetOf}
 use Rattle.translator.specs.declared.Verdict.{Verdict}
 use Rattle.translator.specs.declared.Verdict.the-variants.{Refused}
 use Rattle.translator.specs.Contract.{Reply, byNumber, replyOf, Translates, Gives}
-use Rattle.translator.specs.Verdict.{Verdict as Decision, refused, faulty, translated, judged, verdictOf, translationOf, translation}
+use Rattle.translator.specs.Verdict.{Verdict as Decision, refused, faulty, translated, judged, verdictOf}
+use Rattle.translator.specs.Verdict.{translationOf, translation}
 use Rattle.translator.specs.Working.{Taken, Judges}
 
 -- a report for each statement
@@ -68,7 +69,8 @@ module _ (text f p : List ℕ) where
         pub says-four : mostStatements < length (reading fresh 1 (linesOf text)) → Translates text f p (Refused 4) f p
         unfolding verdictOf judged
         says-four h =
-            rw (enough, brief, lined, sheet-many text, lt-ltb mostStatements (length (reading fresh 1 (linesOf text))) h)
+            rw
+            (enough, brief, lined, sheet-many text, lt-ltb mostStatements (length (reading fresh 1 (linesOf text))) h)
 
         -- behind them the sheet's verdict is the text's
         pub says-judged : (r : Verdict) {f′ p′ : List ℕ} → Judges text f p r f′ p′ → Translates text f p r f′ p′
@@ -83,7 +85,9 @@ by-case (faulty n fs) f p = refl
 by-case (translated rs ls) f p = refl
 
 -- BY NUMBER: an answer as promised has the number, the count and the buffers that the paper names
-pub by-number : (text f p : List ℕ) {r : Verdict} {f′ p′ : List ℕ} → Translates text f p r f′ p′ → Gives text f p r f′ p′
+pub by-number : (text f p : List ℕ) {r : Verdict} {f′ p′ : List ℕ} → Translates text f p r f′ p′
+    → Gives text f p r f′ p′
 unfolding translation
 by-number text f p e =
-    ap (λ (x : Reply). byNumber (x .answer) (x .faults) (x .program)) e ∙ by-case (verdictOf text (length f) (length p)) f p
+    ap (λ (x : Reply). byNumber (x .answer) (x .faults) (x .program)) e
+    ∙ by-case (verdictOf text (length f) (length p)) f p

@@ -28,14 +28,16 @@ use Rattle.translator.specs.declared.Verdict.the-variants.{Refused, Faul
 use Rattle.translator.specs.Working.{blank, held, Ready, Planned, Concludes}
 use Rattle.translator.proofs.Progress.{take-sets}
 use Rattle.translator.proofs.Concluding.{Conclusion, concluded, soundPlan, all-placed}
-use Rattle.translator.proofs.Deciding.{written, decides-six, decides-seven, decides-sound, decides-eight, decides-eight′, decides-zero}
+use Rattle.translator.proofs.Deciding.{written, decides-six, decides-seven, decides-sound, decides-eight}
+use Rattle.translator.proofs.Deciding.{decides-eight′, decides-zero}
 use Rattle.translator.proofs.Deciding.{program-long}
 
 -- a row that an array holds stands at its front
 pub take-held : (m : ℕ) (l : List ℕ) (n : ℕ) → n ≡ length l → length l ≤ m → take n (held m l) ≡ l
 take-held m l n e h =
     let long = length-replicate {A = ℕ} m 0 in
-    ap (λ (k : ℕ). take k (sets (replicate m 0) 0 l)) (e ∙ sym (zero-add (length l))) ∙ take-sets (replicate m 0) 0 l (omega (arith, long, h))
+    ap (λ (k : ℕ). take k (sets (replicate m 0) 0 l)) (e ∙ sym (zero-add (length l)))
+    ∙ take-sets (replicate m 0) 0 l (omega (arith, long, h))
 
 length-held : (m : ℕ) (l : List ℕ) → length (held m l) ≡ m
 length-held m l = length-sets (replicate m 0) 0 l ∙ length-replicate {A = ℕ} m 0
@@ -45,7 +47,8 @@ pub front : (n : ℕ) (l : List ℕ) → n ≤ length l → n ≡ length (take n
 front n l h = sym (length-take-le n l h)
 
 -- ---- the plan of a sound model
-module _ {p : Plan} {places rows order lines bounds kinds args : List ℕ} (s : Planned p places rows order lines bounds kinds args) where
+module _ {p : Plan} {places rows order lines bounds kinds args : List ℕ}
+    (s : Planned p places rows order lines bounds kinds args) where
   abbrev ds : List Def
   ds = definitions (s .statements)
 
@@ -72,75 +75,99 @@ module _ {p : Plan} {places rows order lines bounds kinds args : List ℕ} (s : 
 
   -- the three rows, cut from their arrays
   pub places-room : p .definitions ≤ length places
-  places-room = rw (s .places-held, length-held mostDefinitions (placesIn kinds)) (omega (arith, s .definitions-counted, places-short))
+  places-room = rw (s .places-held, length-held mostDefinitions (placesIn kinds))
+      (omega (arith, s .definitions-counted, places-short))
 
   pub rows-room : p .equations ≤ length rows
-  rows-room = rw (s .rows-held, length-held mostStatements (equationRows (length lines) bounds kinds)) (omega (arith, s .equations-counted, rows-short))
+  rows-room = rw (s .rows-held, length-held mostStatements (equationRows (length lines) bounds kinds))
+      (omega (arith, s .equations-counted, rows-short))
 
   pub order-room : p .equations ≤ length order
-  order-room = rw (s .order-held, length-held mostStatements (orderOf ds)) (omega (arith, s .equations-counted, rows-short))
+  order-room =
+      rw (s .order-held, length-held mostStatements (orderOf ds)) (omega (arith, s .equations-counted, rows-short))
 
   pub places-cut : take (p .definitions) places ≡ placesIn kinds
-  places-cut = rw (s .places-held) (take-held mostDefinitions (placesIn kinds) (p .definitions) (s .definitions-counted) places-short)
+  places-cut =
+      rw (s .places-held)
+      (take-held mostDefinitions (placesIn kinds) (p .definitions) (s .definitions-counted) places-short)
 
   pub rows-cut : take (p .equations) rows ≡ equationRows (length lines) bounds kinds
   rows-cut =
       rw (s .rows-held)
-      (take-held mostStatements (equationRows (length lines) bounds kinds) (p .equations) (s .equations-counted) rows-short)
+      (take-held mostStatements (equationRows (length lines) bounds kinds) (p .equations)
+      (s .equations-counted) rows-short)
 
   pub order-cut : take (p .equations) order ≡ orderOf ds
   order-cut =
       rw (s .order-held)
-      (take-held mostStatements (orderOf ds) (p .equations) (s .equations-counted ∙ rows-many ∙ sym order-many) order-short)
+      (take-held mostStatements (orderOf ds) (p .equations)
+      (s .equations-counted ∙ rows-many ∙ sym order-many) order-short)
 
   -- what is written is the program's bytes
   pub written-cut : {r₁ r₂ r₃ : List ℕ} → r₁ ≡ take (p .definitions) places → r₂ ≡ take (p .equations) rows
       → r₃ ≡ take (p .equations) order
-      → writtenProgram r₁ r₂ lines bounds kinds args r₃ ≡ written (s .statements) kinds (s .named) lines bounds (s .laid) [] [] []
+      → writtenProgram r₁ r₂ lines bounds kinds args r₃ ≡ written (s .statements) kinds (s .named) lines bounds
+      (s .laid) [] [] []
   written-cut e₁ e₂ e₃ = rw (e₁, e₂, e₃, places-cut, rows-cut, order-cut, s .args-resolved)
 
   -- ---- the answers
-  module _ (out : List ℕ) {over : Bool} (tested : over ≡ (ltb mostRecords (recordCount kinds) || ltb (length out / recordBytes) (recordCount kinds))) where
-    -- the records are too many, or too many for the room
-    pub says-eight : over ≡ true → (f : List ℕ) → Concludes (s .statements) f out (Refused 8) f out
-    says-eight t f = go (ltb mostRecords (recordCount kinds)) refl (sym tested ∙ t)
-      where
-        go : (b : Bool) → ltb mostRecords (recordCount kinds) ≡ b → (b || ltb (length out / recordBytes) (recordCount kinds)) ≡ true
-            → Concludes (s .statements) f out (Refused 8) f out
-        go true e _ =
-            decides-eight (s .statements) kinds (s .named) lines bounds (s .laid) [] f out (s .few) (s .clean) (ltb-true mostRecords (recordCount kinds) e)
-        go false e h =
-            decides-eight′ (s .statements) kinds (s .named) lines bounds (s .laid) [] f out (s .few) (s .clean)
-            (ltb-true (length out / recordBytes) (recordCount kinds) h) (ltb-false mostRecords (recordCount kinds) e)
+  module _ (out : List ℕ) {over : Bool}
+      (tested : over ≡ (ltb mostRecords (recordCount kinds) || ltb (length out / recordBytes) (recordCount kinds)))
+    where
+      -- the records are too many, or too many for the room
+      pub says-eight : over ≡ true → (f : List ℕ) → Concludes (s .statements) f out (Refused 8) f out
+      says-eight t f = go (ltb mostRecords (recordCount kinds)) refl (sym tested ∙ t)
+        where
+          go : (b : Bool) → ltb mostRecords (recordCount kinds) ≡ b
+              → (b || ltb (length out / recordBytes) (recordCount kinds)) ≡ true
+              → Concludes (s .statements) f out (Refused 8) f out
+          go true e _ =
+              decides-eight (s .statements) kinds (s .named) lines bounds (s .laid) [] f out (s .few) (s .clean)
+              (ltb-true mostRecords (recordCount kinds) e)
+          go false e h =
+              decides-eight′ (s .statements) kinds (s .named) lines bounds (s .laid) [] f out (s .few) (s .clean)
+              (ltb-true (length out / recordBytes) (recordCount kinds) h) (ltb-false mostRecords (recordCount kinds) e)
 
-    -- or they are not, and the program is written
-    module _ {r₁ r₂ r₃ : List ℕ} (e₁ : r₁ ≡ take (p .definitions) places) (e₂ : r₂ ≡ take (p .equations) rows)
-        (e₃ : r₃ ≡ take (p .equations) order) (z : over ≡ false) where
-      under : (recordCount kinds ≤ mostRecords) × (recordCount kinds ≤ length out / recordBytes)
-      under =
-          let both = or-false (ltb mostRecords (recordCount kinds)) (ltb (length out / recordBytes) (recordCount kinds)) (sym tested ∙ z) in
-          (ltb-false mostRecords (recordCount kinds) (both .0), ltb-false (length out / recordBytes) (recordCount kinds) (both .1))
+      -- or they are not, and the program is written
+      module _ {r₁ r₂ r₃ : List ℕ} (e₁ : r₁ ≡ take (p .definitions) places) (e₂ : r₂ ≡ take (p .equations) rows)
+          (e₃ : r₃ ≡ take (p .equations) order) (z : over ≡ false) where
+        under : (recordCount kinds ≤ mostRecords) × (recordCount kinds ≤ length out / recordBytes)
+        under =
+            let over-most = ltb mostRecords (recordCount kinds) in
+            let over-room = ltb (length out / recordBytes) (recordCount kinds) in
+            let both = or-false over-most over-room (sym tested ∙ z) in (
+              ltb-false mostRecords (recordCount kinds) (both .0),
+              ltb-false (length out / recordBytes) (recordCount kinds) (both .1),
+            )
 
-      -- its bytes tell how many records it has
-      counted : {n : ℕ} → n ≡ length (writtenProgram r₁ r₂ lines bounds kinds args r₃) → n / recordBytes ≡ recordCount kinds
-      counted e =
-          let many = program-long (s .statements) kinds (s .named) lines bounds (s .laid) [] [] out (s .few) (s .clean) in
-          rw (e, written-cut e₁ e₂ e₃) (omega (arith, many))
+        -- its bytes tell how many records it has
+        counted : {n : ℕ} → n ≡ length (writtenProgram r₁ r₂ lines bounds kinds args r₃)
+            → n / recordBytes ≡ recordCount kinds
+        counted e =
+            let many =
+            program-long (s .statements) kinds (s .named) lines bounds (s .laid) [] [] out (s .few) (s .clean) in
+            rw (e, written-cut e₁ e₂ e₃) (omega (arith, many))
 
-      -- there is room for all of them
-      all-fits : fitting (length out) (writtenProgram r₁ r₂ lines bounds kinds args r₃) ≡ writtenProgram r₁ r₂ lines bounds kinds args r₃
-      all-fits =
-          let many = program-long (s .statements) kinds (s .named) lines bounds (s .laid) [] [] out (s .few) (s .clean) in
-          rw (written-cut e₁ e₂ e₃)
-          (take-all (recordBytes * (length out / recordBytes)) (written (s .statements) kinds (s .named) lines bounds (s .laid) [] [] [])
-          (omega (arith, many, under .1)))
+        -- there is room for all of them
+        all-fits : fitting (length out) (writtenProgram r₁ r₂ lines bounds kinds args r₃)
+            ≡ writtenProgram r₁ r₂ lines bounds kinds args r₃
+        all-fits =
+            let many =
+            program-long (s .statements) kinds (s .named) lines bounds (s .laid) [] [] out (s .few) (s .clean) in
+            rw (written-cut e₁ e₂ e₃)
+            (take-all (recordBytes * (length out / recordBytes))
+            (written (s .statements) kinds (s .named) lines bounds (s .laid) [] [] [])
+            (omega (arith, many, under .1)))
 
-      pub says-zero : {n : ℕ} {out′ : List ℕ} → (n ≡ length (fitting (length out) (writtenProgram r₁ r₂ lines bounds kinds args r₃)))
-          × (out′ ≡ sets out 0 (fitting (length out) (writtenProgram r₁ r₂ lines bounds kinds args r₃))) → (f : List ℕ)
-          → Concludes (s .statements) f out (Translated (n / recordBytes)) f out′
-      says-zero e f =
-          rw (counted (e .0 ∙ ap length all-fits), e .1 ∙ ap (sets out 0) all-fits, written-cut e₁ e₂ e₃)
-          (decides-zero (s .statements) kinds (s .named) lines bounds (s .laid) [] f out (s .few) (s .clean) (under .0) (under .1))
+        pub says-zero : {n : ℕ} {out′ : List ℕ}
+            → (n ≡ length (fitting (length out) (writtenProgram r₁ r₂ lines bounds kinds args r₃)))
+            × (out′ ≡ sets out 0 (fitting (length out) (writtenProgram r₁ r₂ lines bounds kinds args r₃)))
+            → (f : List ℕ)
+            → Concludes (s .statements) f out (Translated (n / recordBytes)) f out′
+        says-zero e f =
+            rw (counted (e .0 ∙ ap length all-fits), e .1 ∙ ap (sets out 0) all-fits, written-cut e₁ e₂ e₃)
+            (decides-zero (s .statements) kinds (s .named) lines bounds (s .laid) [] f out (s .few) (s .clean)
+            (under .0) (under .1))
 
 -- ---- what is planned of statements that are laid out
 module _ {lines bounds kinds args used faults : List ℕ} (ready : Ready lines bounds kinds args used faults)
@@ -188,7 +215,8 @@ module _ {lines bounds kinds args used faults : List ℕ} (ready : Ready lines b
         }
 
     pub says-rest : (r : Verdict) {out′ : List ℕ}
-        → ((s : Planned p places rows order lines bounds kinds args′) (f : List ℕ) → Concludes (s .statements) f out r f out′)
+        → ((s : Planned p places rows order lines bounds kinds args′) (f : List ℕ)
+        → Concludes (s .statements) f out r f out′)
         → Concludes ss faults out r faults′ out′
     unfolding planned-so
     says-rest r w = rw (ap (λ (o : PlanOutcome). o .faults) (sound .2)) (w planned-so faults)

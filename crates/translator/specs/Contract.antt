@@ -5,7 +5,8 @@ use mathlib.Core.List.{List}
 use lib.ListN.{length}
 use Rattle.translator.specs.declared.Verdict.{Verdict}
 use Rattle.translator.specs.declared.Verdict.the-variants.{Refused, Faulty, Translated}
-use Rattle.translator.specs.Verdict.{Verdict as Decision, refused, faulty, translated, faultsAfter, programAfter, verdictOf}
+use Rattle.translator.specs.Verdict.{Verdict as Decision, refused, faulty, translated, faultsAfter, programAfter}
+use Rattle.translator.specs.Verdict.{verdictOf}
 use Rattle.translator.specs.Verdict.{Translation, translation}
 
 -- ---- the paper's number and count for each case of the answer

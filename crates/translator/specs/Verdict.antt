@@ -5,7 +5,8 @@ use mathlib.Core.List.{List, [], _∷_, map}
 use lib.Dec.{ltb}
 use lib.ListN.{length}
 use lib.Seq.{sets}
-use Rattle.limits.specs.Limits.{faultRoom, textBytes, textLines, mostStatements, mostDefinitions, mostRecords, recordBytes}
+use Rattle.limits.specs.Limits.{faultRoom, textBytes, textLines, mostStatements, mostDefinitions, mostRecords}
+use Rattle.limits.specs.Limits.{recordBytes}
 use Rattle.deck.specs.Lines.{linesOf}
 use Rattle.sheet.specs.Sheet.{Sheet, Numbered, Fault, said, statementFaults, faultList}
 use Rattle.sheet.specs.Reader.{sheetOf}
@@ -14,8 +15,8 @@ use Rattle.model.specs.Faults.{modelFaults, orderOf}
 use Rattle.records.specs.Record.{Rec, programBytes}
 use Rattle.program.specs.Program.{program}
 
--- refused with a number, nothing written; faulty with 5 or 7, the fault list written; translated, 0, the program written. The last also
--- names the first line of each ordered statement
+-- refused with a number, nothing written; faulty with 5 or 7, the fault list written; translated, 0, the program
+-- written. The last also names the first line of each ordered statement
 pub data Verdict : Type 0 where
   refused : ℕ → Verdict
   faulty : ℕ → List Fault → Verdict
@@ -28,7 +29,8 @@ ifFaults n (f ∷ fs) next = faulty n (f ∷ fs)
 
 -- 8: records needed exceed mostRecords or the lent bytes divided by recordBytes, rounded down; 0 otherwise
 abbrev pub fitted : ℕ → List Rec → List ℕ → Verdict
-fitted room rs ls = cond (ltb mostRecords (length rs) || ltb (room / recordBytes) (length rs)) (refused 8) (translated rs ls)
+fitted room rs ls =
+    cond (ltb mostRecords (length rs) || ltb (room / recordBytes) (length rs)) (refused 8) (translated rs ls)
 
 -- the program of the definitions in their order, with the ordered statements' first lines
 abbrev pub programmed : ℕ → List Def → Verdict
@@ -88,7 +90,8 @@ pub record Translation : Type 0 where
   pub program : List ℕ
 
 abbrev pub translationOf : Verdict → List ℕ → List ℕ → Translation
-translationOf v f p = record { number = numberOf v; count = countOf v; faults = faultsAfter v f; program = programAfter v p }
+translationOf v f p =
+    record { number = numberOf v; count = countOf v; faults = faultsAfter v f; program = programAfter v p }
 
 unfoldable pub translation : List ℕ → List ℕ → List ℕ → Translation
 translation text f p = translationOf (verdictOf text (length f) (length p)) f p

@@ -39,10 +39,11 @@ argsOf ds = map (λ (d : Draft). d .arg) ds
 
 -- ---- one statement
 
--- what is told of it: where it says something, the answer is the place behind its drafts, which stand from the place p on; where it has a
--- fault, the answer is the code, and what stands before the place is kept
+-- what is told of it: where it says something, the answer is the place behind its drafts, which stand from the place p
+-- on; where it has a fault, the answer is the code, and what stands before the place is kept
 abbrev pub TellsOf : Told → ℕ → List ℕ → List ℕ → Answer → List ℕ → List ℕ → Type 0
-TellsOf (says x) p l u r l′ u′ = (r ≡ Says (p + length (draftsOf x))) × (l′ ≡ sets l p (kindsOf (draftsOf x))) × (u′ ≡ sets u p (argsOf (draftsOf x)))
+TellsOf (says x) p l u r l′ u′ = (r ≡ Says (p + length (draftsOf x))) × (l′ ≡ sets l p (kindsOf (draftsOf x)))
+    × (u′ ≡ sets u p (argsOf (draftsOf x)))
 TellsOf (faulty c q) p l u r l′ u′ = (r ≡ Faulty c) × (take p l′ ≡ take p l) × (take p u′ ≡ take p u)
 
 -- of what was told, by reading, and by what stands in the buffers before and after
@@ -79,7 +80,8 @@ pub record Stands (text : List ℕ) (start next : ℕ) (body : List ℕ) : Type 
   pub upto : next ≤ length text + 1
   pub same : take (next - 1 - start) (drop start text) ≡ body
 
--- what reading the statement of so many lines asks: its joined text has room, and so have its drafts; of one line it is what stands there
+-- what reading the statement of so many lines asks: its joined text has room, and so have its drafts; of one line it is
+-- what stands there
 pub record Before (text : List ℕ) (start cards next code : ℕ) (ks us : List ℕ) (p : ℕ) (l u : List ℕ) : Type 0 where
   pub short : code ≡ 0 → length (joined (cardsAt text start cards)) ≤ joinedRoom
   pub alone : code ≡ 0 → cards ≡ 1 → Stands text start next (joined (cardsAt text start cards))
@@ -91,7 +93,8 @@ pub record Before (text : List ℕ) (start cards next code : ℕ) (ks us : List 
 -- ---- one statement more
 
 -- what it asks of the arrays besides
-pub record Able (text : List ℕ) (first start cards : ℕ) (closed long : Bool) (next : ℕ) (n : Tally) (ks us kinds args lines bounds : List ℕ) : Type 0 where
+pub record Able (text : List ℕ) (first start cards : ℕ) (closed long : Bool) (next : ℕ) (n : Tally)
+    (ks us kinds args lines bounds : List ℕ) : Type 0 where
   pub size : Size (cardsAt text start cards) closed (sizeCode cards closed long)
   pub before : Before text start cards next (sizeCode cards closed long) ks us (n .drafts) kinds args
   pub first-fits : first ≤ textBytes
@@ -100,7 +103,8 @@ pub record Able (text : List ℕ) (first start cards : ℕ) (closed long : Bool)
   pub bounds-room : n .statements + 1 < length bounds
   pub faults-fit : n .faults < mostStatements
 
--- what it gives: where the statement says x, its drafts, its number and their end are noted; where it has a fault, that is listed
+-- what it gives: where the statement says x, its drafts, its number and their end are noted; where it has a fault, that
+-- is listed
 abbrev pub AddsOf : Told → ℕ → Tally → List ℕ → List ℕ → List ℕ → List ℕ → List ℕ
     → Tally → List ℕ → List ℕ → List ℕ → List ℕ → List ℕ → Type 0
 AddsOf (says x) first n l u ls bs fs r l′ u′ ls′ bs′ fs′ =
@@ -119,15 +123,18 @@ AddsOf (faulty c q) first n l u ls bs fs r l′ u′ ls′ bs′ fs′ =
     × (fs′ ≡ sets fs (faultBytes * n .faults) (entryOf first c))
 
 -- by what was told, and by what stands in the buffers before and after
-pub record Adds (t : Told) (first : ℕ) (n : Tally) (l u ls bs fs : List ℕ) (r : Tally) (l′ u′ ls′ bs′ fs′ : List ℕ) : Type 0 where
+pub record Adds (t : Told) (first : ℕ) (n : Tally) (l u ls bs fs : List ℕ) (r : Tally)
+    (l′ u′ ls′ bs′ fs′ : List ℕ) : Type 0 where
   pub long-kinds : length l′ ≡ length l
   pub long-args : length u′ ≡ length u
   pub by-told : AddsOf t first n l u ls bs fs r l′ u′ ls′ bs′ fs′
 
 -- ---- all statements
 
--- Reading stands at the cursor c. The reports behind it are `done`; they are held in the arrays, and their faults in the list
-pub record Progress (text list₀ : List ℕ) (c : Cursor) (n : Tally) (kinds args lines bounds list : List ℕ) : Type 0 where
+-- Reading stands at the cursor c. The reports behind it are `done`; they are held in the arrays, and their faults in
+-- the list
+pub record Progress (text list₀ : List ℕ) (c : Cursor) (n : Tally)
+    (kinds args lines bounds list : List ℕ) : Type 0 where
   pub done : Sheet
   pub split : sheetOf text ≡ done ++ map (report told) (statementsFrom text c)
   pub lawful : c .line ≤ c .at + 1
@@ -162,7 +169,8 @@ pub record Read (text list₀ : List ℕ) (n : Tally) (kinds args lines bounds l
   pub statements : n .statements ≡ length (said (sheetOf text))
   pub drafts : n .drafts ≡ length (draftsIn (said (sheetOf text)))
   pub faults : n .faults ≡ length (statementFaults (sheetOf text))
-  pub laid : Laid (said (sheetOf text)) (take (n .drafts) kinds) (take (n .drafts) args) (take (n .statements) lines) (take (suc (n .statements)) bounds)
+  pub laid : Laid (said (sheetOf text)) (take (n .drafts) kinds) (take (n .drafts) args) (take (n .statements) lines)
+      (take (suc (n .statements)) bounds)
   pub listed : list ≡ sets list₀ 0 (faultList (statementFaults (sheetOf text)))
   pub within : n .drafts ≤ length text
 
@@ -172,7 +180,8 @@ pub record Read (text list₀ : List ℕ) (n : Tally) (kinds args lines bounds l
 abbrev pub held : ℕ → List ℕ → List ℕ
 held n l = sets (replicate n 0) 0 l
 
--- the three arrays that are lent to the plan: a place for each definition, for each statement, and for the order of these
+-- the three arrays that are lent to the plan: a place for each definition, for each statement, and for the order of
+-- these
 abbrev pub blank : Lent
 blank = lent (replicate mostDefinitions 0) (replicate mostStatements 0) (replicate mostStatements 0)
 
@@ -180,9 +189,11 @@ blank = lent (replicate mostDefinitions 0) (replicate mostStatements 0) (replica
 pub record Ready (lines bounds kinds args used faults : List ℕ) : Type 0 where
   pub statements : List Numbered
   pub laid : Laid statements kinds args lines bounds
-  pub fits : fit lines bounds kinds (length args) (length used) (length faults) mostDefinitions mostStatements mostStatements ≡ true
+  pub fits : fit lines bounds kinds (length args) (length used)
+      (length faults) mostDefinitions mostStatements mostStatements ≡ true
 
--- the arrays held some statements whose model is sound; the names of their arguments are resolved, and the plan is theirs
+-- the arrays held some statements whose model is sound; the names of their arguments are resolved, and the plan is
+-- theirs
 pub record Planned (p : Plan) (places rows order lines bounds kinds args : List ℕ) : Type 0 where
   pub statements : List Numbered
   pub named : List ℕ
@@ -197,7 +208,8 @@ pub record Planned (p : Plan) (places rows order lines bounds kinds args : List 
   pub rows-held : rows ≡ held mostStatements (equationRows (length lines) bounds kinds)
   pub order-held : order ≡ held mostStatements (orderOf (definitions statements))
 
--- the answer r and the buffers f′ and p′ are what the verdict on the model of the statements gives for the buffers f and p
+-- the answer r and the buffers f′ and p′ are what the verdict on the model of the statements gives for the buffers f
+-- and p
 abbrev pub Concludes : List Numbered → List ℕ → List ℕ → Verdict → List ℕ → List ℕ → Type 0
 Concludes ss f p r f′ p′ = reply r f′ p′ ≡ replyOf (modelled (length p) ss) f p
 

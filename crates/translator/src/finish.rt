@@ -16,9 +16,11 @@ use limits::RECORDS;
 use limits::STATEMENTS;
 use model::answer::Plan;
 
-// Whether the drafts of these kinds write more records than there may be, or than there is room for. Few drafts need no count.
+// Whether the drafts of these kinds write more records than there may be, or than there is room for. Few drafts need no
+// count.
 fn is_over(kinds: &[u8], room: usize) -> bool
-    ensures { λ r. ⌜ r ≡ (ltb mostRecords (recordCount (now (kinds .entry))) || ltb room (recordCount (now (kinds .entry)))) ⌝ }
+    ensures { λ r. ⌜ r ≡ (ltb mostRecords (recordCount (now (kinds .entry))) || ltb room
+        (recordCount (now (kinds .entry)))) ⌝ }
 {
     if kinds.len() <= RECORDS {
         if kinds.len() <= room {
@@ -32,8 +34,8 @@ fn is_over(kinds: &[u8], room: usize) -> bool
     room < n
 }
 
-// Writes the program of a sound model, if its records are few enough and there is room for them. The places of its definitions, its
-// equations and their order stand at the front of places, rows and order.
+// Writes the program of a sound model, if its records are few enough and there is room for them. The places of its
+// definitions, its equations and their order stand at the front of places, rows and order.
 fn write_program(
     plan: Plan,
     places: &[u16],
@@ -46,7 +48,8 @@ fn write_program(
     out: &mut [u8],
 ) -> Verdict
     requires { ⌜ Planned plan (now places) (now rows) (now order) (now lines) (now bounds) (now kinds) (now args) ⌝ }
-    ensures { λ r. ⌜ ((s : Planned plan (now (places .entry)) (now (rows .entry)) (now (order .entry)) (now (lines .entry)) (now (bounds .entry))
+    ensures { λ r. ⌜ ((s : Planned plan (now (places .entry)) (now (rows .entry)) (now (order .entry))
+        (now (lines .entry)) (now (bounds .entry))
         (now (kinds .entry)) (now (args .entry))) (f : List ℕ)
         → Concludes (s .statements) f (now (out .entry)) r f (now (out .exit))) ⌝ }
 {
@@ -79,7 +82,8 @@ pub(crate) fn conclude(
     out: &mut [u8],
 ) -> Verdict
     requires { ⌜ Ready (now lines) (now bounds) (now kinds) (now args) (now used) (now faults) ⌝ }
-    ensures { λ r. ⌜ ((ss : List Numbered) → Laid ss (now (kinds .entry)) (now (args .entry)) (now (lines .entry)) (now (bounds .entry))
+    ensures { λ r. ⌜ ((ss : List Numbered) → Laid ss (now (kinds .entry)) (now (args .entry)) (now (lines .entry))
+        (now (bounds .entry))
         → Concludes ss (now (faults .entry)) (now (out .entry)) r (now (faults .exit)) (now (out .exit))) ⌝ }
 {
     let mut places = [0u16; DEFINITIONS];

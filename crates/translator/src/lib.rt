@@ -24,7 +24,8 @@ use limits::TEXT_BYTES;
 use limits::TEXT_LINES;
 use tokens::RowEnd;
 
-// The verdict: refused with its number; faulty with its number and the count of faults; translated into so many records.
+// The verdict: refused with its number; faulty with its number and the count of faults; translated into so many
+// records.
 pub enum Verdict {
     Refused(u8),
     Faulty(u8, usize),
@@ -50,7 +51,8 @@ struct Tally {
 fn parse(row: &[u8], values: &[u64], kinds: &mut [u8], args: &mut [u64], place: usize) -> Told
     requires { ⌜ RowRoom (now row) (now values) place (now kinds) (now args) ⌝ }
     ensures { λ r. ⌜ ((ps : List Placed) → heldRow (now (row .entry)) (now (values .entry)) ≡ symbols ps
-        → Tells (parsed ps (readRow (symbols ps))) place (now (kinds .entry)) (now (args .entry)) r (now (kinds .exit)) (now (args .exit))) ⌝ }
+        → Tells (parsed ps (readRow (symbols ps))) place (now (kinds .entry)) (now (args .entry)) r (now (kinds .exit))
+        (now (args .exit))) ⌝ }
 {
     let r = grammar::parse_row(row, values, kinds, args, place);
     match r {
@@ -96,8 +98,10 @@ fn read_cards(
     args: &mut [u64],
     place: usize,
 ) -> Told
-    requires { ⌜ CardsRoom (joined (cardsAt (now text) start cards)) (now «row_kinds») (now «row_args») place (now kinds) (now args) ⌝ }
-    ensures { λ r. ⌜ Tells (tokened (rowOf (joined (cardsAt (now (text .entry)) start cards)))) place (now (kinds .entry)) (now (args .entry))
+    requires { ⌜ CardsRoom (joined (cardsAt (now text) start cards)) (now «row_kinds») (now «row_args») place
+        (now kinds) (now args) ⌝ }
+    ensures { λ r. ⌜ Tells (tokened (rowOf (joined (cardsAt (now (text .entry)) start cards)))) place
+        (now (kinds .entry)) (now (args .entry))
         r (now (kinds .exit)) (now (args .exit)) ⌝ }
 {
     let mut body = [0u8; deck::JOINED_BYTES];
@@ -105,7 +109,8 @@ fn read_cards(
     read_joined(&body[..n], row_kinds, row_args, kinds, args, place)
 }
 
-// What the statement of so many lines from a place on says, or its fault; code is its fault for size. The text of one line is its joined text.
+// What the statement of so many lines from a place on says, or its fault; code is its fault for size. The text of one
+// line is its joined text.
 fn read_statement(
     text: &[u8],
     start: usize,
@@ -118,7 +123,8 @@ fn read_statement(
     args: &mut [u64],
     place: usize,
 ) -> Told
-    requires { ⌜ Before (now text) start cards next code (now «row_kinds») (now «row_args») place (now kinds) (now args) ⌝ }
+    requires { ⌜ Before (now text) start cards next code (now «row_kinds») (now «row_args») place (now kinds)
+        (now args) ⌝ }
     ensures { λ r. ⌜ ((closed : Bool) → Size (cardsAt (now (text .entry)) start cards) closed code
         → Tells (told (cardsAt (now (text .entry)) start cards) closed) place (now (kinds .entry)) (now (args .entry))
         r (now (kinds .exit)) (now (args .exit))) ⌝ }
@@ -153,7 +159,8 @@ fn read_one(
     bounds: &mut [u16],
     list: &mut [u8],
 ) -> Tally
-    requires { ⌜ Able (now text) first start cards closed long next n (now «row_kinds») (now «row_args») (now kinds) (now args) (now lines) (now bounds) ⌝ }
+    requires { ⌜ Able (now text) first start cards closed long next n (now «row_kinds») (now «row_args») (now kinds)
+        (now args) (now lines) (now bounds) ⌝ }
     ensures { λ r. ⌜ Adds (told (cardsAt (now (text .entry)) start cards) closed) first n
         (now (kinds .entry)) (now (args .entry)) (now (lines .entry)) (now (bounds .entry)) (now (list .entry))
         r (now (kinds .exit)) (now (args .exit)) (now (lines .exit)) (now (bounds .exit)) (now (list .exit)) ⌝ }

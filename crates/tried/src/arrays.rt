@@ -1,4 +1,5 @@
-// Plans arrays that are those of no text, as model/specs/Plan says, and writes a program where there is too little room.
+// Plans arrays that are those of no text, as model/specs/Plan says, and writes a program where there is too little
+// room.
 use limits::STATEMENTS;
 use model::answer::Plan;
 use tally::Tally;

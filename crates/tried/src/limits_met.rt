@@ -62,8 +62,8 @@ fn fill_lines(out: &mut [u8], w: usize)
 
 // ---- sums of ones, a statement on each line
 
-// Record i of a program, which is record r of the sum with this slot and line, of so many records: ones pushed, each but the first added, the
-// sum stored.
+// Record i of a program, which is record r of the sum with this slot and line, of so many records: ones pushed, each
+// but the first added, the sum stored.
 fn put_sum_record(program: &mut [u8], i: usize, slot: usize, r: usize, size: usize)
     requires { ⌜ (i < 4096) × (0 < size) ⌝ }
 {
@@ -167,7 +167,8 @@ fn comma() -> [u8; 1792] {
     text
 }
 
-// 255 definitions are translated into 510 records. The 256th is one too many; a statement more is refused first. A fault comes before both.
+// 255 definitions are translated into 510 records. The 256th is one too many; a statement more is refused first. A
+// fault comes before both.
 fn statements(t0: Tally) -> Tally {
     let text = names();
     let w = program_of(510, 2);

@@ -1,5 +1,6 @@
-// Translates the texts that no table proves: the other rows of the paper's table, the slips to shut out, and texts at each limit.
-// Verdict, faults, records and untouched bytes are compared with what the paper says. Then arrays that no text gives.
+// Translates the texts that no table proves: the other rows of the paper's table, the slips to shut out, and texts at
+// each limit. Verdict, faults, records and untouched bytes are compared with what the paper says. Then arrays that no
+// text gives.
 mod arrays;
 mod limits_met;
 mod rows;

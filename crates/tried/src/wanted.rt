@@ -72,7 +72,8 @@ fn listed(wanted: &[u8]) -> [u8; FAULT_ROOM + PAST] {
     list
 }
 
-// The text is refused with this number; the list begins with these bytes, four for each fault, and nothing else is written.
+// The text is refused with this number; the list begins with these bytes, four for each fault, and nothing else is
+// written.
 pub fn faulty(t: Tally, text: &[u8], number: usize, wanted: &[u8]) -> Tally {
     let mut faults = [170u8; FAULT_ROOM + PAST];
     let mut program = [170u8; 4096];

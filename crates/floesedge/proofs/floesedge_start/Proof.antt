@@ -15,4 +15,5 @@ returns c =
     rw (c .fixed-answer .ensures .0, c .fixed-answer .ensures .1) (k .start .ensures .meets)
 
 pub floesedge-start-spec : {M : Type 1} → statement M
-floesedge-start-spec = tie.close (tie.spec (λ c κs. search needs) fixed-answer-requires (λ c. search needs) (λ c. search needs) returns)
+floesedge-start-spec =
+    tie.close (tie.spec (λ c κs. search needs) fixed-answer-requires (λ c. search needs) (λ c. search needs) returns)

@@ -18,8 +18,10 @@ returns : tie.Need-returns
 returns c =
     let k = c .before .before .before .before .before in
     let s = S k .args in
-    same-translation (s .text .now) (s .faults .now) (s .program .now) _ _ (k .translate .result) (c .fixed-verdict .result) (k .translate .ensures)
+    same-translation (s .text .now) (s .faults .now) (s .program .now) _ _ (k .translate .result)
+    (c .fixed-verdict .result) (k .translate .ensures)
     (c .fixed-verdict .ensures .0) (c .fixed-verdict .ensures .1)
 
 pub floesedge-translate-spec : {M : Type 1} → statement M
-floesedge-translate-spec = tie.close (tie.spec (λ c κs. search needs) fixed-verdict-requires (λ c. search needs) (λ c. search needs) returns)
+floesedge-translate-spec =
+    tie.close (tie.spec (λ c κs. search needs) fixed-verdict-requires (λ c. search needs) (λ c. search needs) returns)

@@ -28,7 +28,8 @@ abbrev put-figures-calls : ℕ → put-figures-lts.Claims
 put-figures-calls t = (put-byte-reads.Asked, put-byte-reads.Learnt, put-figures-below t, put-figures.Post)
 
 -- what is to be shown at a place of it
-abbrev In-figures : (put-figures-lts.Claims → In 1 put-figures-kinds.ps → Out 1 put-figures-kinds.ps put-figures-kinds.r → Type 0) → Type 0
+abbrev In-figures : (put-figures-lts.Claims → In 1 put-figures-kinds.ps → Out 1 put-figures-kinds.ps put-figures-kinds.r
+    → Type 0) → Type 0
 In-figures need = (t : ℕ) → need (put-figures-calls t) (put-figures-at t) put-figures.Post
 
 cast-put-byte : In-figures put-figures-lts.Need-cast-put-byte
@@ -53,8 +54,11 @@ returns t c =
 put-figures-requires : In-figures put-figures-lts.Need-put-figures-requires
 put-figures-requires t c κs =
     let s = c .before .before .before in
-    let n = s .args .n in
-    (omega (arith, s .pre .0), reach-first (figures (n / 10)) _ (s .args .at) (rw (more-figures n (c .before .if1 .left)) at (s .pre .1)))
+    let n = s .args .n in (
+      omega (arith, s .pre .0),
+      reach-first (figures (n / 10)) _ (s .args .at)
+          (rw (more-figures n (c .before .if1 .left)) at (s .pre .1)),
+    )
 
 cast-put-byte-2 : In-figures put-figures-lts.Need-cast-put-byte-2
 cast-put-byte-2 t c = search needs
@@ -76,10 +80,13 @@ returns-2 : In-figures put-figures-lts.Need-returns-2
 returns-2 t c =
     let p = c .before .before .before .before .before .before in
     let i = p .before .before in
-    rw (more-figures (i .before .before .args .n) (i .if1 .left)) (put-both (p .put-figures .ensures) (c .before .before .put-byte2 .ensures))
+    rw (more-figures (i .before .before .args .n) (i .if1 .left))
+    (put-both (p .put-figures .ensures) (c .before .before .put-byte2 .ensures))
 
 pub +put-figures-spec : {M : Type 1} → statement M
 +put-figures-spec =
     close μ-put-figures
-    λ t. put-figures-lts.spec (put-figures-calls t) (put-figures-at t) put-figures.Post (cast-put-byte t) (add-put-byte t) (put-byte-requires t)
-    (same-length t) (returns t) (put-figures-requires t) (cast-put-byte-2 t) (add-put-byte-2 t) (put-byte-requires-2 t) (same-length-2 t) (returns-2 t)
+    λ t. put-figures-lts.spec (put-figures-calls t) (put-figures-at t) put-figures.Post (cast-put-byte t)
+    (add-put-byte t) (put-byte-requires t)
+    (same-length t) (returns t) (put-figures-requires t) (cast-put-byte-2 t) (add-put-byte-2 t) (put-byte-requires-2 t)
+    (same-length-2 t) (returns-2 t)

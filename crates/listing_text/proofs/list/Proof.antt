@@ -15,7 +15,8 @@ returns c =
     let w = c .before .before in
     let k = w .before .before .before .before in
     let t = k .before .before .before .before in
-    lists _ (t .translate .result) (t .translate .ensures) (k .before .number-of .ensures) (k .count-of .ensures) (w .put-listing .ensures)
+    lists _ (t .translate .result) (t .translate .ensures) (k .before .number-of .ensures) (k .count-of .ensures)
+    (w .put-listing .ensures)
 
 pub list-spec : {M : Type 1} → statement M
 list-spec =

@@ -8,4 +8,7 @@ returns : tie.Need-returns
 returns c = let a = c .before .args in put-out (a .b) (a .at) (a .out .now) (c .if1 .taken)
 
 pub put-byte-spec : {M : Type 1} → statement M
-put-byte-spec = tie.close (tie.spec (λ c. search needs) returns (λ c. search needs) (λ c. search needs) (λ c. search needs) (λ c. search needs))
+put-byte-spec =
+    tie.close
+    (tie.spec (λ c. search needs) returns (λ c. search needs) (λ c. search needs) (λ c. search needs)
+    (λ c. search needs))

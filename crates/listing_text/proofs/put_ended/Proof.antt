@@ -20,7 +20,8 @@ put-line-requires c κs =
     let i = c .before .before in
     let k = i .before .before in
     rw (c .before .low-at2 .ensures)
-    (rw (ends-there _ (k .low-at .ensures) (i .before .if1 .left) (i .if2 .left)) at (k .before .before .before .pre .1))
+    (rw (ends-there _ (k .low-at .ensures) (i .before .if1 .left) (i .if2 .left)) at
+    (k .before .before .before .pre .1))
 
 returns-3 : tie.Need-returns-3
 returns-3 c =
@@ -31,4 +32,7 @@ returns-3 c =
     (rw (← (l .low-at2 .ensures)) (c .before .before .put-line .ensures))
 
 pub put-ended-spec : {M : Type 1} → statement M
-put-ended-spec = tie.close (tie.spec (λ c. search needs) (λ c κs. search needs) returns returns-2 (λ c. search needs) (λ c κs. search needs) put-line-requires (λ c. search needs) returns-3)
+put-ended-spec =
+    tie.close
+    (tie.spec (λ c. search needs) (λ c κs. search needs) returns returns-2 (λ c. search needs)
+    (λ c κs. search needs) put-line-requires (λ c. search needs) returns-3)

@@ -15,4 +15,7 @@ returns c =
     rw (← (l .low-at2 .ensures), ← (l .before .low-at .ensures)) (p .put-pair .ensures)
 
 pub put-fault-spec : {M : Type 1} → statement M
-put-fault-spec = tie.close (tie.spec (λ c. search needs) (λ c κs. search needs) (λ c. search needs) (λ c κs. search needs) put-pair-requires (λ c. search needs) returns)
+put-fault-spec =
+    tie.close
+    (tie.spec (λ c. search needs) (λ c κs. search needs) (λ c. search needs) (λ c κs. search needs) put-pair-requires
+    (λ c. search needs) returns)

@@ -10,7 +10,11 @@ returns c =
     let third = l .before .before .before .before in
     let second = third .before .before .before .before in
     let first = second .before .before .before .before in
-    put-both (first .put-byte .ensures) (put-both (second .put-byte2 .ensures) (put-both (third .put-byte3 .ensures) (l .put-line .ensures)))
+    put-both (first .put-byte .ensures)
+    (put-both (second .put-byte2 .ensures) (put-both (third .put-byte3 .ensures) (l .put-line .ensures)))
 
 pub put-head-spec : {M : Type 1} → statement M
-put-head-spec = tie.close (tie.spec (λ c κs. search needs) (λ c κs. search needs) (λ c κs. search needs) (λ c κs. search needs) (λ c. search needs) returns)
+put-head-spec =
+    tie.close
+    (tie.spec (λ c κs. search needs) (λ c κs. search needs) (λ c κs. search needs) (λ c κs. search needs)
+    (λ c. search needs) returns)

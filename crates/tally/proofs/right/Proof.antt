@@ -16,13 +16,21 @@ returns-2 c =
 returns-3 : tie.Need-returns-3
 returns-3 c =
     let t = c .before .before .before .args .t in
-    rw (le-ltb most (t .tried) (c .before .before .if1 .left), le-ltb most (t .differ) (c .before .if2 .left), c .if3 .taken)
+    rw (
+      le-ltb most (t .tried) (c .before .before .if1 .left),
+      le-ltb most (t .differ) (c .before .if2 .left),
+      c .if3 .taken,
+    )
 
 returns-4 : tie.Need-returns-4
 returns-4 c =
     let e = c .before .before .before .before .before in
     let t = e .before .before .before .args .t in
-    rw (le-ltb most (t .tried) (e .before .before .if1 .left), le-ltb most (t .differ) (e .before .if2 .left), e .if3 .left)
+    rw (
+      le-ltb most (t .tried) (e .before .before .if1 .left),
+      le-ltb most (t .differ) (e .before .if2 .left),
+      e .if3 .left,
+    )
 
 pub right-spec : {M : Type 1} → statement M
 right-spec =

@@ -7,7 +7,8 @@ use lib.ListN.{length}
 use Rattle.deck.specs.Codes.{joinedRoom}
 use Rattle.deck.specs.Next.{foundFrom}
 use Rattle.deck.specs.declared.Found.{Found}
-use Rattle.translator.proofs.Turns.{Going, going-first, going-list, going-last, going-less, going-able, going-next}
+use Rattle.translator.proofs.Turns.{Going, going-first, going-list, going-last, going-less, going-able}
+use Rattle.translator.proofs.Turns.{going-next}
 use Rattle.translator.proofs.read_all.Statement.{statement}
 use Rattle.translator.proofs.read_all.Tie as tie
 

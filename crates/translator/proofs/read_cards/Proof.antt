@@ -24,7 +24,8 @@ T j = let a = B j .args in joined (cardsAt (a .text .now) (a .start) (a .cards))
 
 -- it is what was written
 body : (j : tie.After-join) → take (j .join .result) (j .join .last .1 .1 .1 .0) ≡ T j
-body j = taken (replicate joinedRoom 0) (T j) (j .join .last .1 .1 .1 .0) (j .join .ensures .0) (B j .pre .short) (j .join .ensures .1)
+body j = taken (replicate joinedRoom 0) (T j) (j .join .last .1 .1 .1 .0) (j .join .ensures .0) (B j .pre .short)
+    (j .join .ensures .1)
 
 within : (j : tie.After-join) → j .join .result ≤ length (j .join .last .1 .1 .1 .0)
 within j = omega (arith, B j .pre .short, j .join .ensures .0, j .join .kept)

@@ -37,7 +37,8 @@ written : (r : tie.After-row)
     × (r .row .last .1 .1 .0 ≡ sets (U r) 0 (argsOf (rowOf (S r))))
 written r =
     let p = B r .pre in
-    written-room (S r) (K r) (U r) (r .row .result) (r .row .last .1 .0) (r .row .last .1 .1 .0) (p .row-kinds) (p .row-args) (r .row .ensures)
+    written-room (S r) (K r) (U r) (r .row .result) (r .row .last .1 .0) (r .row .last .1 .1 .0) (p .row-kinds)
+    (p .row-args) (r .row .ensures)
 
 -- the row is whole, and has n tokens
 abbrev N : tie.After-known-told2 → ℕ
@@ -59,12 +60,14 @@ room k =
     omega (arith, few k, p .row-kinds, p .row-args, R k .row .kept)
 
 -- so the two rows hold its tokens
-held : (k : tie.After-known-told2) → heldRow (take (N k) (R k .row .last .1 .0)) (take (N k) (R k .row .last .1 .1 .0)) ≡ symbols (rowOf (S (R k)) .tokens)
+held : (k : tie.After-known-told2) → heldRow (take (N k) (R k .row .last .1 .0)) (take (N k) (R k .row .last .1 .1 .0))
+    ≡ symbols (rowOf (S (R k)) .tokens)
 held k =
     let r = R k in
     let p = B r .pre in
     let w = written r in
-    row-held (S r) (K r) (U r) (r .row .last .1 .0) (r .row .last .1 .1 .0) (well k) (p .row-kinds) (p .row-args) (w .1) (w .2)
+    row-held (S r) (K r) (U r) (r .row .last .1 .0) (r .row .last .1 .1 .0) (well k) (p .row-kinds) (p .row-args) (w .1)
+    (w .2)
 
 slice-reshare-prefix-parse : tie.Need-slice-reshare-prefix-parse
 slice-reshare-prefix-parse c = room c .0
@@ -76,7 +79,8 @@ slice-reshare-prefix-parse-2 : tie.Need-slice-reshare-prefix-parse-2
 slice-reshare-prefix-parse-2 c = room (c .before) .1
 
 slice-aggregate-parse-2 : tie.Need-slice-aggregate-parse-2
-slice-aggregate-parse-2 c = let k = c .before .before in sym (length-take-le (N k) (R k .row .last .1 .1 .0) (room k .1))
+slice-aggregate-parse-2 c =
+    let k = c .before .before in sym (length-take-le (N k) (R k .row .last .1 .1 .0) (room k .1))
 
 parse-requires : tie.Need-parse-requires
 parse-requires c κs =
@@ -84,7 +88,12 @@ parse-requires c κs =
     let p = B (R k) .pre in
     let a = length-take-le (N k) (R k .row .last .1 .0) (room k .0) in
     let b = length-take-le (N k) (R k .row .last .1 .1 .0) (room k .1) in
-    record { even = b ∙ sym a; room-kinds = omega (arith, few k, p .room-kinds); room-args = omega (arith, few k, p .room-args) }
+    record {
+      even = b
+          ∙ sym a;
+      room-kinds = omega (arith, few k, p .room-kinds);
+      room-args = omega (arith, few k, p .room-args);
+    }
 
 returns : tie.Need-returns
 returns c =

@@ -33,14 +33,17 @@ tells : (r : tie.After-read-statement)
 tells r =
     let z = Z r in
     let s = B z in
-    r .read-statement .ensures (s .args .closed) (subst (Size (C s) (s .args .closed)) (sym (z .size-code .ensures)) (s .pre .size))
+    r .read-statement .ensures (s .args .closed)
+    (subst (Size (C s) (s .args .closed)) (sym (z .size-code .ensures)) (s .pre .size))
 
 read-statement-requires : tie.Need-read-statement-requires
 read-statement-requires c κs =
     let z = c .before .before .before .before in
     let s = B z in
     let a = s .args in
-    subst (λ (k : ℕ). Before (a .text .now) (a .start) (a .cards) (a .next) k (a .row-kinds .now) (a .row-args .now) (a .n .drafts)
+    subst
+    (λ (k : ℕ). Before (a .text .now) (a .start) (a .cards) (a .next) k (a .row-kinds .now) (a .row-args .now)
+    (a .n .drafts)
     (a .kinds .now) (a .args .now)) (sym (z .size-code .ensures)) (s .pre .before)
 
 cast-bounds : tie.Need-cast-bounds
@@ -48,7 +51,8 @@ cast-bounds c =
     let r = c .before .before .before .before .before .before .before .before .before .before .before in
     let s = B (Z r) in
     let few = drafts-few (C s) (s .args .closed) in
-    omega (arith, end-near (s .args .n) (tells r) (length (joined (C s))) few (c .before .r .given .1), s .pre .drafts-fit)
+    omega
+    (arith, end-near (s .args .n) (tells r) (length (joined (C s))) few (c .before .r .given .1), s .pre .drafts-fit)
 
 slice-write-lines : tie.Need-slice-write-lines
 slice-write-lines c =
@@ -82,7 +86,8 @@ add-t33 c =
 
 add-t40 : tie.Need-add-t40
 add-t40 c =
-    let s = B (Z (c .before .before .before .before .before .before .before .before .before .before .before .before .before .before .before)) in
+    let near = c .before .before .before .before .before .before .before .before in
+    let s = B (Z (near .before .before .before .before .before .before .before)) in
     omega (arith, s .pre .faults-fit)
 
 returns : tie.Need-returns
@@ -97,7 +102,8 @@ returns-2 c =
     let k = f .before .before .before in
     let r = k .before .before .before .before .before .before .before .before .before .before in
     let a = B (Z r) .args in
-    adds-faulty (a .n) (tells r) (a .first) (a .lines .now) (a .bounds .now) (a .list .now) (f .put-fault .last .0) (k .r2 .given .1) (f .put-fault .ensures)
+    adds-faulty (a .n) (tells r) (a .first) (a .lines .now) (a .bounds .now) (a .list .now) (f .put-fault .last .0)
+    (k .r2 .given .1) (f .put-fault .ensures)
 
 pub read-one-spec : {M : Type 1} → statement M
 read-one-spec =

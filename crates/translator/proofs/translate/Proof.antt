@@ -21,8 +21,10 @@ in-small-room-requires : tie.Need-in-small-room-requires
 in-small-room-requires c κs =
     let i = c .before .before in
     let a = i .before .before .before .before .before .before .args in
-    let sized = bytes-sized (a .text .now) (i .if3 .taken) in
-    (taken-so (a .text .now) (a .faults .now) (i .before .before .if1 .left) (i .before .if2 .left) sized, i .if3 .taken)
+    let sized = bytes-sized (a .text .now) (i .if3 .taken) in (
+      taken-so (a .text .now) (a .faults .now) (i .before .before .if1 .left) (i .before .if2 .left) sized,
+      i .if3 .taken,
+    )
 
 returns-3 : tie.Need-returns-3
 returns-3 c =
@@ -71,7 +73,8 @@ returns-6 c =
     let n = v .before .before in
     let a = start n .args in
     says-four (a .text .now) (a .faults .now) (a .program .now) (n .before .before .before .if1 .left)
-    (n .before .before .if2 .left) (rw (v .survey .ensures) at (i .if5 .left)) (rw (v .survey .ensures) at (c .if6 .taken))
+    (n .before .before .if2 .left) (rw (v .survey .ensures) at (i .if5 .left))
+    (rw (v .survey .ensures) at (c .if6 .taken))
 
 in-large-room-requires-2 : tie.Need-in-large-room-requires-2
 in-large-room-requires-2 c κs =

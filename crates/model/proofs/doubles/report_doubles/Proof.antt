@@ -63,11 +63,10 @@ passed-requires-2 c κs =
 
 is-repeated-requires-2 : tie.Need-is-repeated-requires-2 Inv-loop μ-loop
 is-repeated-requires-2 c κs =
-    let s =
-    c .before .before .before .before .before .before .before .before .before .before .before .before .before .before .before in (
-      s .pre .0,
-      omega (arith, c .passed2 .ensures, before-le (c .before .short-at2 .result) (s .args .places .now), s .pre .1),
-    )
+    let near = c .before .before .before .before .before .before .before .before in
+    let s = near .before .before .before .before .before .before .before in
+    let few = before-le (c .before .short-at2 .result) (s .args .places .now) in
+    (s .pre .0, omega (arith, c .passed2 .ensures, few, s .pre .1))
 
 put-fault-requires : tie.Need-put-fault-requires Inv-loop μ-loop
 put-fault-requires c κs =
@@ -85,8 +84,9 @@ loop-again c =
     let at = test .before in
     let s = at .before .before .before .before .before .before .before .before .before .before .before .before .args in
     let bound = passed .before .short-at2 .ensures .0 in
+    let number = line .short-at3 .ensures .0 in
     let found = repeat-found (s .lines .now) (s .bounds .now) (s .keys .now) (s .places .now) (at .loop .j)
-    (again .is-repeated2 .ensures) (at .loop .inv .0) (passed .passed2 .ensures) bound (line .short-at3 .ensures .0) in (
+    (again .is-repeated2 .ensures) (at .loop .inv .0) (passed .passed2 .ensures) bound number in (
       passed .passed2 .ensures ∙ ap (λ b. before b (s .places .now)) bound,
       reports-next (at .loop .inv .1) (test .loop-test .taken) found (put .put-fault .ensures),
     )

@@ -58,7 +58,8 @@ returns-3 c =
     let p = P″ a in
     let s = S p in
     λ ss laid.
-    says-rest (s .pre) (p .plan .ensures) ss laid (s .args .out .now) (six a) (seven a) (w .write-program .result) (w .write-program .ensures)
+    says-rest (s .pre) (p .plan .ensures) ss laid (s .args .out .now) (six a) (seven a) (w .write-program .result)
+    (w .write-program .ensures)
 
 pub conclude-spec : {M : Type 1} → statement M
 conclude-spec =

@@ -32,7 +32,8 @@ returns-2 c =
     let w = c .before .before in
     let test = w .before .before .before .before .before in
     let k = test .before in
-    λ s f. says-zero s (S k .args .out .now) (k .is-over .ensures) refl refl refl (test .if1 .left) (w .put-program .ensures) f
+    λ s f. says-zero s (S k .args .out .now) (k .is-over .ensures) refl refl refl (test .if1 .left)
+    (w .put-program .ensures) f
 
 pub write-program-spec : {M : Type 1} → statement M
 write-program-spec =

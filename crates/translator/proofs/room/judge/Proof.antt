@@ -2,13 +2,15 @@
 use mathlib.Core.Path.{sym}
 use borrow.Author.Needs.{needs}
 use Rattle.translator.proofs.Rooms.{says-five, says-model, statements-few, lines-many, lines-enough, bounds-laid}
-use Rattle.translator.proofs.Rooms.{bounds-count, bounds-enough, kinds-many, kinds-enough, args-many, args-enough, ready-so}
+use Rattle.translator.proofs.Rooms.{bounds-count, bounds-enough, kinds-many, kinds-enough, args-many}
+use Rattle.translator.proofs.Rooms.{args-enough, ready-so}
 use Rattle.translator.proofs.room.judge.Statement.{statement}
 use Rattle.translator.proofs.room.judge.Tie as tie
 
 -- where the function begins, and where all is read
 abbrev start : tie.After-read-all → tie.Start
-start r = r .before .before .before .before .before .before .before .before .before .before .before .before .before .before
+start r =
+    r .before .before .before .before .before .before .before .before .before .before .before .before .before .before
 
 abbrev read : tie.Else1 → tie.After-read-all
 read e = e .before .before .before .before .before .before .before .before .before .before .before .before

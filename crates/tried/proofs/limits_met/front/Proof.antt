@@ -9,4 +9,6 @@ slice-aggregate-exact c = search (needs, length-take-le)
 
 pub front-spec : {M : Type 1} → statement M
 front-spec =
-    tie.close (tie.spec (λ c κs. search needs) (λ c. search needs) slice-aggregate-exact (λ c κs. search needs) (λ c. search needs))
+    tie.close
+    (tie.spec (λ c κs. search needs) (λ c. search needs) slice-aggregate-exact (λ c κs. search needs)
+    (λ c. search needs))

@@ -9,4 +9,6 @@ slice-aggregate-silent c = search (needs, length-take-le)
 
 pub front-silent-spec : {M : Type 1} → statement M
 front-silent-spec =
-    tie.close (tie.spec (λ c κs. search needs) (λ c. search needs) slice-aggregate-silent (λ c κs. search needs) (λ c. search needs))
+    tie.close
+    (tie.spec (λ c κs. search needs) (λ c. search needs) slice-aggregate-silent (λ c κs. search needs)
+    (λ c. search needs))
