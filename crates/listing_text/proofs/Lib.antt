@@ -6,4 +6,4 @@ mod Numbers
 mod Back
 mod Ordered
 mod Fair
-mod Meant
+mod ListedMeans

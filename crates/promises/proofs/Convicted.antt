@@ -11,7 +11,7 @@ use Rattle.laws.proofs.Sets.{sets-back}
 use Rattle.limits.specs.Limits.{faultRoom, mostStatements}
 use Rattle.sheet.specs.Sheet.{Fault, statementFaults, faultList}
 use Rattle.sheet.specs.Reader.{sheetOf}
-use Rattle.model.proofs.FaultsListed.{list-length}
+use Rattle.sheet.proofs.Entries.{list-length}
 use Rattle.translator.specs.declared.Verdict.{Verdict}
 use Rattle.translator.specs.declared.Verdict.the-variants.{Refused, Faulty, Translated}
 use Rattle.translator.specs.Contract.{numberIn, countIn, Translates}

@@ -1,6 +1,6 @@
 -- What is written is the listing of the text.
 use borrow.Author.Needs.{needs}
-use Rattle.listing_text.proofs.Meant.{count-small, lists}
+use Rattle.listing_text.proofs.ListedMeans.{count-small, lists}
 use Rattle.listing_text.proofs.list.Statement.{statement}
 use Rattle.listing_text.proofs.list.Tie as tie
 

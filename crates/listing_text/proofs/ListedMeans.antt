@@ -9,7 +9,7 @@ use Rattle.limits.specs.Limits.{faultRoom, mostStatements, mostRecords, program
 use Rattle.laws.specs.Places.{gather}
 use Rattle.laws.specs.Put.{Put}
 use Rattle.sheet.specs.Sheet.{faultList}
-use Rattle.model.proofs.FaultsListed.{list-length}
+use Rattle.sheet.proofs.Entries.{list-length}
 use Rattle.records.specs.Record.{programBytes}
 use Rattle.translator.specs.Verdict.{Verdict as Decision, refused, faulty, translated, verdictOf}
 use Rattle.translator.specs.Verdict.{numberOf, countOf, faultsAfter, programAfter, Translation, translation}
