@@ -1,5 +1,5 @@
--- The stack: inside d levels at most 3 + 4 · (16 - d) values stand at once, so 67 places suffice for every text; and
--- one text fills them.
+-- The stack: inside d levels at most 3 + 4 · (levels - d) values stand at once, so its places suffice for every text;
+-- and one text fills them.
 use Prim.Native.Nat.{ℕ, zero, suc, _+_, _-_, _*_, _≤_, max}
 use mathlib.Core.Path.{_≡_, refl, sym, ap, _∙_}
 use mathlib.Core.Bool.{Bool, true, false}
@@ -190,7 +190,7 @@ program-level ds q low =
     rw (map-append instr a (b ++ c), map-append instr b c)
     (level-append (instrs a) (instrs b ++ instrs c) la (level-append (instrs b) (instrs c) lb lc))
 
--- 67 PLACES SUFFICE for every text, whatever is lent
+-- THE PLACES SUFFICE for every text, whatever is lent
 pub enough : (text : List ℕ) (f p : ℕ) → heightOf (verdictOf text f p) ≤ stackPlaces
 unfolding highest
 enough text f p =

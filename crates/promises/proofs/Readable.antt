@@ -1,4 +1,5 @@
--- Every instruction of a text's program can be held by a record: its slot is one of the 256, and its value is a double.
+-- Every instruction of a text's program can be held by a record: its slot is one of those that there are, and its value
+-- is a double.
 use Prim.Native.Nat.{ℕ, _≤_, _<_}
 use mathlib.Core.Bool.{Bool, true, false}
 use mathlib.Core.List.{List, [], _∷_, _++_}

@@ -31,7 +31,8 @@ pub record Eighteen (row : List Symbol) (i : ℕ) : Type 0 where
   pub none : i ≡ length row → (d : ℕ) (x : Says) → Derives d row x → ⊥
   pub earlier : (j : ℕ) → j < i → TooDeep row j → ⊥
 
--- 19 at token i: it is an opening that the grammar allows with 17 levels and not with 16, and none is earlier
+-- 19 at token i: it is an opening that the grammar allows with one level more than there are and not with those, and
+-- none is earlier
 pub record Nineteen (row : List Symbol) (i : ℕ) : Type 0 where
   pub deep : TooDeep row i
   pub earlier : (j : ℕ) → j < i → TooDeep row j → ⊥
@@ -42,7 +43,7 @@ pub record Means (row : List Symbol) : Type 0 where
   pub eighteen : (i : ℕ) → (readRow row ≡ fault 18 i) ↔ Eighteen row i
   pub nineteen : (i : ℕ) → (readRow row ≡ fault 19 i) ↔ Nineteen row i
   pub no-other : (c i : ℕ) → readRow row ≡ fault c i → (c ≡ 18) ⊎ (c ≡ 19)
-  -- for the tokens before a fault 18 17 levels suffice, and 16 unless they end in a function's name
+  -- for the tokens before a fault 18 one level more suffices, and the levels unless they end in a function's name
   pub seventeen : (i : ℕ) → Eighteen row i → Front (suc levels) (take i row)
   pub sixteen : (i : ℕ) → Eighteen row i → Calm (take i row) → Front levels (take i row)
   -- it is one statement, whatever the depth

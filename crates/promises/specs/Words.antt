@@ -16,7 +16,7 @@ use Rattle.tokens.specs.Number.{tenTo, scaled}
 
 -- ---- numbers: the value of m times 10 to the k, where k is `up` less `down`
 
--- m is at most 999,999,999,999,999 and k is from -22 to 22
+-- m is at most `mostDigits`, and k at most `mostTens` from 0
 pub record InRange (m up down : ℕ) : Type 0 where
   pub digits : m ≤ mostDigits
   pub most : up ≤ down + mostTens

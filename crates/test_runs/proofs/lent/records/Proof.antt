@@ -2,8 +2,8 @@ use Prim.Native.Nat.{_-_}
 use mathlib.Core.Path.{_≡_}
 use borrow.Author.Needs.{needs}
 use lib.ListN.{length}
-use Rattle.tried_runs.proofs.lent.records.Statement.{statement}
-use Rattle.tried_runs.proofs.lent.records.Tie as tie
+use Rattle.test_runs.proofs.lent.records.Statement.{statement}
+use Rattle.test_runs.proofs.lent.records.Tie as tie
 
 abbrev Inv-loop : tie.InvT-loop
 Inv-loop p₀ i0 e kind slot value i₀ p i = length p ≡ length p₀

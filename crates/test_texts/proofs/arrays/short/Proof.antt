@@ -1,8 +1,8 @@
 -- A number of two bytes fits one of eight.
 use native.Mathlib.Omega.{arith}
 use borrow.Author.Needs.{needs}
-use Rattle.tried.proofs.arrays.short.Statement.{statement}
-use Rattle.tried.proofs.arrays.short.Tie as tie
+use Rattle.test_texts.proofs.arrays.short.Statement.{statement}
+use Rattle.test_texts.proofs.arrays.short.Tie as tie
 
 cast-result : tie.Need-cast-result
 cast-result c = omega (arith, c .shared-slice-known .given (c .before .before .args .i))

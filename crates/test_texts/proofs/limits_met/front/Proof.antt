@@ -1,8 +1,8 @@
 -- The text is long enough, or that is said.
 use borrow.Author.Needs.{needs}
 use lib.Seq.{length-take-le}
-use Rattle.tried.proofs.limits_met.front.Statement.{statement}
-use Rattle.tried.proofs.limits_met.front.Tie as tie
+use Rattle.test_texts.proofs.limits_met.front.Statement.{statement}
+use Rattle.test_texts.proofs.limits_met.front.Tie as tie
 
 slice-aggregate-exact : tie.Need-slice-aggregate-exact
 slice-aggregate-exact c = search (needs, length-take-le)

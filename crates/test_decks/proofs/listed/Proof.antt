@@ -1,8 +1,8 @@
 -- Both files are read, and the deck is listed.
 use borrow.Author.Needs.{needs}
 use lib.Seq.{length-take-le}
-use Rattle.decks.proofs.listed.Statement.{statement}
-use Rattle.decks.proofs.listed.Tie as tie
+use Rattle.test_decks.proofs.listed.Statement.{statement}
+use Rattle.test_decks.proofs.listed.Tie as tie
 
 slice-aggregate-list : tie.Need-slice-aggregate-list
 slice-aggregate-list c = search (needs, length-take-le)

@@ -3,8 +3,8 @@ use Prim.Native.Nat.{_-_}
 use mathlib.Core.Path.{_≡_}
 use borrow.Author.Needs.{needs}
 use lib.ListN.{length}
-use Rattle.tried.proofs.limits_met.fill_lines.Statement.{statement}
-use Rattle.tried.proofs.limits_met.fill_lines.Tie as tie
+use Rattle.test_texts.proofs.limits_met.fill_lines.Statement.{statement}
+use Rattle.test_texts.proofs.limits_met.fill_lines.Tie as tie
 
 abbrev Inv-loop : tie.InvT-loop
 Inv-loop out₀ w i₀ out i = length out ≡ length out₀

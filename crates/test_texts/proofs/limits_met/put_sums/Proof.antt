@@ -3,8 +3,8 @@ use Prim.Native.Nat.{_-_}
 use mathlib.Core.Path.{_≡_}
 use borrow.Author.Needs.{needs}
 use lib.ListN.{length}
-use Rattle.tried.proofs.limits_met.put_sums.Statement.{statement}
-use Rattle.tried.proofs.limits_met.put_sums.Tie as tie
+use Rattle.test_texts.proofs.limits_met.put_sums.Statement.{statement}
+use Rattle.test_texts.proofs.limits_met.put_sums.Tie as tie
 
 abbrev Inv-loop : tie.InvT-loop
 Inv-loop program₀ start count size slot at₀ j₀ program at j = length program ≡ length program₀

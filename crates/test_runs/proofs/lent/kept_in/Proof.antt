@@ -3,8 +3,8 @@ use mathlib.Core.Logic.{⊎-elim}
 use native.Mathlib.Omega.{arith}
 use borrow.Author.Needs.{needs}
 use lib.ListN.{length}
-use Rattle.tried_runs.proofs.lent.kept_in.Statement.{statement}
-use Rattle.tried_runs.proofs.lent.kept_in.Tie as tie
+use Rattle.test_runs.proofs.lent.kept_in.Statement.{statement}
+use Rattle.test_runs.proofs.lent.kept_in.Tie as tie
 
 abbrev Inv-loop : tie.InvT-loop
 Inv-loop values n₀ i₀ n i = (i ≤ length values) × (n ≤ i)
