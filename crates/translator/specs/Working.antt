@@ -217,6 +217,9 @@ Concludes ss f p r f′ p′ = reply r f′ p′ ≡ replyOf (modelled (length p
 abbrev pub Judges : List ℕ → List ℕ → List ℕ → Verdict → List ℕ → List ℕ → Type 0
 Judges text f p r f′ p′ = reply r f′ p′ ≡ replyOf (judged (length p) (sheetOf text)) f p
 
--- the places for drafts of the room between the smallest and the largest
+-- the most bytes of a text in the smallest room, and in the next
+abbrev pub small : ℕ
+small = mostStatements
+
 abbrev pub quarter : ℕ
 quarter = textBytes / 4

@@ -202,7 +202,7 @@ fn read_one(
     }
 }
 
-// Reads all statements of a text.
+// Reads all statements of a text; the tokens of one stand in two rows.
 fn read_all(
     text: &[u8],
     kinds: &mut [u8],
@@ -271,7 +271,7 @@ pub fn translate(text: &[u8], faults: &mut [u8], program: &mut [u8]) -> Verdict
     if TEXT_BYTES < text.len() {
         return Verdict::Refused(2);
     }
-    if text.len() <= STATEMENTS {
+    if text.len() <= room::SMALL {
         return room::in_small_room(text, faults, program);
     }
     if deck::line_count(text) <= STATEMENTS {

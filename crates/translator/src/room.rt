@@ -2,15 +2,17 @@
 // so there are rooms of three sizes. The text's length alone tells the room: a text has no more drafts than bytes.
 ghost use Prim.Native.Nat.{_≤_};
 ghost use lib.ListN.{length};
-ghost use Rattle.limits.specs.Limits.{mostStatements};
-ghost use Rattle.translator.specs.Working.{Taken, Room, Judges, quarter};
+ghost use Rattle.translator.specs.Working.{Taken, Room, Judges, small, quarter};
 use super::Verdict;
 use super::finish::conclude;
 use super::read_all;
 use limits::STATEMENTS;
 use limits::TEXT_BYTES;
 
-// A quarter of the largest text.
+// The most bytes of a text that is judged in the smallest room: it has no more statements than there may be.
+pub(crate) const SMALL: usize = STATEMENTS;
+
+// The most bytes of one that is judged in the next.
 const QUARTER: usize = TEXT_BYTES / 4;
 
 // The verdict on a text that is not too large: 5 with the faults listed, or the verdict on its model.
@@ -57,13 +59,13 @@ fn judge(
 
 // A text of a few lines.
 pub(crate) fn in_small_room(text: &[u8], faults: &mut [u8], program: &mut [u8]) -> Verdict
-    requires { ⌜ (Taken (now text) (now faults)) × (length (now text) ≤ mostStatements) ⌝ }
+    requires { ⌜ (Taken (now text) (now faults)) × (length (now text) ≤ small) ⌝ }
     ensures { λ r. ⌜ Judges (now (text .entry)) (now (faults .entry)) (now (program .entry)) r
         (now (faults .exit)) (now (program .exit)) ⌝ }
 {
-    let mut kinds = [0u8; STATEMENTS];
-    let mut args = [0u64; STATEMENTS];
-    let mut used = [0u16; STATEMENTS];
+    let mut kinds = [0u8; SMALL];
+    let mut args = [0u64; SMALL];
+    let mut used = [0u16; SMALL];
     let mut lines = [0u16; STATEMENTS];
     let mut bounds = [0u16; STATEMENTS + 1];
     judge(
@@ -124,7 +126,8 @@ fn in_whole_room(text: &[u8], faults: &mut [u8], program: &mut [u8]) -> Verdict
     )
 }
 
-// A text of more than a few lines, in the smaller of two rooms that has a place for each of its bytes.
+// A longer text, in the smaller of two rooms that has a place for each of its bytes. Called from two places, it keeps a
+// frame of its own, so that a small text touches no page of these rooms.
 pub(crate) fn in_large_room(text: &[u8], faults: &mut [u8], program: &mut [u8]) -> Verdict
     requires { ⌜ Taken (now text) (now faults) ⌝ }
     ensures { λ r. ⌜ Judges (now (text .entry)) (now (faults .entry)) (now (program .entry)) r
