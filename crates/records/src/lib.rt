@@ -7,6 +7,7 @@ ghost use mathlib.Core.Path.{_≡_};
 ghost use mathlib.Core.Bool.{_||_};
 ghost use Prim.Native.Nat.{_+_, _*_, _≤_, _<_};
 ghost use lib.Dec.{eqb};
+ghost use lib.Ieee.{binary64, ofBits};
 ghost use lib.ListN.{length};
 ghost use Rattle.records.specs.Fields.{byKind, instrOf};
 ghost use Rattle.records.specs.Record.{field};
@@ -58,14 +59,14 @@ fn word(p: &[u8], o: usize) -> u64
     half(p, o) + 4294967296 * half(p, o + 4)
 }
 
-// The instruction of a kind, its slot and value: kinds 1 to 14, and all others.
-fn by_kind(kind: u64, slot: u16, x: f64) -> Instr
-    ensures { λ r. ⌜ r ≡ byKind kind slot x ⌝ }
+// The instruction of a kind, its slot and the bits of its value: kinds 1 to 14, and all others.
+fn by_kind(kind: u64, slot: u16, bits: u64) -> Instr
+    ensures { λ r. ⌜ r ≡ byKind kind slot (ofBits binary64 bits) ⌝ }
 {
     match kind {
-        1 => Instr::Constant(slot, x),
-        2 => Instr::Initial(slot, x),
-        3 => Instr::Value(x),
+        1 => Instr::Constant(slot, float_of(bits)),
+        2 => Instr::Initial(slot, float_of(bits)),
+        3 => Instr::Value(float_of(bits)),
         4 => Instr::Slot(slot),
         5 => Instr::Add,
         6 => Instr::Sub,
@@ -93,7 +94,7 @@ pub fn read(program: &[u8], n: usize) -> Instr
     let kind = pair(program, o);
     let slot = pair(program, o + 2);
     let bits = word(program, o + 8);
-    by_kind(kind, slot as u16, float_of(bits))
+    by_kind(kind, slot as u16, bits)
 }
 
 // Whether a field is used, or else 0.
@@ -116,7 +117,7 @@ fn with_fields(slotted: bool, valued: bool, kind: u64, slot: u64, bits: u64) -> 
     if SLOTS as u64 <= slot {
         return Instr::Bad;
     }
-    by_kind(kind, slot as u16, float_of(bits))
+    by_kind(kind, slot as u16, bits)
 }
 
 // The same, where the kind decides what it uses: kinds 1 and 2 slot and value, 3 the value, 4, 13 and 14 the slot, 5 to

@@ -2,6 +2,7 @@ use Prim.Native.Nat.{ℕ, zero, suc, _<_}
 use mathlib.Core.Path.{_≡_, sym}
 use mathlib.Core.Logic.{inr}
 use native.Mathlib.Omega.{arith}
+use borrow.Author.Needs.{needs}
 use Rattle.records.specs.Fields.{byKind}
 use Rattle.records.proofs.Decoding.{unknown}
 use Rattle.records.proofs.by_kind.Statement.{statement}
@@ -27,9 +28,12 @@ unfolding byKind
 by-kind-spec =
     tie.close
     (tie.spec
-    (λ c. rw (c .match .keys1))
-    (λ c. rw (c .match .keys2))
-    (λ c. rw (c .match .keys3))
+    (λ c κs. search needs)
+    (λ c κs. search needs)
+    (λ c κs. search needs)
+    (λ c. rw (c .float-of .ensures, c .before .match .keys1))
+    (λ c. rw (c .float-of2 .ensures, c .before .match .keys2))
+    (λ c. rw (c .float-of3 .ensures, c .before .match .keys3))
     (λ c. rw (c .match .keys4))
     (λ c. rw (c .match .keys5))
     (λ c. rw (c .match .keys6))

@@ -9,7 +9,7 @@ use Rattle.records.proofs.read.Tie as tie
 
 returns-2 : tie.Need-returns-2
 returns-2 c =
-    let whole = c .before .before .before .before .before in
+    let whole = c .before .before .before .before in
     let a = whole .before .before .args in
     rw (lt-ltb (a .n) (length (a .program .now) / recordBytes) (whole .if1 .left)) (cc)
 
@@ -25,6 +25,5 @@ read-spec =
     (λ c. search needs)
     (λ c κs. search needs)
     (λ c. search needs)
-    (λ c κs. search needs)
     (λ c κs. search needs)
     returns-2)

@@ -14,5 +14,4 @@ with-fields-spec =
     (λ c. search no-slot)
     (λ c. search needs)
     (λ c κs. search needs)
-    (λ c κs. search needs)
     (λ c. search in-order))
