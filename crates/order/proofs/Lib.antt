@@ -7,6 +7,7 @@ pub mod Searches
 pub mod Marking
 pub mod Queues
 pub mod Flagging
+pub mod Seeking
 pub mod Settling
 pub mod Placing
 pub mod Answers

@@ -61,6 +61,11 @@ pub record Lists (n : ℕ) (heads links waits : List ℕ) (p x : ℕ) : Type 0 w
 abbrev pub flag : List ℕ → ℕ → Bool
 flag flags i = ltb 0 (getD flags i 0)
 
+-- one of them is
+unfoldable pub someFlag : List ℕ → Bool
+someFlag [] = false
+someFlag (a ∷ l) = ltb 0 a || someFlag l
+
 -- of the statements before k: who is flagged is ready, and waits for none; nor does one that is marked; any other waits
 -- for one that it uses and that is not marked, unless that is p
 pub record Flags (n k : ℕ) (starts used marks flags waits : List ℕ) (p : ℕ) : Type 0 where

@@ -5,7 +5,8 @@ ghost use lib.ListN.{length, getD, set};
 ghost use Rattle.limits.specs.Limits.{mostStatements};
 ghost use Rattle.order.specs.Greedy.{all, first};
 ghost use Rattle.order.specs.Table.{Fit, endsIn, belowAt, fits};
-ghost use Rattle.order.specs.Marks.{openAt, none, zeros, flag, Cursors, Settles, Blank, State, Woken, Awake};
+ghost use Rattle.order.specs.Marks.{openAt, none, zeros, flag, someFlag, Cursors, Settles, Blank, State, Woken};
+ghost use Rattle.order.specs.Marks.{Awake};
 ghost use Rattle.order.specs.Answer.{Filled, Sorts};
 use bits::least;
 use bits::reads::index;
@@ -13,6 +14,9 @@ use limits::STATEMENTS;
 
 // No statement: where a list ends, and what a statement waits for that waits for none.
 const NONE: usize = STATEMENTS;
+
+// How many flags are looked at at once.
+const STRIDE: usize = 16;
 
 // What `sort` answers: how many statements were placed, or that the table does not fit.
 pub enum Sorted {
@@ -215,8 +219,21 @@ fn wake(
     least_ready
 }
 
-// The first flag that is set from a place on and before n; n where there is none.
-fn find(from: usize, n: usize, ready: &[u8]) -> usize
+// Whether one of some flags is set. Each is looked at, so that many are at once.
+fn has_one(part: &[u8]) -> bool
+    ensures { λ r. ⌜ r ≡ someFlag (now (part .entry)) ⌝ }
+{
+    let mut found = false;
+    let mut i: usize = 0;
+    while i < part.len() {
+        found = found | (part[i] != 0);
+        i += 1;
+    }
+    found
+}
+
+// The first flag that is set from a place on and before n, looked for one by one; n where there is none.
+fn seek_one(from: usize, n: usize, ready: &[u8]) -> usize
     requires { ⌜ (from ≤ n) × (n ≤ length (now ready)) ⌝ }
     ensures { λ r. ⌜ r ≡ first (flag (now (ready .entry))) (n - from) from ⌝ }
 {
@@ -228,6 +245,35 @@ fn find(from: usize, n: usize, ready: &[u8]) -> usize
         i += 1;
     }
     i
+}
+
+// The same, where many are looked at at once.
+fn seek(from: usize, n: usize, ready: &[u8]) -> usize
+    requires { ⌜ (from ≤ n) × (n ≤ length (now ready)) ⌝ }
+    ensures { λ r. ⌜ r ≡ first (flag (now (ready .entry))) (n - from) from ⌝ }
+{
+    let mut i = from;
+    while STRIDE <= n - i {
+        let e = i + STRIDE;
+        if has_one(&ready[i..e]) {
+            return seek_one(i, n, ready);
+        }
+        i = e;
+    }
+    seek_one(i, n, ready)
+}
+
+// The same; often it is the first that is looked at.
+fn find(from: usize, n: usize, ready: &[u8]) -> usize
+    requires { ⌜ (from ≤ n) × (n ≤ length (now ready)) ⌝ }
+    ensures { λ r. ⌜ r ≡ first (flag (now (ready .entry))) (n - from) from ⌝ }
+{
+    if from < n {
+        if ready[from] != 0 {
+            return from;
+        }
+    }
+    seek(from, n, ready)
 }
 
 // Writes the order of a table that fits to the front of out; how many were placed. Once i is placed only those that
