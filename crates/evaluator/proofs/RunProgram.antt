@@ -18,7 +18,7 @@ use Rattle.evaluator.specs.Stack.{down, machine, emptied, Ready, Steps, 
 use Rattle.evaluator.specs.declared.stack.Stack.{Stack}
 use Rattle.evaluator.proofs.AcceptedSound.{sound-next}
 
--- before record i: the stack has n values, and v and d are the values and derivatives by now
+-- before record i: the stack has n values, and v and d are the values and derivatives there
 pub record Running (p : List ℕ) (v₀ d₀ v d l : List Float) (n i : ℕ) : Type 0 where
   pub here : i ≤ length p / recordBytes
   pub tall : n ≤ stackPlaces

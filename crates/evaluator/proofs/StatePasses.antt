@@ -85,7 +85,7 @@ module _ (f : List Float → ℕ → Float → List Float) where
       late (phaseOf x) (h - takes x + gives x) v xs m (s .1)
       ∙ ap (λ (w : List Float). eachState f w xs) (late-shape (f v) v (shapeOf x) m)
 
--- before record i, with the values v₀ lent and v by now
+-- before record i, with the values v₀ lent and v there
 pub record Passing (f : List Float → ℕ → Float → List Float) (p : List ℕ) (v₀ v : List Float) (i : ℕ) : Type 0 where
   pub here : i ≤ length p / recordBytes
   pub wide : length v ≡ length v₀

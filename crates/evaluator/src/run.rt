@@ -40,50 +40,40 @@ fn compar(a: f64, b: f64) -> f64
     if a >= b { 1.0 } else { 0.0 }
 }
 
-// One instruction; the operand written last is topmost. The new count of values is returned.
+// One instruction on the stack s of n values; the operand written last is topmost. The new count of values is returned.
 fn run_step(
-    items: &mut [f64; STACK],
+    s: &mut [f64; STACK],
     n: usize,
     values: &mut [f64],
     derivs: &mut [f64],
     ins: Instr,
 ) -> usize
-    requires { ⌜ Ready ins (now items) n (now values) (now derivs) ⌝ }
-    ensures { λ r. ⌜ Steps ins (now (items .entry)) n (now (values .entry)) (now (derivs .entry)) (now (items .exit)) r
+    requires { ⌜ Ready ins (now s) n (now values) (now derivs) ⌝ }
+    ensures { λ r. ⌜ Steps ins (now (s .entry)) n (now (values .entry)) (now (derivs .entry)) (now (s .exit)) r
         (now (values .exit)) (now (derivs .exit)) ⌝ }
 {
     match ins {
-        Instr::Constant(s, x) => {
-            values[s as usize] = x;
+        Instr::Constant(at, x) => {
+            values[at as usize] = x;
             n
         }
         Instr::Initial(_, _) => n,
-        Instr::Value(x) => put(items, n, 0, x),
-        Instr::Slot(s) => put(items, n, 0, values[s as usize]),
-        Instr::Add => put(items, n, 2, peek(items, n, 1) + peek(items, n, 0)),
-        Instr::Sub => put(items, n, 2, peek(items, n, 1) - peek(items, n, 0)),
-        Instr::Mul => put(items, n, 2, peek(items, n, 1) * peek(items, n, 0)),
-        Instr::Div => put(items, n, 2, peek(items, n, 1) / peek(items, n, 0)),
-        Instr::Neg => put(items, n, 1, -peek(items, n, 0)),
-        Instr::Insw => put(
-            items,
-            n,
-            3,
-            insw(peek(items, n, 2), peek(items, n, 1), peek(items, n, 0)),
-        ),
-        Instr::Limit => put(
-            items,
-            n,
-            3,
-            limit(peek(items, n, 2), peek(items, n, 1), peek(items, n, 0)),
-        ),
-        Instr::Compar => put(items, n, 2, compar(peek(items, n, 1), peek(items, n, 0))),
-        Instr::Store(s) => {
-            values[s as usize] = peek(items, n, 0);
+        Instr::Value(x) => put(s, n, 0, x),
+        Instr::Slot(at) => put(s, n, 0, values[at as usize]),
+        Instr::Add => put(s, n, 2, peek(s, n, 1) + peek(s, n, 0)),
+        Instr::Sub => put(s, n, 2, peek(s, n, 1) - peek(s, n, 0)),
+        Instr::Mul => put(s, n, 2, peek(s, n, 1) * peek(s, n, 0)),
+        Instr::Div => put(s, n, 2, peek(s, n, 1) / peek(s, n, 0)),
+        Instr::Neg => put(s, n, 1, -peek(s, n, 0)),
+        Instr::Insw => put(s, n, 3, insw(peek(s, n, 2), peek(s, n, 1), peek(s, n, 0))),
+        Instr::Limit => put(s, n, 3, limit(peek(s, n, 2), peek(s, n, 1), peek(s, n, 0))),
+        Instr::Compar => put(s, n, 2, compar(peek(s, n, 1), peek(s, n, 0))),
+        Instr::Store(at) => {
+            values[at as usize] = peek(s, n, 0);
             n - 1
         }
-        Instr::Deriv(s) => {
-            derivs[s as usize] = peek(items, n, 0);
+        Instr::Deriv(at) => {
+            derivs[at as usize] = peek(s, n, 0);
             n - 1
         }
         Instr::Bad => n,
