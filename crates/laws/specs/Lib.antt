@@ -1,8 +1,10 @@
+-- the paper
 pub mod Text
 pub mod Lists
 pub mod Runs
 pub mod Counts
 pub mod Rising
+-- as code holds it
 pub mod Places
 pub mod Put
 pub mod Every

@@ -1,1 +1,2 @@
+-- the paper
 pub mod Limits

@@ -1,6 +1,6 @@
 -- The stages of a plan: how what the passes leave makes up the outcome.
 use Prim.Native.Nat.{ℕ, suc, _+_, _-_, _*_, _≤_, _<_}
-use mathlib.Core.Path.{_≡_, refl, sym, ap, ap₂, _∙_}
+use mathlib.Core.Path.{_≡_, refl, sym, ap, ap₂, _∙_, _≡⟨_⟩_, _∎}
 use mathlib.Core.Bool.{Bool, true, false, cond}
 use mathlib.Core.List.{List, [], _∷_}
 use native.Mathlib.Omega.{arith}
@@ -362,18 +362,22 @@ module _ {lines bounds kinds args used keys places : List ℕ} (k : Keyed lines 
         ≡ linkedPlan (placesIn kinds) lines bounds kinds (resolved (keysIn kinds args) kinds args) used faults
         (lent places₀ rows placed)
     unfolding linkedPlan
-    linked-by faults places₀ placed e =
-        e
-        ∙ ap (λ (u : List ℕ). rest u slots rows′) (table .tabled-so .uses .written)
-        ∙ ap (λ (v : List ℕ). rest (sets used 0 (ownUses (length lines) bounds kinds slots)) slots v)
-        (r .equations-put .written)
-        ∙ ap
-        (λ (a : List ℕ). rest (sets used 0 (ownUses (length lines) bounds kinds a)) a
-        (sets rows 0 (equationRows (length lines) bounds kinds)))
-        same-slots
+    linked-by {p} {faults′} {l′} faults places₀ placed e =
+        planOutcome p slots used′ faults′ l′ ≡⟨ e ⟩
+        rest used′ slots rows′ ≡⟨ ap (λ (u : List ℕ). rest u slots rows′) (table .tabled-so .uses .written) ⟩
+        rest (uses slots) slots rows′ ≡⟨ ap (rest (uses slots) slots) (r .equations-put .written) ⟩
+        rest (uses slots) slots equations ≡⟨ ap (λ (a : List ℕ). rest (uses a) a equations) same-slots ⟩
+        rest (uses (resolved (keysIn kinds args) kinds args)) (resolved (keysIn kinds args) kinds args) equations ∎
       where
+        -- the plan by the table of uses, the slots and the equations; the table by the slots; the equations written
         rest : List ℕ → List ℕ → List ℕ → PlanOutcome
         rest u a v = tested (placesIn kinds) lines bounds kinds a u faults (lent places₀ v placed)
+
+        uses : List ℕ → List ℕ
+        uses a = sets used 0 (ownUses (length lines) bounds kinds a)
+
+        equations : List ℕ
+        equations = sets rows 0 (equationRows (length lines) bounds kinds)
 
     module _ {faults faults′ : List ℕ} {c : ℕ}
         (v : Reported (nameless places lines bounds kinds slots) 0 c faults faults′) (places₀ placed : List ℕ) where

@@ -1,6 +1,6 @@
 -- The bytes of a fault, and of a list of faults.
 use Prim.Native.Nat.{ℕ, _+_, _*_, _/_, _%_, _<_}
-use mathlib.Core.Path.{_≡_, refl, sym, ap, ap₂, _∙_}
+use mathlib.Core.Path.{_≡_, refl, sym, ap, ap₂, _≡⟨_⟩_, _∎}
 use mathlib.Core.List.{List, [], _∷_, _++_}
 use native.Mathlib.Omega.{arith}
 use lib.ListN.{length, length-append}
@@ -25,9 +25,11 @@ pub entry-put : (l c at : ℕ) (list : List ℕ) {w : ℕ} {list′ : List ℕ} 
     → list′ ≡ sets list at (lowBytes faultBytes (l % 65536 + 65536 * w)) → list′ ≡ sets list at (entryOf l c)
 entry-put l c at list {w} {list′} wide put =
     let h : c < 256 = omega (arith, wide .0, wide .1) in
-    put
-    ∙ ap (λ (b : ℕ). sets list at (lowBytes faultBytes (l % 65536 + 65536 * b))) (wide .0)
-    ∙ ap (sets list at) (entry-bytes l c h)
+    list′ ≡⟨ put ⟩
+    sets list at (lowBytes faultBytes (l % 65536 + 65536 * w)) ≡⟨
+    ap (λ (b : ℕ). sets list at (lowBytes faultBytes (l % 65536 + 65536 * b))) (wide .0) ⟩
+    sets list at (lowBytes faultBytes (l % 65536 + 65536 * c)) ≡⟨ ap (sets list at) (entry-bytes l c h) ⟩
+    sets list at (entryOf l c) ∎
 
 -- where the list has no place for them, nothing is written
 pub entry-out : (l c count : ℕ) (list : List ℕ) → length list / faultBytes < count

@@ -1,1 +1,2 @@
+-- as code holds it
 pub mod Counted

@@ -32,19 +32,10 @@ abbrev In-figures : (put-figures-lts.Claims → In 1 put-figures-kinds.ps → Ou
     → Type 0) → Type 0
 In-figures need = (t : ℕ) → need (put-figures-calls t) (put-figures-at t) put-figures.Post
 
-cast-put-byte : In-figures put-figures-lts.Need-cast-put-byte
-cast-put-byte t c = search needs
-
-add-put-byte : In-figures put-figures-lts.Need-add-put-byte
-add-put-byte t c = search needs
-
 put-byte-requires : In-figures put-figures-lts.Need-put-byte-requires
 put-byte-requires t c κs =
     let s = c .before .before .before in
     rw (one-figure (s .args .n) (c .before .if1 .taken)) at (s .pre .1)
-
-same-length : In-figures put-figures-lts.Need-same-length
-same-length t c = search needs
 
 returns : In-figures put-figures-lts.Need-returns
 returns t c =
@@ -60,21 +51,12 @@ put-figures-requires t c κs =
           (rw (more-figures n (c .before .if1 .left)) at (s .pre .1)),
     )
 
-cast-put-byte-2 : In-figures put-figures-lts.Need-cast-put-byte-2
-cast-put-byte-2 t c = search needs
-
-add-put-byte-2 : In-figures put-figures-lts.Need-add-put-byte-2
-add-put-byte-2 t c = search needs
-
 put-byte-requires-2 : In-figures put-figures-lts.Need-put-byte-requires-2
 put-byte-requires-2 t c κs =
     let p = c .before .before .before in
     let i = p .before .before in
     let s = i .before .before in
     reach-second (p .put-figures .ensures) _ (rw (more-figures (s .args .n) (i .if1 .left)) at (s .pre .1))
-
-same-length-2 : In-figures put-figures-lts.Need-same-length-2
-same-length-2 t c = search needs
 
 returns-2 : In-figures put-figures-lts.Need-returns-2
 returns-2 t c =
@@ -86,7 +68,15 @@ returns-2 t c =
 pub +put-figures-spec : {M : Type 1} → statement M
 +put-figures-spec =
     close μ-put-figures
-    λ t. put-figures-lts.spec (put-figures-calls t) (put-figures-at t) put-figures.Post (cast-put-byte t)
-    (add-put-byte t) (put-byte-requires t)
-    (same-length t) (returns t) (put-figures-requires t) (cast-put-byte-2 t) (add-put-byte-2 t) (put-byte-requires-2 t)
-    (same-length-2 t) (returns-2 t)
+    λ t. put-figures-lts.spec (put-figures-calls t) (put-figures-at t) put-figures.Post
+    (λ c. search needs)
+    (λ c. search needs)
+    (put-byte-requires t)
+    (λ c. search needs)
+    (returns t)
+    (put-figures-requires t)
+    (λ c. search needs)
+    (λ c. search needs)
+    (put-byte-requires-2 t)
+    (λ c. search needs)
+    (returns-2 t)
