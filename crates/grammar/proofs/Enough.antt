@@ -11,7 +11,7 @@ use Rattle.drafts.specs.Tree.{Two, Tree, two}
 use Rattle.drafts.specs.Kinds.{kindTwo}
 use Rattle.drafts.specs.Drafts.{Draft, draft}
 use Rattle.grammar.specs.Look.{next, rest, byteOf, Op, none, op, addOp, mulOp, signed, Opening, group, Given}
-use Rattle.grammar.specs.Look.{whole, wants, give-to}
+use Rattle.grammar.specs.Look.{full, wants, give-to}
 use Rattle.grammar.specs.Look.{Shape, Leaf, Paren, Call, NoFactor, shapeOf}
 use Rattle.grammar.specs.Grammar.{Mode, expr, term, factor, terms, factors, opened, list}
 use Rattle.grammar.specs.Grammar.{Der, unsigned, sign, no-terms, add, a-term, no-factors, mul, a-leaf, grouped}
@@ -115,7 +115,7 @@ module _ {A : Type 0} where
   -- by what an opening makes
   pub given-cong : (q : Given) (x : Tree → Res A) (y y′ : Opening → Res A) → ((p : Opening) → y p ≡ y′ p)
       → byGiven q x y ≡ byGiven q x y′
-  given-cong (whole e) x y y′ h = refl
+  given-cong (full e) x y y′ h = refl
   given-cong (wants p) x y y′ h = h p
 
   -- behind a mark

@@ -11,7 +11,7 @@ use Rattle.drafts.specs.Tree.{Two, Tree, two}
 use Rattle.drafts.specs.Kinds.{kindTwo}
 use Rattle.drafts.specs.Drafts.{Draft, draft, drafted}
 use Rattle.grammar.specs.Look.{next, rest, byteOf, Op, none, op, addOp, mulOp, signed, Opening, group, Given}
-use Rattle.grammar.specs.Look.{whole, wants, give-to}
+use Rattle.grammar.specs.Look.{full, wants, give-to}
 use Rattle.grammar.specs.Look.{Shape, Leaf, Paren, Call, NoFactor, shapeOf}
 use Rattle.grammar.specs.Grammar.{Mode, expr, term, factor, terms, factors, opened, list}
 use Rattle.grammar.specs.Parser.{End, got, bad, Res, give, stop, tell, onward, bind, when, byOp, byShape, byGiven}
@@ -211,7 +211,7 @@ module _ (f d : ℕ) (ih : (m : Mode) (s : List Symbol) → At m s → Loc d s (
   given-loc : (p : Opening) (g : Given) (t : List Symbol)
       → Loc d t
       (λ d′ u. byGiven g (λ x. need 41 u λ v. tell (openDrafts p) (give x v)) (λ q. need 44 u (parse f (list q) d′)))
-  given-loc p (whole x) t =
+  given-loc p (full x) t =
       loc-need d t 40 (λ _ v. tell (openDrafts p) (give x v)) λ m. loc-tell d (rest t) (openDrafts p) (λ _. give x)
       (loc-give d (rest t) x)
   given-loc p (wants q) t = loc-need d t 43 (parse f (list q)) λ m. ih (list q) (rest t) tt

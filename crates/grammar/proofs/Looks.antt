@@ -13,7 +13,7 @@ use Rattle.tokens.specs.Symbol.{word}
 use Rattle.drafts.specs.Tree.{Two, plus, minus, times, over, compar, Three, Tree, value, named, time}
 use Rattle.drafts.specs.Drafts.{Draft, drafted}
 use Rattle.grammar.specs.Look.{next, rest, byteOf, Op, none, op, addOp, mulOp, signed}
-use Rattle.grammar.specs.Look.{Opening, group, pair, pair-of, triple, triple-of, triple-of-two, Given, whole}
+use Rattle.grammar.specs.Look.{Opening, group, pair, pair-of, triple, triple-of, triple-of-two, Given, full}
 use Rattle.grammar.specs.Look.{wants, give-to}
 use Rattle.grammar.specs.Look.{Shape, Leaf, Paren, Call, NoFactor, shapeOf, Start, Constants, Integral, Named}
 use Rattle.grammar.specs.Look.{Valued, Other, startOf}
@@ -188,10 +188,10 @@ pub new-drafts : {p : Opening} → New p → so-far p ≡ []
 new-drafts new-pair = refl
 new-drafts new-triple = refl
 
--- given one more: the whole has these, those of the expression, and the opening's own; what wants another has these and
+-- given one more: what is full has these, those of the expression, and the opening's own; what wants another has these and
 -- those of the expression
 abbrev pub Gave : Opening → Tree → Given → Type 0
-Gave p e (whole x) = so-far p ++ (drafted e ++ openDrafts p) ≡ drafted x
+Gave p e (full x) = so-far p ++ (drafted e ++ openDrafts p) ≡ drafted x
 Gave p e (wants q) = so-far q ≡ so-far p ++ drafted e
 
 -- it is so for each opening

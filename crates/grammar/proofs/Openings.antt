@@ -15,7 +15,7 @@ use Rattle.grammar.specs.declared.faces.Face.the-variants.{One, Group, F
 use Rattle.drafts.specs.Tree.{insw, limit, Tree}
 use Rattle.drafts.specs.Drafts.{draft, drafted}
 use Rattle.grammar.specs.Look.{next, rest, byteOf, Opening, group, pair, pair-of, triple, triple-of}
-use Rattle.grammar.specs.Look.{triple-of-two, Given, whole, wants, give-to}
+use Rattle.grammar.specs.Look.{triple-of-two, Given, full, wants, give-to}
 use Rattle.grammar.specs.Look.{Shape, Leaf, Paren, Call, NoFactor, shapeOf}
 use Rattle.grammar.specs.Grammar.{expr, factor, opened, list}
 use Rattle.grammar.specs.Parser.{Res, give, stop, tell, when, byShape, byGiven, need, openDrafts, reads}
@@ -179,7 +179,7 @@ module _ {ks us : List ℕ} {i p : ℕ} {l u : List ℕ} (w : (getD ks i 0 ≡ 4
 
 -- what an opening makes of one more, by how many it wants
 abbrev Taken : Opening → Given → Type 0
-Taken o (whole x) = wantOf o ≡ 1
+Taken o (full x) = wantOf o ≡ 1
 Taken o (wants q) = (wantOf o ≡ suc (wantOf q)) × (0 < wantOf q) × (kindOpening q ≡ kindOpening o)
 
 taken : (o : Opening) (e : Tree) → Taken o (give-to o e)
@@ -249,7 +249,7 @@ module _ {ks us : List ℕ} {d i p : ℕ} {l u : List ℕ} where
             → Meets ks us
             (λ t. byGiven v (λ x. need 41 t λ u. tell (openDrafts o) (give x u)) (λ q. need 44 t (reads (list q) d))) j
             q l₁ u₁ r l₂ u₂
-        go (whole x) z = f x z
+        go (full x) z = f x z
         go (wants b) z = g b (z .0) (z .1) (z .2)
 
     -- behind an expression of n that are wanted stands the kind k, and m should

@@ -14,7 +14,7 @@ use Rattle.drafts.specs.Tree.{constants, assignment, state}
 use Rattle.drafts.specs.Kinds.{kindTwo}
 use Rattle.drafts.specs.Drafts.{Draft, draft, drafted, constantDrafts, initialDraft}
 use Rattle.grammar.specs.Look.{next, rest, byteOf, Op, none, op, addOp, mulOp, signed}
-use Rattle.grammar.specs.Look.{Opening, group, pair, pair-of, triple, triple-of, triple-of-two, Given, whole}
+use Rattle.grammar.specs.Look.{Opening, group, pair, pair-of, triple, triple-of, triple-of-two, Given, full}
 use Rattle.grammar.specs.Look.{wants, give-to}
 use Rattle.grammar.specs.Look.{Shape, Leaf, Paren, Call, NoFactor, shapeOf, startOf}
 use Rattle.grammar.specs.Grammar.{Mode, expr, term, factor, terms, factors, opened, list}
@@ -203,7 +203,7 @@ module _ (f d : ℕ) (ih : (m : Mode) (d : ℕ) (s : List Symbol) → Fits s 0 0
   given-fits : (p : Opening) (t : List Symbol) (g : Given)
       → Fits t 0 0
       (byGiven g (λ x. need 41 t λ u. tell (openDrafts p) (give x u)) (λ q. need 44 t (parse f (list q) d)))
-  given-fits p t (whole x) =
+  given-fits p t (full x) =
       let n = open-one p in
       fits-need 40 t 0 0 (λ u. tell (openDrafts p) (give x u))
       (fits-mono 0 1 (fits-tell (openDrafts p) (rest t) 0 0 _ (fits-give (rest t) x)) (omega arith) (omega arith))

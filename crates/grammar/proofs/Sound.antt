@@ -13,7 +13,7 @@ use Rattle.drafts.specs.Tree.{Two, Tree, value, two}
 use Rattle.drafts.specs.Kinds.{kindTwo}
 use Rattle.drafts.specs.Drafts.{Draft, draft, drafted}
 use Rattle.grammar.specs.Look.{next, rest, byteOf, Op, none, op, addOp, mulOp, signed}
-use Rattle.grammar.specs.Look.{Opening, group, pair, pair-of, triple, triple-of, triple-of-two, Given, whole}
+use Rattle.grammar.specs.Look.{Opening, group, pair, pair-of, triple, triple-of, triple-of-two, Given, full}
 use Rattle.grammar.specs.Look.{wants, give-to}
 use Rattle.grammar.specs.Look.{Shape, Leaf, Paren, Call, NoFactor, shapeOf}
 use Rattle.grammar.specs.Grammar.{Mode, expr, term, factor, terms, factors, opened, list}
@@ -79,7 +79,7 @@ end-list : (p : Opening) {d : ℕ} {w : List Symbol} {e : Tree} → Der expr d w
 end-list p {d} {w} {e} a = go (give-to p e) refl
   where
     go : (g : Given) → give-to p e ≡ g → Begins (Der (list p)) d w
-    go (whole x) h = (mark 41 ∷ [], x, last h a)
+    go (full x) h = (mark 41 ∷ [], x, last h a)
     go (wants q) h = let z = zero-list q in (mark 44 ∷ z .0, z .1, comma h a (z .2))
 
 -- ---- what is asked of a reading in each mode
@@ -284,7 +284,7 @@ module _ (f d : ℕ) (ih : (m : Mode) (d : ℕ) (s : List Symbol) → At m s →
         → Fronts (Der (list p)) d 18 (w ++ [])
         → Out (λ o′ v. Done (list p) d (o ++ o′) (w ++ v)) (λ c v. Fronts (Der (list p)) d c (w ++ v)) t
         (byGiven g (λ x. need 41 t λ u. tell (openDrafts p) (give x u)) (λ q. need 44 t (parse f (list q) d)))
-    given-out p w o e t (whole x) h r early =
+    given-out p w o e t (full x) h r early =
         let drafts : so-far p ++ (o ++ (openDrafts p ++ [])) ≡ drafted x = rw (append-nil, r .1) (as-gave p e h) in
         out-need _ _ 40 t (λ u. tell (openDrafts p) (give x u))
         (λ m. out-tell _ _ (openDrafts p) (rest t) _ (out-give _ _ (rest t) x (last h (r .0), drafts))) early

@@ -9,7 +9,7 @@ use Rattle.tokens.specs.Symbol.{INSW, Symbol, mark, number, name, word}
 use Rattle.drafts.specs.Tree.{Two, plus, minus, times, over, compar, Tree, value, named, time, negated, two, three}
 use Rattle.drafts.specs.Tree.{Says, constants, assignment, state}
 use Rattle.grammar.specs.Look.{next, rest, byteOf, op, signed, shapeOf, startOf}
-use Rattle.grammar.specs.Look.{Opening, group, pair, pair-of, triple, triple-of, triple-of-two, Given, whole}
+use Rattle.grammar.specs.Look.{Opening, group, pair, pair-of, triple, triple-of, triple-of-two, Given, full}
 use Rattle.grammar.specs.Look.{wants, give-to}
 use Rattle.grammar.specs.Grammar.{Mode, expr, term, factor, terms, factors, opened, list}
 use Rattle.grammar.specs.Grammar.{Der, unsigned, sign, no-terms, add, a-term, no-factors, mul, a-leaf, grouped}
@@ -52,7 +52,7 @@ new-peak new-triple = refl
 
 -- given one more: at most two stand below it
 abbrev Raised : Opening → Tree → Given → Type 0
-Raised p e (whole x) = peak x ≤ max (held p) (2 + peak e)
+Raised p e (full x) = peak x ≤ max (held p) (2 + peak e)
 Raised p e (wants q) = held q ≤ max (held p) (2 + peak e)
 
 -- it is so for each opening

@@ -217,7 +217,7 @@ pub record Going (ks us : List ℕ) (m part : Mode) (chain : Tree → Mode) (d i
   pub long-args : length u₁ ≡ length u
   pub ready : Ready ks us j (q + length (opDrafts o)) l₁ u₁
   pub joins : Tree → Tree → Tree
-  pub whole : {r : Part} {l₂ u₂ : List ℕ}
+  pub onward : {r : Part} {l₂ u₂ : List ℕ}
       → ((x : Tree) → Meets ks us (λ s. bind (reads part d s) (chain-then d chain (opDrafts o) (joins x))) j q l₁ u₁ r
       l₂ u₂)
       → Parses ks us m d i p l u r l₂ u₂
@@ -244,7 +244,7 @@ term-first {ks} {us} {d} {i} w =
             room-args = omega (arith, w .room-args);
           };
       joins = λ x y. y;
-      whole = λ g. record { meets = meets-by (reads term d) (reads-term d (drop i (heldRow ks us))) (g time) };
+      onward = λ g. record { meets = meets-by (reads term d) (reads-term d (drop i (heldRow ks us))) (g time) };
     }
 
 module _ {ks us : List ℕ} {i p k s : ℕ} {l u : List ℕ} (o : ℕ) (w : Ready ks us i p l u) (ek : k ≡ getD ks i 0)
@@ -274,7 +274,7 @@ module _ {ks us : List ℕ} {i p k s : ℕ} {l u : List ℕ} (o : ℕ) (w : Read
               room-args = omega (arith, w .room-args);
             };
         joins = λ x. signed (addOp (mark k));
-        whole = λ g. record { meets = meets-by (reads expr d) (signed-at d) (g time) };
+        onward = λ g. record { meets = meets-by (reads expr d) (signed-at d) (g time) };
       }
 
 module _ {ks us : List ℕ} {m part : Mode} {chain : Tree → Mode} {d i p : ℕ} {l u : List ℕ} {o j q : ℕ} {l₁ u₁ : List ℕ}
@@ -297,7 +297,7 @@ module _ {ks us : List ℕ} {m part : Mode} {chain : Tree → Mode} {d i p : ℕ
   -- a part that stops stops the whole
   pub part-stopped : {r : Part} {l₂ u₂ : List ℕ} → (r .code ≡ 0 → ⊥) → Parses ks us part d j q l₁ u₁ r l₂ u₂
       → Parses ks us m d i p l u r l₂ u₂
-  part-stopped e h = z .whole λ x. stops (chain-then d chain (opDrafts o) (z .joins x)) e h
+  part-stopped e h = z .onward λ x. stops (chain-then d chain (opDrafts o) (z .joins x)) e h
 
   module _ {j₁ q₁ : ℕ} {r : Part} {l₂ u₂ : List ℕ} (e : r ≡ passed j₁ q₁)
       (h : Parses ks us part d j q l₁ u₁ r l₂ u₂) where
@@ -333,7 +333,7 @@ module _ {ks us : List ℕ} {m part : Mode} {chain : Tree → Mode} {d i p : ℕ
       op-whole : {r : Part} {l₄ u₄ : List ℕ} → ((x : Tree) → Parses ks us (chain x) d j₁ q₂ l₃ u₃ r l₄ u₄)
           → Parses ks us m d i p l u r l₄ u₄
       op-whole g =
-          z .whole λ x. goes-on (chain-then d chain (opDrafts o) (z .joins x)) part-ready e h λ y. meets-op w
+          z .onward λ x. goes-on (chain-then d chain (opDrafts o) (z .joins x)) part-ready e h λ y. meets-op w
           (g (z .joins x y) .meets)
 
       module _ {look : Symbol → Op} (c : Chain look part chain) {k o₁ : ℕ} (ek : k ≡ getD ks j₁ 0)
@@ -369,5 +369,5 @@ module _ {ks us : List ℕ} {m part : Mode} {chain : Tree → Mode} {d i p : ℕ
                       room-args = omega (arith, v .room-args);
                     };
                 joins = two (found c op-ready ek eo n .0);
-                whole = λ g. op-whole λ x. chain-by c op-ready ek eo n x (g x);
+                onward = λ g. op-whole λ x. chain-by c op-ready ek eo n x (g x);
               }

@@ -10,7 +10,7 @@ use lib.Ieee.{Float, neg}
 use Rattle.tokens.specs.Symbol.{INTGRL, Symbol, mark, number, name, word}
 use Rattle.drafts.specs.Tree.{Two, Tree, two, Constant, constantOf, Initial, plain, from, Says, constants, assignment}
 use Rattle.drafts.specs.Tree.{state}
-use Rattle.grammar.specs.Look.{op, addOp, mulOp, isMinus, signed, Opening, group, whole, wants, give-to}
+use Rattle.grammar.specs.Look.{op, addOp, mulOp, isMinus, signed, Opening, group, full, wants, give-to}
 use Rattle.grammar.specs.Look.{Leaf, Call, shapeOf, Constants, startOf}
 
 pub data Mode : Type 0 where
@@ -41,7 +41,7 @@ pub data Der : Mode → ℕ → List Symbol → Tree → Type 0 where
   -- an opening is one level more; its expressions stand with commas between, and a closing mark behind the last
   opening : {d : ℕ} {p : Opening} {w : List Symbol} {e : Tree} → Der (list p) d w e
       → Der (opened p) (suc d) (mark 40 ∷ w) e
-  last : {d : ℕ} {p : Opening} {w : List Symbol} {e x : Tree} → give-to p e ≡ whole x → Der expr d w e
+  last : {d : ℕ} {p : Opening} {w : List Symbol} {e x : Tree} → give-to p e ≡ full x → Der expr d w e
       → Der (list p) d (w ++ mark 41 ∷ []) x
   comma : {d : ℕ} {p q : Opening} {w v : List Symbol} {e x : Tree}
       → give-to p e ≡ wants q → Der expr d w e → Der (list q) d v x → Der (list p) d (w ++ mark 44 ∷ v) x

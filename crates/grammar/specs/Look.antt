@@ -62,19 +62,19 @@ pub data Opening : Type 0 where
   triple-of : Three → Tree → Opening
   triple-of-two : Three → Tree → Tree → Opening
 
--- with one expression more it is whole, or wants another
+-- with one expression more it is full, or wants another
 pub data Given : Type 0 where
-  whole : Tree → Given
+  full : Tree → Given
   wants : Opening → Given
 
 -- an expression in parentheses; COMPAR has two expressions, INSW and LIMIT have three
 unfoldable pub give-to : Opening → Tree → Given
-give-to group e = whole e
+give-to group e = full e
 give-to pair e = wants (pair-of e)
-give-to (pair-of a) e = whole (two compar a e)
+give-to (pair-of a) e = full (two compar a e)
 give-to (triple o) e = wants (triple-of o e)
 give-to (triple-of o a) e = wants (triple-of-two o a e)
-give-to (triple-of-two o a b) e = whole (three o a b e)
+give-to (triple-of-two o a b) e = full (three o a b e)
 
 -- ---- what a token begins as a factor: all of it; an expression in parentheses; a function; nothing
 

@@ -11,7 +11,7 @@ use Rattle.drafts.specs.Tree.{Two, Tree, two, Constant, constantOf, Initial, pl
 use Rattle.drafts.specs.Tree.{state, compar}
 use Rattle.drafts.specs.Kinds.{kindInitial, kindTwo, kindNegate, kindThree, kindStore, kindRate}
 use Rattle.drafts.specs.Drafts.{Draft, draft, drafted, constantDrafts, initialDraft}
-use Rattle.grammar.specs.Look.{next, rest, byteOf, Op, none, op, addOp, mulOp, isMinus, signed, Given, whole}
+use Rattle.grammar.specs.Look.{next, rest, byteOf, Op, none, op, addOp, mulOp, isMinus, signed, Given, full}
 use Rattle.grammar.specs.Look.{wants, give-to}
 use Rattle.grammar.specs.Look.{Opening, group, pair, pair-of, triple, triple-of, triple-of-two}
 use Rattle.grammar.specs.Look.{Shape, Leaf, Paren, Call, NoFactor, shapeOf, Start, Constants, Integral, Named}
@@ -64,7 +64,7 @@ byShape (Call o) x p y z = y o
 byShape NoFactor x p y z = z tt
 
 abbrev pub byGiven : {A : Type 0} → Given → (Tree → Res A) → (Opening → Res A) → Res A
-byGiven (whole x) w z = w x
+byGiven (full x) w z = w x
 byGiven (wants q) w z = z q
 
 -- the next token is the mark b: go on behind it

@@ -16,7 +16,7 @@ use Rattle.laws.proofs.Tests.{cond-ind}
 use Rattle.bits.specs.Low.{lowWord}
 use Rattle.records.specs.Record.{field}
 use Rattle.listing_text.specs.Listing.{figures, line, line2}
-use Rattle.listing_text.specs.Written.{ending, rowAt, head, InReach}
+use Rattle.listing_text.specs.Written.{ending, detailAt, head, InReach}
 use Rattle.listing_text.proofs.Figures.{few-figures}
 
 -- ---- what follows what
@@ -75,19 +75,19 @@ gather-within f m h (suc k) i =
     rw (suc-mul k m) (omega (arith, h i, gather-within f m h k (suc i), length-append (f i) (gather f k (suc i))))
 
 -- the line of a fault, and of a statement
-row-short : (ordered : Bool) (l : List ℕ) → Bytes l → (i : ℕ) → length (rowAt ordered l i) ≤ 4294967298
-row-short true l b i =
+detail-short : (ordered : Bool) (l : List ℕ) → Bytes l → (i : ℕ) → length (detailAt ordered l i) ≤ 4294967298
+detail-short true l b i =
     let n = field l (i * recordBytes + 4) 4 in
     cond-ind (λ (x : List ℕ). length x ≤ 4294967298) (ending (field l (i * recordBytes) 1)) (line n) []
     (λ _. omega (arith, line-short n, field-small l (i * recordBytes + 4) 4 b)) (λ _. omega arith)
-row-short false l b i =
+detail-short false l b i =
     let m = field-small l (i * faultBytes) 2 b in
     let n = field-small l (i * faultBytes + 2) 1 b in
     omega (arith, pair-short (field l (i * faultBytes) 2) (field l (i * faultBytes + 2) 1))
 
 -- REACH: the first line, with no more than the most records, and as many lines behind it
 pub listing-reach : (ordered : Bool) (a b n count : ℕ) (l : List ℕ) → n ≤ mostRecords → count ≤ mostRecords → Bytes l
-    → InReach (head a b n ++ gather (rowAt ordered l) count 0) 0
+    → InReach (head a b n ++ gather (detailAt ordered l) count 0) 0
 listing-reach ordered a b n count l h few bytes =
-    let g = gather-within (rowAt ordered l) 4294967298 (row-short ordered l bytes) count 0 in
-    omega (arith, line-short n, length-append (head a b n) (gather (rowAt ordered l) count 0))
+    let g = gather-within (detailAt ordered l) 4294967298 (detail-short ordered l bytes) count 0 in
+    omega (arith, line-short n, length-append (head a b n) (gather (detailAt ordered l) count 0))

@@ -24,9 +24,9 @@ abbrev pub endedAt : List ℕ → ℕ → List ℕ
 endedAt program i = cond (ending (field program (i * recordBytes) 1)) (line (field program (i * recordBytes + 4) 4)) []
 
 -- either, of a program or of a list
-abbrev pub rowAt : Bool → List ℕ → ℕ → List ℕ
-rowAt true = endedAt
-rowAt false = faultAt
+abbrev pub detailAt : Bool → List ℕ → ℕ → List ℕ
+detailAt true = endedAt
+detailAt false = faultAt
 
 -- two letters, a space and a number
 abbrev pub head : ℕ → ℕ → ℕ → List ℕ

@@ -9,7 +9,7 @@ ghost use Rattle.records.specs.Record.{field};
 ghost use Rattle.translator.specs.Contract.{numberIn, countIn};
 ghost use Rattle.listing_text.specs.Listing.{figures, line, line2};
 ghost use Rattle.listing_text.specs.Contract.{Lists};
-ghost use Rattle.listing_text.specs.Written.{faultAt, endedAt, head, rowAt, written, InReach};
+ghost use Rattle.listing_text.specs.Written.{faultAt, endedAt, head, detailAt, written, InReach};
 use limits::FAULT_BYTES;
 use limits::FAULT_ROOM;
 use limits::PROGRAM_ROOM;
@@ -111,9 +111,9 @@ fn put_ended(program: &[u8], i: usize, out: &mut [u8], at: usize) -> usize
 }
 
 // Writes a line of an ordered statement, read from a program, or else of a fault, read from a list.
-fn put_row(ordered: bool, from: &[u8], i: usize, out: &mut [u8], at: usize) -> usize
-    requires { ⌜ (i < mostRecords) × InReach (rowAt ordered (now from) i) at ⌝ }
-    ensures { λ r. ⌜ Put (rowAt ordered (now (from .entry)) i) at r (now (out .entry)) (now (out .exit)) ⌝ }
+fn put_detail(ordered: bool, from: &[u8], i: usize, out: &mut [u8], at: usize) -> usize
+    requires { ⌜ (i < mostRecords) × InReach (detailAt ordered (now from) i) at ⌝ }
+    ensures { λ r. ⌜ Put (detailAt ordered (now (from .entry)) i) at r (now (out .entry)) (now (out .exit)) ⌝ }
 {
     if ordered {
         return put_ended(from, i, out, at);
@@ -122,15 +122,15 @@ fn put_row(ordered: bool, from: &[u8], i: usize, out: &mut [u8], at: usize) -> u
 }
 
 // Writes so many of them.
-fn put_rows(ordered: bool, from: &[u8], count: usize, out: &mut [u8], at: usize) -> usize
-    requires { ⌜ (count ≤ mostRecords) × InReach (gather (rowAt ordered (now from)) count 0) at ⌝ }
-    ensures { λ r. ⌜ Put (gather (rowAt ordered (now (from .entry))) count 0) at r (now (out .entry))
+fn put_details(ordered: bool, from: &[u8], count: usize, out: &mut [u8], at: usize) -> usize
+    requires { ⌜ (count ≤ mostRecords) × InReach (gather (detailAt ordered (now from)) count 0) at ⌝ }
+    ensures { λ r. ⌜ Put (gather (detailAt ordered (now (from .entry))) count 0) at r (now (out .entry))
         (now (out .exit)) ⌝ }
 {
     let mut w = at;
     let mut i: usize = 0;
     while i < count {
-        w = put_row(ordered, from, i, &mut *out, w);
+        w = put_detail(ordered, from, i, &mut *out, w);
         i += 1;
     }
     w
@@ -163,11 +163,11 @@ fn count_of(verdict: Verdict) -> usize
 // Writes the first line and, from a program or a list, so many lines behind it.
 fn put_all(a: u8, b: u8, n: u64, ordered: bool, from: &[u8], count: usize, out: &mut [u8]) -> usize
     requires { ⌜ (n ≤ mostRecords) × (count ≤ mostRecords) ⌝ }
-    ensures { λ r. ⌜ Put (head a b n ++ gather (rowAt ordered (now (from .entry))) count 0) 0 r
+    ensures { λ r. ⌜ Put (head a b n ++ gather (detailAt ordered (now (from .entry))) count 0) 0 r
         (now (out .entry)) (now (out .exit)) ⌝ }
 {
     let at = put_head(a, b, n, &mut *out);
-    put_rows(ordered, from, count, out, at)
+    put_details(ordered, from, count, out, at)
 }
 
 // Writes the listing of a verdict, with the faults or the program that it left.

@@ -9,12 +9,12 @@ use Rattle.sheet.specs.Layout.{Laid}
 use Rattle.order.specs.Greedy.{order}
 use Rattle.model.specs.Definitions.{Def, definitions, keys, equationCount}
 use Rattle.model.specs.Faults.{faults21, nameFaults, faults24, orElse, modelFaults, orderOf}
-use Rattle.model.specs.Places.{keysIn, placesIn, doubles, resolved, nameless, equationRows, loops}
+use Rattle.model.specs.Places.{keysIn, placesIn, doubles, resolved, nameless, equatedIn, loops}
 use Rattle.model.proofs.SheetWalk.{sheetSlots}
 use Rattle.model.proofs.KeyPlaces.{noDef, keys-once}
 use Rattle.model.proofs.SheetKeys.{keys-of, places-length, doubles-of}
 use Rattle.model.proofs.SheetNames.{names-of}
-use Rattle.model.proofs.SheetEquations.{rows-length}
+use Rattle.model.proofs.SheetEquations.{equated-length}
 use Rattle.model.proofs.UsesFit.{usedOf}
 use Rattle.model.proofs.SheetUses.{order-of, loops-of}
 
@@ -35,8 +35,8 @@ module _ (ss : List Numbered) (kinds args lines bounds : List ℕ) (laid : Laid 
   abbrev places : List ℕ
   places = placesIn kinds
 
-  abbrev rows : List ℕ
-  rows = equationRows (length lines) bounds kinds
+  abbrev equated : List ℕ
+  equated = equatedIn (length lines) bounds kinds
 
   -- THE KEYS of the definitions
   pub keys-meant : keysIn kinds args ≡ keys ds
@@ -67,22 +67,22 @@ module _ (ss : List Numbered) (kinds args lines bounds : List ℕ) (laid : Laid 
       rw slots-meant (rw (laid .kinds-held, laid .lines-held, laid .bounds-held) (names-of ss (keys-once ss e)))
 
   -- THE EQUATIONS: as many
-  pub rows-meant : length rows ≡ equationCount ds
-  rows-meant = rw (laid .kinds-held, laid .lines-held, laid .bounds-held) (rows-length ss)
+  pub equated-meant : length equated ≡ equationCount ds
+  equated-meant = rw (laid .kinds-held, laid .lines-held, laid .bounds-held) (equated-length ss)
 
   -- THE ORDER of the table is that of the definitions
-  pub order-meant : faults21 [] ss ≡ [] → order (length rows) (λ i j. has j (usedOf bounds kinds slots rows i))
+  pub order-meant : faults21 [] ss ≡ [] → order (length equated) (λ i j. has j (usedOf bounds kinds slots equated i))
       ≡ orderOf ds
   order-meant e =
       rw slots-meant (rw (laid .kinds-held, laid .lines-held, laid .bounds-held) (order-of ss (keys-once ss e)))
 
   -- 24
-  pub loops-meant : loops (orderOf ds) rows lines ≡ faults24 ds
+  pub loops-meant : loops (orderOf ds) equated lines ≡ faults24 ds
   loops-meant = rw (laid .kinds-held, laid .lines-held, laid .bounds-held) (loops-of ss)
 
   -- THE MODEL'S FAULTS
   pub faults-meant : orElse (doubles lines bounds kinds args)
-      (orElse (nameless places lines bounds kinds slots) (loops (orderOf ds) rows lines))
+      (orElse (nameless places lines bounds kinds slots) (loops (orderOf ds) equated lines))
       ≡ modelFaults ss
   unfolding modelFaults
   faults-meant =

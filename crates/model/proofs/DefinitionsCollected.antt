@@ -31,17 +31,17 @@ put-none false x d l t = record { behind = omega arith; written = refl }
 pub noted : (kind key place d : ℕ) {keys keys′ places places′ : List ℕ} → defines kind ≡ true
     → keys′ ≡ set keys d key → places′ ≡ set places d place → Noted kind key place d (d + 1) keys keys′ places places′
 noted kind key place d t k p =
-    record { named = put-one (defines kind) key d t k; placed = put-one (defines kind) place d t p }
+    record { keys-so = put-one (defines kind) key d t k; placed = put-one (defines kind) place d t p }
 
 pub not-noted : (kind key place d : ℕ) (keys places : List ℕ) → defines kind ≡ false
     → Noted kind key place d d keys keys places places
 not-noted kind key place d keys places t =
-    record { named = put-none (defines kind) key d keys t; placed = put-none (defines kind) place d places t }
+    record { keys-so = put-none (defines kind) key d keys t; placed = put-none (defines kind) place d places t }
 
 -- the loop stands at draft i, with d definitions
 pub record Collecting (kinds args keys₀ places₀ : List ℕ) (d i : ℕ) (keys places : List ℕ) : Type 0 where
   pub few : d ≤ i
-  pub named : Writes (definedAt kinds args) (length kinds) 0 i 0 d keys₀ keys
+  pub keys-so : Writes (definedAt kinds args) (length kinds) 0 i 0 d keys₀ keys
   pub placed : Writes (placeAt kinds) (length kinds) 0 i 0 d places₀ places
 
 -- its beginning
@@ -49,7 +49,7 @@ pub collecting-first : (kinds args keys places : List ℕ) → Collecting kinds 
 collecting-first kinds args keys places =
     record {
       few = omega arith;
-      named = writes-first (definedAt kinds args) (length kinds) 0 0 keys;
+      keys-so = writes-first (definedAt kinds args) (length kinds) 0 0 keys;
       placed = writes-first (placeAt kinds) (length kinds) 0 0 places;
     }
 
@@ -60,11 +60,11 @@ module _ {kinds args keys₀ places₀ : List ℕ} {d i : ℕ} {keys places : Li
       → Noted (getD kinds i 0) key i d r keys keys′ places places′
       → Collecting kinds args keys₀ places₀ r (i + 1) keys′ places′
   collecting-next {key} {r} {keys′} {places′} h e noting =
-      let named : Put (definedAt kinds args i) d r keys keys′ = rw e at (noting .named) in
+      let keys-so : Put (definedAt kinds args i) d r keys keys′ = rw e at (noting .keys-so) in
       let placed = noting .placed in
       record {
-        few = omega (arith, v .few, named .behind, only-length (defines (getD kinds i 0)) (getD args i 0));
-        named = writes-next (v .named) h r keys′ (named .behind) (named .written);
+        few = omega (arith, v .few, keys-so .behind, only-length (defines (getD kinds i 0)) (getD args i 0));
+        keys-so = writes-next (v .keys-so) h r keys′ (keys-so .behind) (keys-so .written);
         placed = writes-next (v .placed) h r places′ (placed .behind) (placed .written);
       }
 
@@ -73,6 +73,6 @@ module _ {kinds args keys₀ places₀ : List ℕ} {d i : ℕ} {keys places : Li
   unfolding keysIn placesIn
   collecting-last h =
       record {
-        named = record { behind = omega (arith, whole-count (v .named) h); written = whole-all (v .named) h };
+        keys-so = record { behind = omega (arith, whole-count (v .keys-so) h); written = whole-all (v .keys-so) h };
         placed = record { behind = omega (arith, whole-count (v .placed) h); written = whole-all (v .placed) h };
       }

@@ -64,27 +64,27 @@ module _ (owners : List ℕ) (kind slot w : ℕ) where
             (lt-or-ge 0 owner)
 
 -- ---- the numbers at which a test holds, listed: the loop stands at j, with c of them written
-pub record Listing (f : ℕ → Bool) (n j c : ℕ) (rows₀ rows : List ℕ) : Type 0 where
+pub record Listing (f : ℕ → Bool) (n j c : ℕ) (equated₀ equated : List ℕ) : Type 0 where
   pub within : j ≤ n
   pub few : c ≤ j
-  pub written : Writes (λ i. onlyIf (f i) i) n 0 j 0 c rows₀ rows
+  pub written : Writes (λ i. onlyIf (f i) i) n 0 j 0 c equated₀ equated
 
-pub listing-first : (f : ℕ → Bool) (n : ℕ) (rows : List ℕ) → Listing f n 0 0 rows rows
-listing-first f n rows =
-    record { within = omega arith; few = omega arith; written = writes-first (λ i. onlyIf (f i) i) n 0 0 rows }
+pub listing-first : (f : ℕ → Bool) (n : ℕ) (equated : List ℕ) → Listing f n 0 0 equated equated
+listing-first f n equated =
+    record { within = omega arith; few = omega arith; written = writes-first (λ i. onlyIf (f i) i) n 0 0 equated }
 
-module _ {f : ℕ → Bool} {n j c : ℕ} {rows₀ rows : List ℕ} (v : Listing f n j c rows₀ rows) where
-  pub listing-next : {b : Bool} {r : ℕ} {rows′ : List ℕ} → j < n → b ≡ f j → Put (onlyIf b j) c r rows rows′
-      → Listing f n (j + 1) r rows₀ rows′
-  listing-next {b} {r} {rows′} h e put =
+module _ {f : ℕ → Bool} {n j c : ℕ} {equated₀ equated : List ℕ} (v : Listing f n j c equated₀ equated) where
+  pub listing-next : {b : Bool} {r : ℕ} {equated′ : List ℕ} → j < n → b ≡ f j → Put (onlyIf b j) c r equated equated′
+      → Listing f n (j + 1) r equated₀ equated′
+  listing-next {b} {r} {equated′} h e put =
       let behind : r ≡ c + length (onlyIf (f j) j) = put .behind ∙ ap (λ (t : Bool). c + length (onlyIf t j)) e in
-      let content : rows′ ≡ sets rows c (onlyIf (f j) j) =
-      put .written ∙ ap (λ (t : Bool). sets rows c (onlyIf t j)) e in
+      let content : equated′ ≡ sets equated c (onlyIf (f j) j) =
+      put .written ∙ ap (λ (t : Bool). sets equated c (onlyIf t j)) e in
       record {
         within = omega arith;
         few = omega (arith, v .few, behind, only-length (f j) j);
-        written = writes-next (v .written) h r rows′ behind content;
+        written = writes-next (v .written) h r equated′ behind content;
       }
 
-  pub listing-last : n ≤ j → Put (gather (λ i. onlyIf (f i) i) n 0) 0 c rows₀ rows
+  pub listing-last : n ≤ j → Put (gather (λ i. onlyIf (f i) i) n 0) 0 c equated₀ equated
   listing-last h = record { behind = omega (arith, whole-count (v .written) h); written = whole-all (v .written) h }

@@ -69,23 +69,23 @@ module _ {placed marks : List ℕ} {k : ℕ} (v : Marking placed k marks) where
       record { long = v .long; mark = λ r l. v .mark r l ∙ ap (λ (p : List ℕ). not (has r p)) (take-all k placed h) }
 
 -- 24 stands once at a statement
-pub unmarked-single : (marks rows lines : List ℕ) (r : ℕ) → length (unmarkedAt marks rows lines r) ≤ 1
-unmarked-single marks rows lines r = if-length (eqb (getD marks r 0) 0) (getD lines (getD rows r 0) 0) 24
+pub unmarked-single : (marks equated lines : List ℕ) (r : ℕ) → length (unmarkedAt marks equated lines r) ≤ 1
+unmarked-single marks equated lines r = if-length (eqb (getD marks r 0) 0) (getD lines (getD equated r 0) 0) 24
 
 -- 24 at equation r, as it was found
-pub unmarked-found : (marks rows lines : List ℕ) (r : ℕ) {b line j : ℕ} → b ≡ getD marks r 0 → j ≡ getD rows r 0
+pub unmarked-found : (marks equated lines : List ℕ) (r : ℕ) {b line j : ℕ} → b ≡ getD marks r 0 → j ≡ getD equated r 0
     → line ≡ getD lines j 0
-    → faultIf (eqb b 0) line 24 ≡ unmarkedAt marks rows lines r
-unmarked-found marks rows lines r p q l =
+    → faultIf (eqb b 0) line 24 ≡ unmarkedAt marks equated lines r
+unmarked-found marks equated lines r p q l =
     ap₂ (λ (m n : ℕ). faultIf (eqb m 0) n 24) p (l ∙ ap (λ (i : ℕ). getD lines i 0) q)
 
 -- 24 is the same by marks
-pub unmarked-loops : {placed marks list list′ : List ℕ} {r : ℕ} (rows lines : List ℕ) → Marked placed marks
-    → length rows ≤ mostStatements
-    → Reported (unmarked marks rows lines) 0 r list list′ → Reported (loops placed rows lines) 0 r list list′
+pub unmarked-loops : {placed marks list list′ : List ℕ} {r : ℕ} (equated lines : List ℕ) → Marked placed marks
+    → length equated ≤ mostStatements
+    → Reported (unmarked marks equated lines) 0 r list list′ → Reported (loops placed equated lines) 0 r list list′
 unfolding loops
-unmarked-loops {placed} {marks} rows lines m h reported =
-    let same : unmarked marks rows lines ≡ loops placed rows lines =
-    gather-same _ _ (length rows) 0
-    (λ r _ l. ap (λ (b : Bool). faultIf b (getD lines (getD rows r 0) 0) 24) (m .mark r (omega (arith, m .long)))) in
+unmarked-loops {placed} {marks} equated lines m h reported =
+    let same : unmarked marks equated lines ≡ loops placed equated lines =
+    gather-same _ _ (length equated) 0
+    (λ r _ l. ap (λ (b : Bool). faultIf b (getD lines (getD equated r 0) 0) 24) (m .mark r (omega (arith, m .long)))) in
     rw same at reported

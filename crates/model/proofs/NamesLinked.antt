@@ -15,7 +15,7 @@ use Rattle.laws.proofs.Gathers.{gather-more, gather-none, gather-same}
 use Rattle.drafts.specs.Kinds.{kindFetch, defines, isNamed}
 use Rattle.drafts.specs.Places.{begins, ends, inStatement}
 use Rattle.laws.specs.Put.{Put}
-use Rattle.model.specs.Places.{resolvedAt, resolved, isEquation, equationRows}
+use Rattle.model.specs.Places.{resolvedAt, resolved, isEquation, equatedIn}
 use Rattle.model.specs.Places.{usedAt, usedIn, startsFrom}
 use Rattle.model.specs.Plan.{ownSlots}
 use Rattle.model.specs.Working.{flawedBy, usedOwner, usedHere, usedFrom, Resolved, Resolving, Linking, Walked}
@@ -254,7 +254,7 @@ module _ {lines bounds kinds keys owners args₀ used₀ : List ℕ} (places sta
           arith,
           v .short,
           rises-to bounds (length lines) (s .sound .rises) j (v .within),
-          s .sound .whole,
+          s .sound .ended,
           s .sound .small,
         )
 
@@ -297,28 +297,28 @@ module _ {lines bounds kinds keys owners args₀ used₀ : List ℕ} (places sta
         → Linked lines bounds kinds keys places n args₀ args starts₀ starts′ used₀ used
     stating-last {w} {starts′} h c e = record { resolved-so = done; tabled-so = rw (done .same) tabled }
       where
-        rows : List ℕ
-        rows = equationRows (length lines) bounds kinds
+        equated : List ℕ
+        equated = equatedIn (length lines) bounds kinds
 
         last : j ≡ length lines
         last = omega (arith, v .within)
 
         done : Resolved keys kinds places args₀ args (n .flawed)
-        done = resolving-last (v .resolving) (omega (arith, ap (begins bounds) last, s .sound .whole))
+        done = resolving-last (v .resolving) (omega (arith, ap (begins bounds) last, s .sound .ended))
 
-        all : usesTo own bounds kinds slots j ≡ usedIn own bounds kinds slots rows
+        all : usesTo own bounds kinds slots j ≡ usedIn own bounds kinds slots equated
         all = ap (usesTo own bounds kinds slots) last ∙ whole-uses own bounds kinds slots (length lines)
 
         -- the starts, and behind them how much is used
         behind : Put (w ∷ []) r (r + 1) starts starts′
         behind = record { behind = refl; written = e }
 
-        row : gather (beginAt own bounds kinds slots) j 0 ++ (w ∷ []) ≡ startsFrom 0 own bounds kinds slots rows
+        row : gather (beginAt own bounds kinds slots) j 0 ++ (w ∷ []) ≡ startsFrom 0 own bounds kinds slots equated
         row =
             let count : w ≡ length (usesTo own bounds kinds slots j) = omega (arith, c, v .uses .behind) in
             rw (count, last) (whole-begin own bounds kinds slots (length lines))
 
-        tabled : Tabled rows bounds kinds slots (n .count) starts₀ starts′ used₀ used
+        tabled : Tabled equated bounds kinds slots (n .count) starts₀ starts′ used₀ used
         tabled =
             record {
               uses = rw all at (v .uses);

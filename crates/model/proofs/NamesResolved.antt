@@ -165,25 +165,25 @@ module _ {keys kinds places args₀ args : List ℕ} {flawed : Bool} {i : ℕ}
 -- ---- the flaw of the drafts from place i on, before b, with the worst that stands before them
 module _ (f g : ℕ → Bool) (b : ℕ) where
   pub record Seeking (from i flaw : ℕ) : Type 0 where
-    pub named : anyIn f (b - i) i ≡ anyIn f (b - from) from
+    pub unfound : anyIn f (b - i) i ≡ anyIn f (b - from) from
     pub fit : flaw ≡ flawOf false (ltb 0 flaw)
     pub left : (ltb 0 flaw || anyIn g (b - i) i) ≡ anyIn g (b - from) from
 
 pub seeking-first : (f g : ℕ → Bool) (b from : ℕ) → Seeking f g b from from 0
-seeking-first f g b from = record { named = refl; fit = refl; left = refl }
+seeking-first f g b from = record { unfound = refl; fit = refl; left = refl }
 
 module _ {f g : ℕ → Bool} {b from i flaw : ℕ} (v : Seeking f g b from i flaw) where
   -- a name that is undefined
   pub seeking-found : i < b → f i ≡ true → 22 ≡ flawOf (anyIn f (b - from) from) (anyIn g (b - from) from)
-  seeking-found h t = rw (← (v .named), any-stop f b i h t)
+  seeking-found h t = rw (← (v .unfound), any-stop f b i h t)
 
   -- an initial that is unfit, and none
   pub seeking-unfit : {worse : ℕ} → i < b → f i ≡ false → g i ≡ true → worse ≡ 23 → Seeking f g b from (i + 1) worse
   seeking-unfit h t u e =
       rw e
       (record {
-        named = sym (any-pass f b i h t)
-            ∙ v .named;
+        unfound = sym (any-pass f b i h t)
+            ∙ v .unfound;
         fit = refl;
         left = sym (or-true-right (ltb 0 flaw) (any-stop g b i h u)) ∙ v .left;
       })
@@ -191,11 +191,11 @@ module _ {f g : ℕ → Bool} {b from i flaw : ℕ} (v : Seeking f g b from i fl
   pub seeking-pass : {same : ℕ} → i < b → f i ≡ false → g i ≡ false → same ≡ flaw → Seeking f g b from (i + 1) same
   seeking-pass h t u e =
       let rest = ap (λ (r : Bool). ltb 0 flaw || r) (sym (any-pass g b i h u)) in
-      rw e (record { named = sym (any-pass f b i h t) ∙ v .named; fit = v .fit; left = rest ∙ v .left })
+      rw e (record { unfound = sym (any-pass f b i h t) ∙ v .unfound; fit = v .fit; left = rest ∙ v .left })
 
   pub seeking-last : b ≤ i → flaw ≡ flawOf (anyIn f (b - from) from) (anyIn g (b - from) from)
   seeking-last h =
-      let none : anyIn f (b - from) from ≡ false = sym (v .named) ∙ any-done f b i h in
+      let none : anyIn f (b - from) from ≡ false = sym (v .unfound) ∙ any-done f b i h in
       let worst : ltb 0 flaw ≡ anyIn g (b - from) from = or-false-right (ltb 0 flaw) (any-done g b i h) ∙ v .left in
       rw (none, ← worst) (v .fit)
 

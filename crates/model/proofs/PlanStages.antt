@@ -27,7 +27,7 @@ use Rattle.drafts.specs.Places.{begins, ends, anyOf}
 use Rattle.laws.specs.Put.{Put}
 use Rattle.model.specs.Places.{keysIn, placesIn, doubles, resolvedAt, resolved, undefinedAt, unfitAt, namesAt}
 use Rattle.model.specs.Places.{nameless}
-use Rattle.model.specs.Places.{isEquation, equationRows, assignedSlots, usedIn, startsFrom, loops}
+use Rattle.model.specs.Places.{isEquation, equatedIn, assignedSlots, usedIn, startsFrom, loops}
 use Rattle.model.specs.Plan.{Lent, lent, withPlaces, PlanOutcome, planOutcome, refused, faulted, some, falls}
 use Rattle.model.specs.Plan.{inTurn, roomy, fit}
 use Rattle.model.specs.Plan.{orderedPlan, weighed, tested, ownSlots, ownUses, linkedPlan, distinct, sheeted}
@@ -126,58 +126,58 @@ module _ {m : ℕ} {starts used array out : List ℕ} {r : Sorted} (v : Sorts m 
   sorts-long = ap length sorts-content ∙ length-sets array 0 inOrder
 
   -- fewer are placed than there are
-  pub sorts-short : {rows faults faults′ : List ℕ} {k c : ℕ} {p : Plan} (n : ℕ) (lines : List ℕ) → r ≡ Placed k → k < m
-      → Holds rows m (take m rows)
-      → Reported (loops (take k out) (take m rows) lines) 0 c faults faults′ → p ≡ refused 7 c
+  pub sorts-short : {equated faults faults′ : List ℕ} {k c : ℕ} {p : Plan} (n : ℕ) (lines : List ℕ) → r ≡ Placed k → k < m
+      → Holds equated m (take m equated)
+      → Reported (loops (take k out) (take m equated) lines) 0 c faults faults′ → p ≡ refused 7 c
       → (slots filled places : List ℕ)
-      → planOutcome p slots filled faults′ (lent places rows out)
-      ≡ orderedPlan inOrder n (take m rows) lines slots filled faults (lent places rows array)
+      → planOutcome p slots filled faults′ (lent places equated out)
+      ≡ orderedPlan inOrder n (take m equated) lines slots filled faults (lent places equated array)
   unfolding orderedPlan
-  sorts-short {rows} {faults} {faults′} {k} {c} n lines e l q u z slots filled places =
+  sorts-short {equated} {faults} {faults′} {k} {c} n lines e l q u z slots filled places =
       let front : take k out ≡ inOrder =
       rw (sorts-content, sorts-count e) (front-row array inOrder (omega (arith, sorts-room, sorts-count e))) in
-      let told : Reported (loops inOrder (take m rows) lines) 0 c faults faults′ = rw front at u in
-      let count : c ≡ length (loops inOrder (take m rows) lines) = omega (arith, told .behind) in
-      rw (lt-ltb (length inOrder) (length (take m rows)) (omega (arith, q .long, sorts-count e)))
-      (outcome-same slots filled (z ∙ ap (refused 7) count) (told .written) (ap (lent places rows) sorts-content))
+      let told : Reported (loops inOrder (take m equated) lines) 0 c faults faults′ = rw front at u in
+      let count : c ≡ length (loops inOrder (take m equated) lines) = omega (arith, told .behind) in
+      rw (lt-ltb (length inOrder) (length (take m equated)) (omega (arith, q .long, sorts-count e)))
+      (outcome-same slots filled (z ∙ ap (refused 7) count) (told .written) (ap (lent places equated) sorts-content))
 
   -- all are placed
-  pub sorts-whole : {rows : List ℕ} {k : ℕ} (n : ℕ) (lines faults : List ℕ) → r ≡ Placed k → m ≤ k
-      → Holds rows m (take m rows)
+  pub sorts-whole : {equated : List ℕ} {k : ℕ} (n : ℕ) (lines faults : List ℕ) → r ≡ Placed k → m ≤ k
+      → Holds equated m (take m equated)
       → (slots filled places : List ℕ)
       → planOutcome (record { number = 0; count = 0; definitions = n; equations = m }) slots filled faults
-      (lent places rows out)
-      ≡ orderedPlan inOrder n (take m rows) lines slots filled faults (lent places rows array)
+      (lent places equated out)
+      ≡ orderedPlan inOrder n (take m equated) lines slots filled faults (lent places equated array)
   unfolding orderedPlan
-  sorts-whole {rows} n lines faults e l q slots filled places =
-      rw (le-ltb (length inOrder) (length (take m rows)) (omega (arith, q .long, sorts-count e)))
+  sorts-whole {equated} n lines faults e l q slots filled places =
+      rw (le-ltb (length inOrder) (length (take m equated)) (omega (arith, q .long, sorts-count e)))
       (outcome-same slots filled
       (ap (λ (b : ℕ). record { number = 0; count = 0; definitions = n; equations = b }) (q .long)) refl
-      (ap (lent places rows) sorts-content))
+      (ap (lent places equated) sorts-content))
 
 -- the equations are no more than the statements
-pub rows-few : (n : ℕ) (bounds kinds : List ℕ) → length (equationRows n bounds kinds) ≤ n
-unfolding equationRows
-rows-few n bounds kinds =
+pub equated-few : (n : ℕ) (bounds kinds : List ℕ) → length (equatedIn n bounds kinds) ≤ n
+unfolding equatedIn
+equated-few n bounds kinds =
     gather-short (λ j. onlyIf (isEquation bounds kinds j) j) (λ j. only-length (isEquation bounds kinds j) j) n 0
 
 -- ---- the table of uses is written
-module _ {lines bounds kinds keys places args slots used used′ starts rows : List ℕ} {m : ℕ} {n : Walk}
+module _ {lines bounds kinds keys places args slots used used′ starts equated : List ℕ} {m : ℕ} {n : Walk}
     (s : Sound lines bounds kinds used)
-    (h : Holds rows m (equationRows (length lines) bounds kinds))
+    (h : Holds equated m (equatedIn (length lines) bounds kinds))
     (k : Linked lines bounds kinds keys places n args slots (replicate (mostStatements + 1) 0) starts used used′) where
   abbrev listed : List ℕ
-  listed = equationRows (length lines) bounds kinds
+  listed = equatedIn (length lines) bounds kinds
 
   abbrev own : List ℕ
   own = assignedSlots listed bounds kinds slots
 
   -- not more is used than there are drafts
   few : length (usedIn own bounds kinds slots listed) ≤ length kinds
-  few = omega (arith, used-few own bounds kinds slots (length lines) (s .rises), s .whole)
+  few = omega (arith, used-few own bounds kinds slots (length lines) (s .rises), s .ended)
 
   m-few : m ≤ mostStatements
-  m-few = omega (arith, h .long, rows-few (length lines) bounds kinds, s .few)
+  m-few = omega (arith, h .long, equated-few (length lines) bounds kinds, s .few)
 
   starts-long : m + 1 ≡ length (startsFrom 0 own bounds kinds slots listed)
   starts-long = omega (arith, starts-length own bounds kinds slots 0 listed, h .long)
@@ -186,12 +186,12 @@ module _ {lines bounds kinds keys places args slots used used′ starts rows : L
   used-long = omega (arith, k .tabled-so .uses .behind)
 
   -- what is weighed stands at the front of two arrays
-  pub weighs : Weighs lines bounds kinds slots m (n .count) starts used′ rows
+  pub weighs : Weighs lines bounds kinds slots m (n .count) starts used′ equated
   weighs =
       record {
         few = s .few;
-        few-rows = m-few;
-        rows-held = h;
+        few-equated = m-few;
+        equated-held = h;
         starts-room =
             omega (
               arith,
@@ -218,31 +218,31 @@ module _ {lines bounds kinds keys places args slots used used′ starts rows : L
       room : length (startsFrom 0 own bounds kinds slots listed) ≤ length (replicate {A = ℕ} (mostStatements + 1) 0)
       room = omega (arith, starts-long, m-few, length-replicate {A = ℕ} (mostStatements + 1) 0)
 
-module _ {lines bounds kinds slots starts used rows : List ℕ} {m w : ℕ}
-    (v : Weighs lines bounds kinds slots m w starts used rows) where
+module _ {lines bounds kinds slots starts used equated : List ℕ} {m w : ℕ}
+    (v : Weighs lines bounds kinds slots m w starts used equated) where
   pub weighed-fit : Fit m (take (m + 1) starts) (take w used)
   weighed-fit =
-      let rows = equationRows (length lines) bounds kinds in
-      rw (v .starts-held, v .used-held, v .rows-held .long)
-      (table-fit rows bounds kinds slots (omega (arith, v .few-rows, v .rows-held .long)))
+      let equated = equatedIn (length lines) bounds kinds in
+      rw (v .starts-held, v .used-held, v .equated-held .long)
+      (table-fit equated bounds kinds slots (omega (arith, v .few-equated, v .equated-held .long)))
 
   pub weighed-by : {p : Plan} {faults′ placed′ : List ℕ} (n : ℕ) (faults placed : List ℕ)
       → ((slots filled places : List ℕ)
-      → planOutcome p slots filled faults′ (lent places rows placed′)
-      ≡ orderedPlan (order m (usesIn (take (m + 1) starts) (take w used))) n (take m rows) lines slots filled faults
-      (lent places rows placed))
+      → planOutcome p slots filled faults′ (lent places equated placed′)
+      ≡ orderedPlan (order m (usesIn (take (m + 1) starts) (take w used))) n (take m equated) lines slots filled faults
+      (lent places equated placed))
       → (places : List ℕ)
-      → planOutcome p slots used faults′ (lent places rows placed′)
-      ≡ weighed (equationRows (length lines) bounds kinds) n lines bounds kinds slots used faults
-      (lent places rows placed)
+      → planOutcome p slots used faults′ (lent places equated placed′)
+      ≡ weighed (equatedIn (length lines) bounds kinds) n lines bounds kinds slots used faults
+      (lent places equated placed)
   unfolding weighed
   weighed-by n faults placed e places = e slots used places ∙ same
     where
-      same : orderedPlan (order m (usesIn (take (m + 1) starts) (take w used))) n (take m rows) lines slots used faults
-          (lent places rows placed)
-          ≡ weighed (equationRows (length lines) bounds kinds) n lines bounds kinds slots used faults
-          (lent places rows placed)
-      same = rw (v .starts-held, v .used-held, v .rows-held .front, v .rows-held .long)
+      same : orderedPlan (order m (usesIn (take (m + 1) starts) (take w used))) n (take m equated) lines slots used faults
+          (lent places equated placed)
+          ≡ weighed (equatedIn (length lines) bounds kinds) n lines bounds kinds slots used faults
+          (lent places equated placed)
+      same = rw (v .starts-held, v .used-held, v .equated-held .front, v .equated-held .long)
 
 -- ---- a name in an expression has a slot
 slotted : (keys kinds args : List ℕ) → length keys ≤ mostDefinitions → length kinds ≤ length args
@@ -311,7 +311,7 @@ module _ {lines bounds kinds args used keys places : List ℕ} (k : Keyed lines 
     doubled =
         let s = k .sound in
         let same : repeated lines bounds keys places ≡ doubles lines bounds kinds args =
-        ap₂ (repeated lines bounds) (k .named) (k .placed)
+        ap₂ (repeated lines bounds) (k .keys-so) (k .placed)
         ∙ repeated-doubles kinds args lines bounds (s .rises) (ends-within s) in
         rw same at v
 
@@ -334,21 +334,21 @@ module _ {lines bounds kinds args used keys places : List ℕ} (k : Keyed lines 
         rw (f .1) (e ∙ same)
 
   -- with the equations written, the names resolved, and what is used tabled
-  module _ {slots starts used′ rows rows′ : List ℕ} {n : Link}
-      (r : Links lines bounds kinds keys places n args slots used used′ rows rows′ starts)
-      (room : mostStatements ≤ length rows) where
+  module _ {slots starts used′ equated equated′ : List ℕ} {n : Link}
+      (r : Links lines bounds kinds keys places n args slots used used′ equated equated′ starts)
+      (room : mostStatements ≤ length equated) where
     abbrev table : Linked lines bounds kinds keys places (record { count = n .used; flawed = n .flawed }) args slots
         (replicate (mostStatements + 1) 0) starts used used′
     table = r .linked
 
-    equations-held : Holds rows′ (n .equations) (equationRows (length lines) bounds kinds)
-    equations-held = holds-put (r .equations-put) (omega (arith, rows-few (length lines) bounds kinds, k .sound .few))
+    equations-held : Holds equated′ (n .equations) (equatedIn (length lines) bounds kinds)
+    equations-held = holds-put (r .equations-put) (omega (arith, equated-few (length lines) bounds kinds, k .sound .few))
 
-    pub placeable : Weighs lines bounds kinds slots (n .equations) (n .used) starts used′ rows′
+    pub placeable : Weighs lines bounds kinds slots (n .equations) (n .used) starts used′ equated′
     placeable = weighs (k .sound) equations-held table
 
     same-slots : slots ≡ resolved (keysIn kinds args) kinds args
-    same-slots = table .resolved-so .same ∙ ap (λ (a : List ℕ). resolved a kinds args) (k .named)
+    same-slots = table .resolved-so .same ∙ ap (λ (a : List ℕ). resolved a kinds args) (k .keys-so)
 
     -- the search for 22 and 23 can be made
     pub searched : Searched lines bounds kinds slots places (n .flawed)
@@ -357,15 +357,15 @@ module _ {lines bounds kinds args used keys places : List ℕ} (k : Keyed lines 
     -- what is found of the names is found of the plan
     linked-by : {p : Plan} {faults′ : List ℕ} {l′ : Lent} (faults places₀ placed : List ℕ)
         → planOutcome p slots used′ faults′ l′ ≡ tested (placesIn kinds) lines bounds kinds slots used′ faults
-        (lent places₀ rows′ placed)
+        (lent places₀ equated′ placed)
         → planOutcome p slots used′ faults′ l′
         ≡ linkedPlan (placesIn kinds) lines bounds kinds (resolved (keysIn kinds args) kinds args) used faults
-        (lent places₀ rows placed)
+        (lent places₀ equated placed)
     unfolding linkedPlan
     linked-by {p} {faults′} {l′} faults places₀ placed e =
         planOutcome p slots used′ faults′ l′ ≡⟨ e ⟩
-        rest used′ slots rows′ ≡⟨ ap (λ (u : List ℕ). rest u slots rows′) (table .tabled-so .uses .written) ⟩
-        rest (uses slots) slots rows′ ≡⟨ ap (rest (uses slots) slots) (r .equations-put .written) ⟩
+        rest used′ slots equated′ ≡⟨ ap (λ (u : List ℕ). rest u slots equated′) (table .tabled-so .uses .written) ⟩
+        rest (uses slots) slots equated′ ≡⟨ ap (rest (uses slots) slots) (r .equations-put .written) ⟩
         rest (uses slots) slots equations ≡⟨ ap (λ (a : List ℕ). rest (uses a) a equations) same-slots ⟩
         rest (uses (resolved (keysIn kinds args) kinds args)) (resolved (keysIn kinds args) kinds args) equations ∎
       where
@@ -377,7 +377,7 @@ module _ {lines bounds kinds args used keys places : List ℕ} (k : Keyed lines 
         uses a = sets used 0 (ownUses (length lines) bounds kinds a)
 
         equations : List ℕ
-        equations = sets rows 0 (equationRows (length lines) bounds kinds)
+        equations = sets equated 0 (equatedIn (length lines) bounds kinds)
 
     module _ {faults faults′ : List ℕ} {c : ℕ}
         (v : Reported (nameless places lines bounds kinds slots) 0 c faults faults′) (places₀ placed : List ℕ) where
@@ -385,31 +385,31 @@ module _ {lines bounds kinds args used keys places : List ℕ} (k : Keyed lines 
       reported = rw (k .placed) at v
 
       pub tested-fault : {p : Plan} → 0 < c → p ≡ refused 7 c
-          → planOutcome p slots used′ faults′ (lent places₀ rows′ placed)
+          → planOutcome p slots used′ faults′ (lent places₀ equated′ placed)
           ≡ linkedPlan (placesIn kinds) lines bounds kinds (resolved (keysIn kinds args) kinds args) used faults
-          (lent places₀ rows placed)
+          (lent places₀ equated placed)
       unfolding tested
       tested-fault h e =
-          let l = lent places₀ rows′ placed in
-          let rest = weighed (equationRows (length lines) bounds kinds)
+          let l = lent places₀ equated′ placed in
+          let rest = weighed (equatedIn (length lines) bounds kinds)
           (length (placesIn kinds)) lines bounds kinds slots used′ faults l in
           linked-by faults places₀ placed (faults-stand reported slots used′ l rest h e)
 
       pub tested-none : {p : Plan} {b : ℕ} {faults″ placed′ : List ℕ} → b ≡ length places → c ≤ 0
-          → planOutcome p slots used′ faults″ (lent places₀ rows′ placed′)
-          ≡ weighed (equationRows (length lines) bounds kinds) b lines bounds kinds slots used′ faults′
-          (lent places₀ rows′ placed)
-          → planOutcome p slots used′ faults″ (lent places₀ rows′ placed′)
+          → planOutcome p slots used′ faults″ (lent places₀ equated′ placed′)
+          ≡ weighed (equatedIn (length lines) bounds kinds) b lines bounds kinds slots used′ faults′
+          (lent places₀ equated′ placed)
+          → planOutcome p slots used′ faults″ (lent places₀ equated′ placed′)
           ≡ linkedPlan (placesIn kinds) lines bounds kinds (resolved (keysIn kinds args) kinds args) used faults
-          (lent places₀ rows placed)
+          (lent places₀ equated placed)
       unfolding tested
       tested-none q h e =
           let f = faults-none reported h in
-          let rows = equationRows (length lines) bounds kinds in
+          let equated = equatedIn (length lines) bounds kinds in
           let count = q ∙ ap length (k .placed) in
           let same =
           ap₂
-          (λ (b : ℕ) (list : List ℕ). weighed rows b lines bounds kinds slots used′ list (lent places₀ rows′ placed))
+          (λ (b : ℕ) (list : List ℕ). weighed equated b lines bounds kinds slots used′ list (lent places₀ equated′ placed))
           count (f .0) in
           linked-by faults places₀ placed (rw (f .1) (e ∙ same))
 
@@ -417,10 +417,10 @@ module _ {lines bounds kinds args used keys places : List ℕ} (k : Keyed lines 
 module _ {kinds args keys places places′ : List ℕ} {n : ℕ}
     (v : Collected kinds args n (replicate mostDefinitions 0) keys places places′) where
   counted : n ≡ length (keysIn kinds args)
-  counted = omega (arith, v .named .behind)
+  counted = omega (arith, v .keys-so .behind)
 
   keys-room : n ≤ mostDefinitions → n ≤ length keys
-  keys-room h = omega (arith, ap length (v .named .written), front-length mostDefinitions (keysIn kinds args))
+  keys-room h = omega (arith, ap length (v .keys-so .written), front-length mostDefinitions (keysIn kinds args))
 
   pub keys-front : n ≤ mostDefinitions → n ≡ length (take n keys)
   keys-front h = prefix-length n keys (keys-room h)
@@ -428,7 +428,7 @@ module _ {kinds args keys places places′ : List ℕ} {n : ℕ}
   keys-row : n ≤ mostDefinitions → take n keys ≡ keysIn kinds args
   keys-row h =
       let l = length-replicate {A = ℕ} mostDefinitions 0 in
-      rw (v .named .written, counted)
+      rw (v .keys-so .written, counted)
       (front-row (replicate mostDefinitions 0) (keysIn kinds args) (omega (arith, counted)))
 
   pub places-held : n ≤ mostDefinitions → mostDefinitions ≤ length places → Holds places′ n (placesIn kinds)
@@ -445,48 +445,48 @@ module _ {kinds args keys places places′ : List ℕ} {n : ℕ}
         sound = s;
         wide = w;
         few = omega (arith, ap length (keys-row h), counted);
-        named = keys-row h;
+        keys-so = keys-row h;
         placed = places-held h r .front;
       }
 
   -- the places are written
-  arrays : (rows order : List ℕ) → lent places′ rows order ≡ withPlaces (placesIn kinds) (lent places rows order)
-  arrays rows order = ap (λ (a : List ℕ). lent a rows order) (v .placed .written)
+  arrays : (equated order : List ℕ) → lent places′ equated order ≡ withPlaces (placesIn kinds) (lent places equated order)
+  arrays equated order = ap (λ (a : List ℕ). lent a equated order) (v .placed .written)
 
-  module _ {p : Plan} (lines bounds used faults rows order : List ℕ) where
+  module _ {p : Plan} (lines bounds used faults equated order : List ℕ) where
     pub sheeted-many : mostDefinitions < n → p ≡ refused 6 0
-        → planOutcome p args used faults (lent places′ rows order) ≡ sheeted lines bounds kinds args used faults
-        (lent places rows order)
+        → planOutcome p args used faults (lent places′ equated order) ≡ sheeted lines bounds kinds args used faults
+        (lent places equated order)
     unfolding sheeted
     sheeted-many h e =
         rw (lt-ltb mostDefinitions (length (keysIn kinds args)) (omega (arith, counted)))
-        (outcome-same args used e refl (arrays rows order))
+        (outcome-same args used e refl (arrays equated order))
 
     pub sheeted-few : {args′ used′ faults′ : List ℕ} {l′ : Lent} → n ≤ mostDefinitions
-        → planOutcome p args′ used′ faults′ l′ ≡ distinct lines bounds kinds args used faults (lent places′ rows order)
-        → planOutcome p args′ used′ faults′ l′ ≡ sheeted lines bounds kinds args used faults (lent places rows order)
+        → planOutcome p args′ used′ faults′ l′ ≡ distinct lines bounds kinds args used faults (lent places′ equated order)
+        → planOutcome p args′ used′ faults′ l′ ≡ sheeted lines bounds kinds args used faults (lent places equated order)
     unfolding sheeted
     sheeted-few h e =
         rw (le-ltb mostDefinitions (length (keysIn kinds args)) (omega (arith, counted)))
-        (e ∙ ap (distinct lines bounds kinds args used faults) (arrays rows order))
+        (e ∙ ap (distinct lines bounds kinds args used faults) (arrays equated order))
 
 -- ---- the arrays fit, or they do not
-pub fit-sound : (lines bounds kinds used rows order : List ℕ) (args faults places : ℕ)
-    → fit lines bounds kinds args (length used) faults places (length rows) (length order) ≡ true
-    → Sound lines bounds kinds used × (length kinds ≤ args) × (mostDefinitions ≤ places) × Wide rows order
+pub fit-sound : (lines bounds kinds used equated order : List ℕ) (args faults places : ℕ)
+    → fit lines bounds kinds args (length used) faults places (length equated) (length order) ≡ true
+    → Sound lines bounds kinds used × (length kinds ≤ args) × (mostDefinitions ≤ places) × Wide equated order
 unfolding fit roomy inTurn
-fit-sound lines bounds kinds used rows order args faults places e =
+fit-sound lines bounds kinds used equated order args faults places e =
     let a = and-true (leb (length lines) mostStatements) _ e in
     let b = and-true (eqb (length bounds) (length lines + 1)) _ (a .1) in
     let c = and-true (leb (length kinds) textBytes) _ (b .1) in
     let d = and-true (leb (length kinds) args) _ (c .1) in
     let f = and-true (leb (length kinds) (length used)) _ (d .1) in
     let g = and-true (leb (faultBytes * length lines) faults) _ (f .1) in
-    let w = and-true (roomy places (length rows) (length order)) _ (g .1) in
+    let w = and-true (roomy places (length equated) (length order)) _ (g .1) in
     let i = and-true (eqb (begins bounds 0) 0) _ (w .1) in
     let j = and-true (eqb (begins bounds (length lines)) (length kinds)) _ (i .1) in
     let p = and-true (leb mostDefinitions places) _ (w .0) in
-    let q = and-true (leb mostStatements (length rows)) _ (p .1) in
+    let q = and-true (leb mostStatements (length equated)) _ (p .1) in
     let none = any-none (falls bounds) (length lines) 0 (not-true (anyIn (falls bounds) (length lines) 0) (j .1)) in (
       record {
         few = leb-true _ _ (a .0);
@@ -495,17 +495,17 @@ fit-sound lines bounds kinds used rows order args faults places e =
         rises =
             record { rise = λ k h. ltb-false (ends bounds k) (begins bounds k) (none k (omega arith) (omega arith)) };
         first = eqb-true _ _ (i .0);
-        whole = eqb-true _ _ (j .0);
+        ended = eqb-true _ _ (j .0);
       },
       leb-true _ _ (d .0),
       leb-true _ _ (p .0),
-      record { rows-room = leb-true _ _ (q .0); order-room = leb-true _ _ (q .1) },
+      record { equated-room = leb-true _ _ (q .0); order-room = leb-true _ _ (q .1) },
     )
 
 module _ (lines bounds kinds args used faults : List ℕ) (l : Lent) where
   -- whether they fit
   abbrev fitted : Bool
-  fitted = fit lines bounds kinds (length args) (length used) (length faults) (length (l .places)) (length (l .rows))
+  fitted = fit lines bounds kinds (length args) (length used) (length faults) (length (l .places)) (length (l .equated))
       (length (l .order))
 
   pub planned-fit : {p : Plan} {args′ used′ faults′ : List ℕ} {l′ : Lent} → fitted ≡ true

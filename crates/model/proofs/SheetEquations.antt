@@ -1,4 +1,4 @@
--- The rows of a sheet's equations: which statements they are, and what stands there.
+-- Which statements of a sheet are its equations, and what stands there.
 use Prim.Native.Nat.{ℕ, suc, _≤_, _<_}
 use mathlib.Core.Path.{_≡_, refl, sym, ap, _∙_}
 use mathlib.Core.Bool.{Bool, true, false, cond, _||_}
@@ -19,10 +19,10 @@ use Rattle.sheet.specs.Layout.{draftsIn}
 use Rattle.model.specs.Definitions.{Def, definitions, placeIn, Equation, equationOf, equations, noEquation}
 use Rattle.model.specs.Definitions.{equationAt, equationCount}
 use Rattle.drafts.specs.Places.{begins, ends, lastKind}
-use Rattle.model.specs.Places.{isEquation, equationRows, assignedSlot, usedBy, usedAt, usedOfRow}
+use Rattle.model.specs.Places.{isEquation, equatedIn, assignedSlot, usedBy, usedAt, usedByStatement}
 use Rattle.model.proofs.Lines.{no-equations}
 use Rattle.model.proofs.StatementDrafts.{expressionDrafts, expression-names}
-use Rattle.model.proofs.SheetWalk.{sheetKinds, sheetLines, sheetBounds, sheetKeys, sheetSlots, sheetRows, slotOf}
+use Rattle.model.proofs.SheetWalk.{sheetKinds, sheetLines, sheetBounds, sheetKeys, sheetSlots, sheetEquated, slotOf}
 use Rattle.model.proofs.SheetWalk.{kind-at, slot-at, draftsBy, begins-at}
 use Rattle.model.proofs.SheetWalk.{ends-at, line-at, in-statement, last-at}
 use Rattle.model.proofs.SheetKeys.{definedIn}
@@ -67,8 +67,8 @@ module _ (ss : List Numbered) where
   ks = sheetKeys ss
 
   -- statement j is an equation
-  abbrev isRow : ℕ → Bool
-  isRow j = isEquation (sheetBounds ss) (sheetKinds ss) j
+  abbrev isEquated : ℕ → Bool
+  isEquated j = isEquation (sheetBounds ss) (sheetKinds ss) j
 
   module _ (a : List Numbered) (s : Numbered) (b : List Numbered) (p : ss ≡ a ++ s ∷ b) where
     abbrev begin : ℕ
@@ -84,14 +84,14 @@ module _ (ss : List Numbered) where
 
     -- it says whether the statement is an equation
     ends-with : (m : List Draft) (z : Draft) → draftsBy s ≡ m ++ (z ∷ [])
-        → isRow (length a) ≡ (eqb (z .kind) 13 || eqb (z .kind) 14)
+        → isEquated (length a) ≡ (eqb (z .kind) 13 || eqb (z .kind) 14)
     ends-with m z e =
         let l : begin < end =
         omega (arith, begins-at ss a s b p, ends-at ss a s b p, ap length e, length-append m (z ∷ [])) in
         rw (lt-ltb begin end l, last-kind m z e)
 
     -- assignments and state statements are, constants are not
-    is-equation : (x : Says) → s .says ≡ x → isRow (length a) ≡ speaks x
+    is-equation : (x : Says) → s .says ≡ x → isEquated (length a) ≡ speaks x
     unfolding concat-map
     is-equation (constants []) e =
         let l : end ≤ begin =
@@ -103,45 +103,45 @@ module _ (ss : List Numbered) where
     is-equation (state k i t) e = ends-with (stateFront k i t) (draft kindRate k) (ap draftsOf e)
 
   -- WHAT STANDS AT EACH ROW: h gives at each equation's statement what H says of the equation
-  pub rows-by : {B : Type 0} (h : ℕ → B) (H : Equation → B)
+  pub equated-by : {B : Type 0} (h : ℕ → B) (H : Equation → B)
       → ((a : List Numbered) (s : Numbered) (b : List Numbered) → ss ≡ a ++ s ∷ b → (k : ℕ) (t : Tree)
       → s .says ≡ assignment k t
       → h (length a) ≡ H (equation (s .line) k false t))
       → ((a : List Numbered) (s : Numbered) (b : List Numbered) → ss ≡ a ++ s ∷ b → (k : ℕ) (i : Initial) (t : Tree)
       → s .says ≡ state k i t
       → h (length a) ≡ H (equation (s .line) k true t))
-      → map h (sheetRows ss) ≡ map H (equations ds)
-  unfolding equationRows concat-map
-  rows-by h H one two =
+      → map h (sheetEquated ss) ≡ map H (equations ds)
+  unfolding equatedIn concat-map
+  equated-by h H one two =
       rw (length-map ss (λ (s : Numbered). s .line))
-      (map-gather h (λ j. onlyIf (isRow j) j) (length ss) 0
-      ∙ gather-over (λ j. map h (onlyIf (isRow j) j)) (λ s. map H (equations (definedIn s))) ss
+      (map-gather h (λ j. onlyIf (isEquated j) j) (length ss) 0
+      ∙ gather-over (λ j. map h (onlyIf (isEquated j) j)) (λ s. map H (equations (definedIn s))) ss
       (λ a s b p. go a s b p (s .says) refl)
       ∙ sym (ap (map H) (concat-concat (λ (d : Def). equationOf (d .line) (d .key) (d .what)) definedIn ss)
       ∙ map-concat H (λ s. equations (definedIn s)) ss))
     where
       go : (a : List Numbered) (s : Numbered) (b : List Numbered) → ss ≡ a ++ s ∷ b → (x : Says) → s .says ≡ x
-          → map h (onlyIf (isRow (length a)) (length a)) ≡ map H (equations (definedIn s))
+          → map h (onlyIf (isEquated (length a)) (length a)) ≡ map H (equations (definedIn s))
       go a s b p (constants cs) e = rw (is-equation a s b p (constants cs) e, e, no-equations (s .line) cs)
       go a s b p (assignment k t) e =
           rw (is-equation a s b p (assignment k t) e, e) (ap (λ x. x ∷ []) (one a s b p k t e))
       go a s b p (state k i t) e = rw (is-equation a s b p (state k i t) e, e) (ap (λ x. x ∷ []) (two a s b p k i t e))
 
-  -- .. and so at one row
-  pub row-at : {B : Type 0} (h : ℕ → B) (H : Equation → B) → map h (sheetRows ss) ≡ map H (equations ds)
-      → (r : ℕ) → r < length (sheetRows ss) → h (getD (sheetRows ss) r 0) ≡ H (equationAt ds r)
-  row-at h H e r l = same-at h H (sheetRows ss) (equations ds) 0 noEquation e r l
+  -- .. and so at one of them
+  pub equated-at : {B : Type 0} (h : ℕ → B) (H : Equation → B) → map h (sheetEquated ss) ≡ map H (equations ds)
+      → (r : ℕ) → r < length (sheetEquated ss) → h (getD (sheetEquated ss) r 0) ≡ H (equationAt ds r)
+  equated-at h H e r l = same-at h H (sheetEquated ss) (equations ds) 0 noEquation e r l
 
   -- THE LINES of the equations
-  pub row-lines : map (λ j. getD (sheetLines ss) j 0) (sheetRows ss) ≡ map (λ (e : Equation). e .line) (equations ds)
-  row-lines =
-      rows-by (λ j. getD (sheetLines ss) j 0) (λ (e : Equation). e .line) (λ a s b p k t e. line-at ss a s b p)
+  pub equated-lines : map (λ j. getD (sheetLines ss) j 0) (sheetEquated ss) ≡ map (λ (e : Equation). e .line) (equations ds)
+  equated-lines =
+      equated-by (λ j. getD (sheetLines ss) j 0) (λ (e : Equation). e .line) (λ a s b p k t e. line-at ss a s b p)
       (λ a s b p k i t e. line-at ss a s b p)
 
   -- HOW MANY they are
-  pub rows-length : length (sheetRows ss) ≡ equationCount ds
-  rows-length =
-      same-length (λ j. getD (sheetLines ss) j 0) (λ (e : Equation). e .line) (sheetRows ss) (equations ds) row-lines
+  pub equated-length : length (sheetEquated ss) ≡ equationCount ds
+  equated-length =
+      same-length (λ j. getD (sheetLines ss) j 0) (λ (e : Equation). e .line) (sheetEquated ss) (equations ds) equated-lines
 
   -- ---- what each equation assigns
   abbrev assignedAt : ℕ → ℕ
@@ -154,16 +154,16 @@ module _ (ss : List Numbered) where
   last-slot a s b p m z e = rw (last-kind a s b p m z e, slot-at ks (draftsIn ss) _, last-at ss a s b p m z e)
 
   -- THE SLOTS that the equations assign
-  pub row-slots : map assignedAt (sheetRows ss) ≡ map (slotFor ks) (equations ds)
-  row-slots =
-      rows-by assignedAt (slotFor ks)
+  pub equated-slots : map assignedAt (sheetEquated ss) ≡ map (slotFor ks) (equations ds)
+  equated-slots =
+      equated-by assignedAt (slotFor ks)
       (λ a s b p k t e. last-slot a s b p (expressionDrafts t) (draft kindStore k) (ap draftsOf e))
       (λ a s b p k i t e. last-slot a s b p (stateFront k i t) (draft kindRate k) (ap draftsOf e))
 
   -- ---- what each equation uses, by the slots that are assigned
   module _ (assigned : List ℕ) where
     abbrev usedIn : ℕ → List ℕ
-    usedIn j = usedOfRow assigned (sheetBounds ss) (sheetKinds ss) (sheetSlots ss) j
+    usedIn j = usedByStatement assigned (sheetBounds ss) (sheetKinds ss) (sheetSlots ss) j
 
     -- of a draft
     abbrev usedByDraft : Draft → List ℕ
@@ -185,16 +185,16 @@ module _ (ss : List Numbered) where
     used-state k (from c) t = used-ending t 14 k refl
 
     -- of a statement of the sheet
-    used-row : (a : List Numbered) (s : Numbered) (b : List Numbered) → ss ≡ a ++ s ∷ b
+    used-statement : (a : List Numbered) (s : Numbered) (b : List Numbered) → ss ≡ a ++ s ∷ b
         → usedIn (length a) ≡ concat-map usedByDraft (draftsBy s)
-    used-row a s b p =
+    used-statement a s b p =
         in-statement ss a s b p (usedAt assigned (sheetKinds ss) (sheetSlots ss)) usedByDraft
         (λ i. rw (kind-at (draftsIn ss) i, slot-at ks (draftsIn ss) i))
 
     -- THE USES of the equations
-    pub row-uses : map usedIn (sheetRows ss)
+    pub uses-equated : map usedIn (sheetEquated ss)
         ≡ map (λ (e : Equation). usedByNames assigned ks (names (e .tree))) (equations ds)
-    row-uses =
-        rows-by usedIn (λ (e : Equation). usedByNames assigned ks (names (e .tree)))
-        (λ a s b p k t e. used-row a s b p ∙ ap (λ x. concat-map usedByDraft (draftsOf x)) e ∙ used-ending t 13 k refl)
-        (λ a s b p k i t e. used-row a s b p ∙ ap (λ x. concat-map usedByDraft (draftsOf x)) e ∙ used-state k i t)
+    uses-equated =
+        equated-by usedIn (λ (e : Equation). usedByNames assigned ks (names (e .tree)))
+        (λ a s b p k t e. used-statement a s b p ∙ ap (λ x. concat-map usedByDraft (draftsOf x)) e ∙ used-ending t 13 k refl)
+        (λ a s b p k i t e. used-statement a s b p ∙ ap (λ x. concat-map usedByDraft (draftsOf x)) e ∙ used-state k i t)

@@ -26,12 +26,12 @@ use Rattle.model.specs.Definitions.{Def, definitions, keys, placeIn, Equ
 use Rattle.model.specs.Definitions.{equationCount}
 use Rattle.model.specs.Faults.{faultIf, usesIn, fault24, faults24, orderOf}
 use Rattle.model.specs.Places.{usedBy, loopAt, loops}
-use Rattle.model.proofs.SheetWalk.{sheetKinds, sheetLines, sheetBounds, sheetSlots, sheetRows}
+use Rattle.model.proofs.SheetWalk.{sheetKinds, sheetLines, sheetBounds, sheetSlots, sheetEquated}
 use Rattle.model.proofs.KeyPlaces.{Once, place-in, place-at, place-same, at-same, equationKeys, count-keys}
 use Rattle.model.proofs.KeyPlaces.{key-at, equations-once}
-use Rattle.model.proofs.UsesFit.{assignedOf, usesOf, usedOf, table-row}
-use Rattle.model.proofs.SheetEquations.{slotFor, usedByNames, row-lines, rows-length, row-at, row-slots}
-use Rattle.model.proofs.SheetEquations.{row-uses}
+use Rattle.model.proofs.UsesFit.{assignedOf, usesOf, usedOf, table-equated}
+use Rattle.model.proofs.SheetEquations.{slotFor, usedByNames, equated-lines, equated-length, equated-at, equated-slots}
+use Rattle.model.proofs.SheetEquations.{uses-equated}
 
 -- a number below m that may be taken is the one taken
 has-only : (j p m : ℕ) → j < m → has j (onlyIf (ltb p m) p) ≡ eqb j p
@@ -140,40 +140,40 @@ module _ (ss : List Numbered) where
 
   -- what the sheet's table says that equation i uses
   abbrev sheetUsed : ℕ → List ℕ
-  sheetUsed i = usedOf (sheetBounds ss) (sheetKinds ss) (sheetSlots ss) (sheetRows ss) i
+  sheetUsed i = usedOf (sheetBounds ss) (sheetKinds ss) (sheetSlots ss) (sheetEquated ss) i
 
   module _ (distinct : Once (keys defs)) where
     -- THE TABLE
-    pub uses-of : (i j : ℕ) → i < length (sheetRows ss) → j < length (sheetRows ss)
+    pub uses-of : (i j : ℕ) → i < length (sheetEquated ss) → j < length (sheetEquated ss)
         → has j (sheetUsed i) ≡ usesIn defs i j
     uses-of i j h l =
         let ks = keys defs in
-        let f = usesOf (sheetBounds ss) (sheetKinds ss) (sheetSlots ss) (sheetRows ss) in
-        let taken = assignedOf (sheetBounds ss) (sheetKinds ss) (sheetSlots ss) (sheetRows ss) in
-        let u = row-at ss f (λ (e : Equation). usedByNames taken ks (names (e .tree))) (row-uses ss taken) i h in
-        let m : j < equationCount defs = omega (arith, rows-length ss) in
-        ap (has j) (table-row (sheetBounds ss) (sheetKinds ss) (sheetSlots ss) (sheetRows ss) i h ∙ u)
-        ∙ ap (λ x. has j (usedByNames x ks (names (equationAt defs i .tree)))) (row-slots ss)
+        let f = usesOf (sheetBounds ss) (sheetKinds ss) (sheetSlots ss) (sheetEquated ss) in
+        let taken = assignedOf (sheetBounds ss) (sheetKinds ss) (sheetSlots ss) (sheetEquated ss) in
+        let u = equated-at ss f (λ (e : Equation). usedByNames taken ks (names (e .tree))) (uses-equated ss taken) i h in
+        let m : j < equationCount defs = omega (arith, equated-length ss) in
+        ap (has j) (table-equated (sheetBounds ss) (sheetKinds ss) (sheetSlots ss) (sheetEquated ss) i h ∙ u)
+        ∙ ap (λ x. has j (usedByNames x ks (names (equationAt defs i .tree)))) (equated-slots ss)
         ∙ uses-names defs distinct j m (names (equationAt defs i .tree))
 
     -- THE ORDER
-    pub order-of : order (length (sheetRows ss)) (λ i j. has j (sheetUsed i)) ≡ orderOf defs
+    pub order-of : order (length (sheetEquated ss)) (λ i j. has j (sheetUsed i)) ≡ orderOf defs
     order-of =
-        order-same (length (sheetRows ss)) (λ i j. has j (sheetUsed i)) (usesIn defs) uses-of
-        ∙ ap (λ n. order n (usesIn defs)) (rows-length ss)
+        order-same (length (sheetEquated ss)) (λ i j. has j (sheetUsed i)) (usesIn defs) uses-of
+        ∙ ap (λ n. order n (usesIn defs)) (equated-length ss)
 
   -- 24
-  pub loops-of : loops (orderOf defs) (sheetRows ss) (sheetLines ss) ≡ faults24 defs
+  pub loops-of : loops (orderOf defs) (sheetEquated ss) (sheetLines ss) ≡ faults24 defs
   unfolding loops
   loops-of =
       let n = equationCount defs in
-      rw (rows-length ss)
-      (gather-same (loopAt (orderOf defs) (sheetRows ss) (sheetLines ss)) (fault24 defs) n 0 one
+      rw (equated-length ss)
+      (gather-same (loopAt (orderOf defs) (sheetEquated ss) (sheetLines ss)) (fault24 defs) n 0 one
       ∙ gather-numbers (fault24 defs) n 0)
     where
       one : (r : ℕ) → 0 ≤ r → r < 0 + equationCount defs
-          → loopAt (orderOf defs) (sheetRows ss) (sheetLines ss) r ≡ fault24 defs r
+          → loopAt (orderOf defs) (sheetEquated ss) (sheetLines ss) r ≡ fault24 defs r
       one r _ h =
-          let l = row-at ss (λ j. getD (sheetLines ss) j 0) (λ (e : Equation). e .line) (row-lines ss) r
-          (omega (arith, rows-length ss)) in
+          let l = equated-at ss (λ j. getD (sheetLines ss) j 0) (λ (e : Equation). e .line) (equated-lines ss) r
+          (omega (arith, equated-length ss)) in
           ap₂ (λ b n. faultIf b n 24) (left-over-unsortable (equationCount defs) (usesIn defs) r (omega arith)) l

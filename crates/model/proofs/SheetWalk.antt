@@ -17,7 +17,7 @@ use Rattle.sheet.specs.Sheet.{Numbered}
 use Rattle.sheet.specs.Layout.{draftsIn, boundsFrom}
 use Rattle.model.specs.Definitions.{definitions, keys}
 use Rattle.drafts.specs.Places.{begins, ends, inStatement, anyOf}
-use Rattle.model.specs.Places.{placesIn, resolvedAt, resolved, equationRows}
+use Rattle.model.specs.Places.{placesIn, resolvedAt, resolved, equatedIn}
 use Rattle.model.proofs.StatementDrafts.{noDraft}
 
 -- ---- the arrays of drafts: kinds and arguments
@@ -47,7 +47,7 @@ sheetLines ss = map (λ (s : Numbered). s .line) ss
 abbrev pub sheetBounds : List Numbered → List ℕ
 sheetBounds ss = boundsFrom 0 ss
 
--- the keys of their definitions, and what is worked out from the arrays: slots, places of definitions, rows of
+-- the keys of their definitions, and what is worked out from the arrays: slots, places of definitions, numbers of
 -- equations
 abbrev pub sheetKeys : List Numbered → List ℕ
 sheetKeys ss = keys (definitions ss)
@@ -58,8 +58,8 @@ sheetSlots ss = slotsOf (sheetKeys ss) (draftsIn ss)
 abbrev pub sheetPlaces : List Numbered → List ℕ
 sheetPlaces ss = placesIn (sheetKinds ss)
 
-abbrev pub sheetRows : List Numbered → List ℕ
-sheetRows ss = equationRows (length (sheetLines ss)) (sheetBounds ss) (sheetKinds ss)
+abbrev pub sheetEquated : List Numbered → List ℕ
+sheetEquated ss = equatedIn (length (sheetLines ss)) (sheetBounds ss) (sheetKinds ss)
 
 -- ---- what stands at a place: the kind
 pub kind-at : (ds : List Draft) (i : ℕ) → getD (kindsOf ds) i 0 ≡ getD ds i noDraft .kind

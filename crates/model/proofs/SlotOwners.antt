@@ -24,11 +24,11 @@ map-at f (a ∷ l) zero h = refl
 map-at f (a ∷ l) (suc i) h = map-at f l i (omega arith)
 
 -- the slot that equation r assigns, as it was read
-pub assigned-at : (rows bounds kinds slots : List ℕ) (r : ℕ) {s j : ℕ} → r < length rows
-    → s ≡ assignedSlot bounds kinds slots j → j ≡ getD rows r 0
-    → s ≡ getD (assignedSlots rows bounds kinds slots) r 0
-assigned-at rows bounds kinds slots r h p q =
-    p ∙ ap (assignedSlot bounds kinds slots) q ∙ sym (map-at (assignedSlot bounds kinds slots) rows r h)
+pub assigned-at : (equated bounds kinds slots : List ℕ) (r : ℕ) {s j : ℕ} → r < length equated
+    → s ≡ assignedSlot bounds kinds slots j → j ≡ getD equated r 0
+    → s ≡ getD (assignedSlots equated bounds kinds slots) r 0
+assigned-at equated bounds kinds slots r h p q =
+    p ∙ ap (assignedSlot bounds kinds slots) q ∙ sym (map-at (assignedSlot bounds kinds slots) equated r h)
 
 -- the owner of slot s among the slots from place r on
 abbrev ownerFrom : ℕ → List ℕ → ℕ → ℕ
@@ -67,11 +67,11 @@ owning-first assigned {owners} e =
     }
 
 -- before the last equation
-pub owning-start : (rows bounds kinds slots : List ℕ) {owners : List ℕ} → owners ≡ replicate (mostStatements + 1) 0
-    → Owning (assignedSlots rows bounds kinds slots) (length rows) owners
-owning-start rows bounds kinds slots {owners} e =
-    let assigned = assignedSlots rows bounds kinds slots in
-    rw (length-map rows (assignedSlot bounds kinds slots)) at (owning-first assigned {owners = owners} e)
+pub owning-start : (equated bounds kinds slots : List ℕ) {owners : List ℕ} → owners ≡ replicate (mostStatements + 1) 0
+    → Owning (assignedSlots equated bounds kinds slots) (length equated) owners
+owning-start equated bounds kinds slots {owners} e =
+    let assigned = assignedSlots equated bounds kinds slots in
+    rw (length-map equated (assignedSlot bounds kinds slots)) at (owning-first assigned {owners = owners} e)
 
 module _ {assigned owners : List ℕ} {r : ℕ} (v : Owning assigned r owners) where
   pub owning-next : {a : ℕ} {owners′ : List ℕ} → 0 < r → a ≡ getD assigned (r - 1) 0 → owners′ ≡ set owners a r
@@ -130,10 +130,10 @@ owner-used assigned owners s e = rw e (go (ltb (placeIn s assigned) (length assi
 pub used-same : {assigned owners kinds slots : List ℕ} → Owned assigned owners → Slotted kinds slots → (i : ℕ)
     → usedFrom owners kinds slots i ≡ usedAt assigned kinds slots i
 used-same {assigned} {owners} {kinds} {slots} o s i =
-    ⊎-elim (λ (e : getD kinds i 0 ≡ kindFetch). named e)
+    ⊎-elim (λ (e : getD kinds i 0 ≡ kindFetch). fetched e)
     (λ (n : getD kinds i 0 ≡ kindFetch → ⊥). rw (ne-eqb (getD kinds i 0) kindFetch n)) (eq-or-ne (getD kinds i 0) 4)
   where
-    named : getD kinds i 0 ≡ kindFetch → usedFrom owners kinds slots i ≡ usedAt assigned kinds slots i
-    named e =
+    fetched : getD kinds i 0 ≡ kindFetch → usedFrom owners kinds slots i ≡ usedAt assigned kinds slots i
+    fetched e =
         rw (eq-eqb (getD kinds i 0) kindFetch e)
         (owner-used assigned owners (getD slots i 0) (o .owner (getD slots i 0) (omega (arith, o .long, s .slot i e))))

@@ -13,71 +13,71 @@ use Rattle.laws.proofs.Along.{startsAt, part-at}
 use Rattle.laws.proofs.Members.{Below, below-concat, below-gather, below-only}
 use Rattle.drafts.specs.Kinds.{kindFetch}
 use Rattle.model.specs.Definitions.{placeIn}
-use Rattle.model.specs.Places.{assignedSlot, assignedSlots, usedBy, usedAt, usedOfRow, usedIn, startsFrom}
+use Rattle.model.specs.Places.{assignedSlot, assignedSlots, usedBy, usedAt, usedByStatement, usedIn, startsFrom}
 
--- the starts are where each row's uses begin
-starts-at : (o : ℕ) (assigned bounds kinds slots rows : List ℕ)
-    → startsFrom o assigned bounds kinds slots rows ≡ startsAt (usedOfRow assigned bounds kinds slots) o rows
+-- the starts are where the uses of each equation begin
+starts-at : (o : ℕ) (assigned bounds kinds slots equated : List ℕ)
+    → startsFrom o assigned bounds kinds slots equated ≡ startsAt (usedByStatement assigned bounds kinds slots) o equated
 unfolding startsFrom startsAt
 starts-at o assigned bounds kinds slots [] = refl
-starts-at o assigned bounds kinds slots (j ∷ rows) =
-    ap (_∷_ o) (starts-at (o + length (usedOfRow assigned bounds kinds slots j)) assigned bounds kinds slots rows)
+starts-at o assigned bounds kinds slots (j ∷ equated) =
+    ap (_∷_ o) (starts-at (o + length (usedByStatement assigned bounds kinds slots j)) assigned bounds kinds slots equated)
 
--- the uses of all rows
-used-at : (assigned bounds kinds slots rows : List ℕ)
-    → usedIn assigned bounds kinds slots rows ≡ concat-map (usedOfRow assigned bounds kinds slots) rows
+-- the uses of all equations
+used-at : (assigned bounds kinds slots equated : List ℕ)
+    → usedIn assigned bounds kinds slots equated ≡ concat-map (usedByStatement assigned bounds kinds slots) equated
 unfolding usedIn concat-map
 used-at assigned bounds kinds slots [] = refl
-used-at assigned bounds kinds slots (j ∷ rows) =
-    ap (λ r. usedOfRow assigned bounds kinds slots j ++ r) (used-at assigned bounds kinds slots rows)
+used-at assigned bounds kinds slots (j ∷ equated) =
+    ap (λ r. usedByStatement assigned bounds kinds slots j ++ r) (used-at assigned bounds kinds slots equated)
 
-module _ (bounds kinds slots rows : List ℕ) where
+module _ (bounds kinds slots equated : List ℕ) where
   abbrev pub assignedOf : List ℕ
-  assignedOf = assignedSlots rows bounds kinds slots
+  assignedOf = assignedSlots equated bounds kinds slots
 
   -- what statement j uses
   abbrev pub usesOf : ℕ → List ℕ
-  usesOf j = usedOfRow assignedOf bounds kinds slots j
+  usesOf j = usedByStatement assignedOf bounds kinds slots j
 
   -- the table: the uses of all equations, and where each begins
   abbrev pub tableOf : List ℕ
-  tableOf = usedIn assignedOf bounds kinds slots rows
+  tableOf = usedIn assignedOf bounds kinds slots equated
 
   abbrev pub startsOf : List ℕ
-  startsOf = startsFrom 0 assignedOf bounds kinds slots rows
+  startsOf = startsFrom 0 assignedOf bounds kinds slots equated
 
   -- what the table says that equation i uses
   abbrev pub usedOf : ℕ → List ℕ
   usedOf i = slice (getD startsOf i 0) (getD startsOf (i + 1) 0) tableOf
 
-  starts-eq : startsOf ≡ startsAt usesOf 0 rows
-  starts-eq = starts-at 0 assignedOf bounds kinds slots rows
+  starts-eq : startsOf ≡ startsAt usesOf 0 equated
+  starts-eq = starts-at 0 assignedOf bounds kinds slots equated
 
-  table-eq : tableOf ≡ concat-map usesOf rows
-  table-eq = used-at assignedOf bounds kinds slots rows
+  table-eq : tableOf ≡ concat-map usesOf equated
+  table-eq = used-at assignedOf bounds kinds slots equated
 
   -- each that is used is one of the equations
-  pub used-few : Below (length rows) tableOf
+  pub used-few : Below (length equated) tableOf
   unfolding count
   used-few =
       let n = length assignedOf in
-      let b = below-concat n usesOf (λ j. below-gather n (usedAt assignedOf kinds slots) one _ _) rows in
-      rw (table-eq, ← (length-map rows (assignedSlot bounds kinds slots))) b
+      let b = below-concat n usesOf (λ j. below-gather n (usedAt assignedOf kinds slots) one _ _) equated in
+      rw (table-eq, ← (length-map equated (assignedSlot bounds kinds slots))) b
     where
       one : (i : ℕ) → Below (length assignedOf) (usedAt assignedOf kinds slots i)
       one i =
           cond-ind (Below (length assignedOf)) (eqb (getD kinds i 0) kindFetch) (usedBy assignedOf (getD slots i 0)) []
           (λ t. below-only (length assignedOf) (placeIn (getD slots i 0) assignedOf)) (λ t j h. absurd (omega arith))
 
-  module _ (i : ℕ) (h : i < length rows) where
-    row-split : rows ≡ take i rows ++ getD rows i 0 ∷ drop (suc i) rows
-    row-split = split-at rows i 0 h
+  module _ (i : ℕ) (h : i < length equated) where
+    row-split : equated ≡ take i equated ++ getD equated i 0 ∷ drop (suc i) equated
+    row-split = split-at equated i 0 h
 
-    front : length (take i rows) ≡ i
-    front = length-take-le i rows (omega arith)
+    front : length (take i equated) ≡ i
+    front = length-take-le i equated (omega arith)
 
-    -- what the table says of a row is what its statement uses
-    pub table-row : usedOf i ≡ usesOf (getD rows i 0)
-    table-row =
+    -- what the table says of an equation is what its statement uses
+    pub table-equated : usedOf i ≡ usesOf (getD equated i 0)
+    table-equated =
         rw (starts-eq, table-eq)
-        (rw (← row-split, front) at (part-at usesOf (take i rows) (getD rows i 0) (drop (suc i) rows)))
+        (rw (← row-split, front) at (part-at usesOf (take i equated) (getD equated i 0) (drop (suc i) equated)))

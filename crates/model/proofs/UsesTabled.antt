@@ -19,7 +19,7 @@ use Rattle.order.specs.Table.{Fit}
 use Rattle.drafts.specs.Kinds.{kindFetch}
 use Rattle.model.specs.Definitions.{placeIn}
 use Rattle.drafts.specs.Places.{begins, ends}
-use Rattle.model.specs.Places.{isEquation, equationRows, assignedSlot, assignedSlots, usedBy, usedAt, usedOfRow}
+use Rattle.model.specs.Places.{isEquation, equatedIn, assignedSlot, assignedSlots, usedBy, usedAt, usedByStatement}
 use Rattle.model.specs.Places.{usedIn, startsFrom}
 use Rattle.model.specs.Working.{Rises, Sound}
 use Rattle.model.proofs.DefinitionsCollected.{only-length}
@@ -50,7 +50,7 @@ rises-to bounds (suc n) r j h =
 pub ends-within : {lines bounds kinds used : List ℕ} → Sound lines bounds kinds used → (j : ℕ) → j < length lines
     → ends bounds j ≤ length kinds
 ends-within {lines} {bounds} s j h =
-    omega (arith, rises-to bounds (length lines) (s .rises) (j + 1) (omega arith), s .whole)
+    omega (arith, rises-to bounds (length lines) (s .rises) (j + 1) (omega arith), s .ended)
 
 module _ (assigned bounds kinds slots : List ℕ) where
   -- a draft uses at most one equation, and one of those that there are
@@ -66,30 +66,30 @@ module _ (assigned bounds kinds slots : List ℕ) where
       cond-ind (Below (length assigned)) (eqb (getD kinds i 0) kindFetch) (usedBy assigned (getD slots i 0)) []
       (λ _. below-only (length assigned) (placeIn (getD slots i 0) assigned)) (λ _. λ j h. absurd (omega arith))
 
-  used-below : (rows : List ℕ) → Below (length assigned) (usedIn assigned bounds kinds slots rows)
+  used-below : (equated : List ℕ) → Below (length assigned) (usedIn assigned bounds kinds slots equated)
   unfolding usedIn count
   used-below [] = λ j h. absurd (omega arith)
-  used-below (j ∷ rows) =
-      below-append (length assigned) (usedOfRow assigned bounds kinds slots j) (usedIn assigned bounds kinds slots rows)
+  used-below (j ∷ equated) =
+      below-append (length assigned) (usedByStatement assigned bounds kinds slots j) (usedIn assigned bounds kinds slots equated)
       (below-gather (length assigned) (usedAt assigned kinds slots) used-at-below (ends bounds j - begins bounds j)
-      (begins bounds j)) (used-below rows)
+      (begins bounds j)) (used-below equated)
 
-  -- a row begins within what is used
-  pub starts-length : (o : ℕ) (rows : List ℕ)
-      → length (startsFrom o assigned bounds kinds slots rows) ≡ suc (length rows)
+  -- the uses of an equation begin within what is used
+  pub starts-length : (o : ℕ) (equated : List ℕ)
+      → length (startsFrom o assigned bounds kinds slots equated) ≡ suc (length equated)
   unfolding startsFrom
   starts-length o [] = refl
-  starts-length o (j ∷ rows) = ap suc (starts-length (o + length (usedOfRow assigned bounds kinds slots j)) rows)
+  starts-length o (j ∷ equated) = ap suc (starts-length (o + length (usedByStatement assigned bounds kinds slots j)) equated)
 
-  starts-within : (o : ℕ) (rows : List ℕ) (i : ℕ)
-      → getD (startsFrom o assigned bounds kinds slots rows) i 0 ≤ o + length (usedIn assigned bounds kinds slots rows)
+  starts-within : (o : ℕ) (equated : List ℕ) (i : ℕ)
+      → getD (startsFrom o assigned bounds kinds slots equated) i 0 ≤ o + length (usedIn assigned bounds kinds slots equated)
   unfolding startsFrom usedIn
   starts-within o [] zero = omega arith
   starts-within o [] (suc i) = omega arith
-  starts-within o (j ∷ rows) zero = omega arith
-  starts-within o (j ∷ rows) (suc i) =
-      let row = usedOfRow assigned bounds kinds slots j in
-      omega (arith, length-append row (usedIn assigned bounds kinds slots rows), starts-within (o + length row) rows i)
+  starts-within o (j ∷ equated) zero = omega arith
+  starts-within o (j ∷ equated) (suc i) =
+      let row = usedByStatement assigned bounds kinds slots j in
+      omega (arith, length-append row (usedIn assigned bounds kinds slots equated), starts-within (o + length row) equated i)
 
   -- the equations among k statements from i on use no more than these have drafts
   few-from : (k i : ℕ) → ((j : ℕ) → i ≤ j → j < i + k → begins bounds j ≤ ends bounds j)
@@ -104,7 +104,7 @@ module _ (assigned bounds kinds slots : List ℕ) where
       rest = usedIn assigned bounds kinds slots (gather (λ j. onlyIf (isEquation bounds kinds j) j) k (suc i))
 
       row : List ℕ
-      row = usedOfRow assigned bounds kinds slots i
+      row = usedByStatement assigned bounds kinds slots i
 
       next : ends bounds i ≡ begins bounds (suc i)
       next = ap (begins bounds) (add-one i)
@@ -124,15 +124,15 @@ module _ (assigned bounds kinds slots : List ℕ) where
       go false r = omega (arith, next, last, h i (omega arith) (omega arith), r)
 
   pub used-few : (n : ℕ) → Rises bounds n
-      → length (usedIn assigned bounds kinds slots (equationRows n bounds kinds)) ≤ begins bounds n
-  unfolding equationRows
+      → length (usedIn assigned bounds kinds slots (equatedIn n bounds kinds)) ≤ begins bounds n
+  unfolding equatedIn
   used-few n r =
       let e : begins bounds (0 + n) ≡ begins bounds n = let z : 0 + n ≡ n = omega arith in ap (begins bounds) z in
       omega (arith, e, few-from n 0 (λ j _ h. r .rise j (omega arith)))
 
   -- what statement j uses, if it is an equation; what those before it use; where it begins
   abbrev pub usesOf : ℕ → List ℕ
-  usesOf j = cond (isEquation bounds kinds j) (usedOfRow assigned bounds kinds slots j) []
+  usesOf j = cond (isEquation bounds kinds j) (usedByStatement assigned bounds kinds slots j) []
 
   abbrev pub usesTo : ℕ → List ℕ
   usesTo j = gather usesOf j 0
@@ -140,34 +140,34 @@ module _ (assigned bounds kinds slots : List ℕ) where
   abbrev pub beginAt : ℕ → List ℕ
   beginAt j = onlyIf (isEquation bounds kinds j) (length (usesTo j))
 
-  rowsFrom : ℕ → ℕ → List ℕ
-  rowsFrom k j = gather (λ i. onlyIf (isEquation bounds kinds i) i) k j
+  equatedFrom : ℕ → ℕ → List ℕ
+  equatedFrom k j = gather (λ i. onlyIf (isEquation bounds kinds i) i) k j
 
   -- what k statements from j on use is what the equations among them use
-  rows-uses : (k j : ℕ) → gather usesOf k j ≡ usedIn assigned bounds kinds slots (rowsFrom k j)
-  unfolding rowsFrom gather usedIn
-  rows-uses zero j = refl
-  rows-uses (suc k) j = go (isEquation bounds kinds j) (rows-uses k (suc j))
+  equated-uses : (k j : ℕ) → gather usesOf k j ≡ usedIn assigned bounds kinds slots (equatedFrom k j)
+  unfolding equatedFrom gather usedIn
+  equated-uses zero j = refl
+  equated-uses (suc k) j = go (isEquation bounds kinds j) (equated-uses k (suc j))
     where
       row : List ℕ
-      row = usedOfRow assigned bounds kinds slots j
+      row = usedByStatement assigned bounds kinds slots j
 
-      go : (b : Bool) → gather usesOf k (suc j) ≡ usedIn assigned bounds kinds slots (rowsFrom k (suc j))
+      go : (b : Bool) → gather usesOf k (suc j) ≡ usedIn assigned bounds kinds slots (equatedFrom k (suc j))
           → cond b row [] ++ gather usesOf k (suc j)
-          ≡ usedIn assigned bounds kinds slots (onlyIf b j ++ rowsFrom k (suc j))
+          ≡ usedIn assigned bounds kinds slots (onlyIf b j ++ equatedFrom k (suc j))
       go true r = ap (λ (x : List ℕ). row ++ x) r
       go false r = r
 
   -- and where each of these begins
-  rows-begin : (k j : ℕ)
+  equated-begin : (k j : ℕ)
       → gather beginAt k j ++ (length (usesTo (j + k)) ∷ [])
-      ≡ startsFrom (length (usesTo j)) assigned bounds kinds slots (rowsFrom k j)
-  unfolding rowsFrom gather startsFrom
-  rows-begin zero j = let e : j + 0 ≡ j = omega arith in ap (λ (i : ℕ). length (usesTo i) ∷ []) e
-  rows-begin (suc k) j = go (isEquation bounds kinds j) count (rows-begin k (suc j))
+      ≡ startsFrom (length (usesTo j)) assigned bounds kinds slots (equatedFrom k j)
+  unfolding equatedFrom gather startsFrom
+  equated-begin zero j = let e : j + 0 ≡ j = omega arith in ap (λ (i : ℕ). length (usesTo i) ∷ []) e
+  equated-begin (suc k) j = go (isEquation bounds kinds j) count (equated-begin k (suc j))
     where
       row : List ℕ
-      row = usedOfRow assigned bounds kinds slots j
+      row = usedByStatement assigned bounds kinds slots j
 
       last : List ℕ
       last = length (usesTo (j + suc k)) ∷ []
@@ -177,10 +177,10 @@ module _ (assigned bounds kinds slots : List ℕ) where
 
       -- the statements behind, from n on
       From : ℕ → Type 0
-      From n = gather beginAt k (suc j) ++ last ≡ startsFrom n assigned bounds kinds slots (rowsFrom k (suc j))
+      From n = gather beginAt k (suc j) ++ last ≡ startsFrom n assigned bounds kinds slots (equatedFrom k (suc j))
 
       rest : gather beginAt k (suc j) ++ (length (usesTo (suc j + k)) ∷ [])
-          ≡ startsFrom (length (usesTo (suc j))) assigned bounds kinds slots (rowsFrom k (suc j))
+          ≡ startsFrom (length (usesTo (suc j))) assigned bounds kinds slots (equatedFrom k (suc j))
           → From (length (usesTo (suc j)))
       rest r =
           let e : j + suc k ≡ suc j + k = omega arith in
@@ -188,41 +188,41 @@ module _ (assigned bounds kinds slots : List ℕ) where
 
       go : (b : Bool) → length (usesTo (suc j)) ≡ length (usesTo j) + length (cond b row [])
           → gather beginAt k (suc j) ++ (length (usesTo (suc j + k)) ∷ [])
-          ≡ startsFrom (length (usesTo (suc j))) assigned bounds kinds slots (rowsFrom k (suc j))
+          ≡ startsFrom (length (usesTo (suc j))) assigned bounds kinds slots (equatedFrom k (suc j))
           → (onlyIf b (length (usesTo j)) ++ gather beginAt k (suc j)) ++ last
-          ≡ startsFrom (length (usesTo j)) assigned bounds kinds slots (onlyIf b j ++ rowsFrom k (suc j))
+          ≡ startsFrom (length (usesTo j)) assigned bounds kinds slots (onlyIf b j ++ equatedFrom k (suc j))
       go true e r = ap (λ (x : List ℕ). length (usesTo j) ∷ x) (subst From e (rest r))
       go false e r =
           let same : length (usesTo (suc j)) ≡ length (usesTo j) = omega (arith, e) in
           subst From same (rest r)
 
   -- of n statements
-  pub whole-uses : (n : ℕ) → usesTo n ≡ usedIn assigned bounds kinds slots (equationRows n bounds kinds)
-  unfolding rowsFrom equationRows
-  whole-uses n = rows-uses n 0
+  pub whole-uses : (n : ℕ) → usesTo n ≡ usedIn assigned bounds kinds slots (equatedIn n bounds kinds)
+  unfolding equatedFrom equatedIn
+  whole-uses n = equated-uses n 0
 
   pub whole-begin : (n : ℕ)
       → gather beginAt n 0 ++ (length (usesTo n) ∷ []) ≡ startsFrom 0 assigned bounds kinds slots
-      (equationRows n bounds kinds)
-  unfolding rowsFrom equationRows gather
-  whole-begin n = let e : 0 + n ≡ n = omega arith in rw e at (rows-begin n 0)
+      (equatedIn n bounds kinds)
+  unfolding equatedFrom equatedIn gather
+  whole-begin n = let e : 0 + n ≡ n = omega arith in rw e at (equated-begin n 0)
 
 -- the table fits
-pub table-fit : (rows bounds kinds slots : List ℕ) → length rows ≤ mostStatements
-    → Fit (length rows) (startsFrom 0 (assignedSlots rows bounds kinds slots) bounds kinds slots rows)
-    (usedIn (assignedSlots rows bounds kinds slots) bounds kinds slots rows)
-table-fit rows bounds kinds slots h =
-    let assigned = assignedSlots rows bounds kinds slots in
+pub table-fit : (equated bounds kinds slots : List ℕ) → length equated ≤ mostStatements
+    → Fit (length equated) (startsFrom 0 (assignedSlots equated bounds kinds slots) bounds kinds slots equated)
+    (usedIn (assignedSlots equated bounds kinds slots) bounds kinds slots equated)
+table-fit equated bounds kinds slots h =
+    let assigned = assignedSlots equated bounds kinds slots in
     record {
       few = h;
-      rows = omega (arith, starts-length assigned bounds kinds slots 0 rows);
-      ends = λ i _. omega (arith, starts-within assigned bounds kinds slots 0 rows (i + 1));
+      begun = omega (arith, starts-length assigned bounds kinds slots 0 equated);
+      ends = λ i _. omega (arith, starts-within assigned bounds kinds slots 0 equated (i + 1));
       below =
           λ k l.
-          let table = usedIn assigned bounds kinds slots rows in
+          let table = usedIn assigned bounds kinds slots equated in
           omega (
             arith,
-            used-below assigned bounds kinds slots rows (getD table k 0) (at-in table k l),
-            length-map rows (assignedSlot bounds kinds slots),
+            used-below assigned bounds kinds slots equated (getD table k 0) (at-in table k l),
+            length-map equated (assignedSlot bounds kinds slots),
           );
     }

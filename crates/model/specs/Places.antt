@@ -73,15 +73,15 @@ isEquation bounds kinds j =
     ltb (begins bounds j) (ends bounds j) && closes (lastKind bounds kinds j)
 
 -- n is the count of statements
-unfoldable pub equationRows : ℕ → List ℕ → List ℕ → List ℕ
-equationRows n bounds kinds = gather (λ j. onlyIf (isEquation bounds kinds j) j) n 0
+unfoldable pub equatedIn : ℕ → List ℕ → List ℕ → List ℕ
+equatedIn n bounds kinds = gather (λ j. onlyIf (isEquation bounds kinds j) j) n 0
 
 -- the slot that an equation assigns, 0 of a state's
 abbrev pub assignedSlot : List ℕ → List ℕ → List ℕ → ℕ → ℕ
 assignedSlot bounds kinds slots j = cond (eqb (lastKind bounds kinds j) kindStore) (getD slots (ends bounds j - 1) 0) 0
 
 abbrev pub assignedSlots : List ℕ → List ℕ → List ℕ → List ℕ → List ℕ
-assignedSlots rows bounds kinds slots = map (assignedSlot bounds kinds slots) rows
+assignedSlots equated bounds kinds slots = map (assignedSlot bounds kinds slots) equated
 
 -- the equation that place i uses: the one that assigns its name, if one does
 abbrev pub usedBy : List ℕ → ℕ → List ℕ
@@ -91,23 +91,23 @@ abbrev pub usedAt : List ℕ → List ℕ → List ℕ → ℕ → List ℕ
 usedAt assigned kinds slots i = cond (eqb (getD kinds i 0) kindFetch) (usedBy assigned (getD slots i 0)) []
 
 -- what the equation of statement j uses
-abbrev pub usedOfRow : List ℕ → List ℕ → List ℕ → List ℕ → ℕ → List ℕ
-usedOfRow assigned bounds kinds slots j = inStatement bounds (usedAt assigned kinds slots) j
+abbrev pub usedByStatement : List ℕ → List ℕ → List ℕ → List ℕ → ℕ → List ℕ
+usedByStatement assigned bounds kinds slots j = inStatement bounds (usedAt assigned kinds slots) j
 
 -- the table of uses: what all equations use, one after the other, and where each begins
 unfoldable pub usedIn : List ℕ → List ℕ → List ℕ → List ℕ → List ℕ → List ℕ
 usedIn assigned bounds kinds slots [] = []
-usedIn assigned bounds kinds slots (j ∷ rows) =
-    usedOfRow assigned bounds kinds slots j ++ usedIn assigned bounds kinds slots rows
+usedIn assigned bounds kinds slots (j ∷ equated) =
+    usedByStatement assigned bounds kinds slots j ++ usedIn assigned bounds kinds slots equated
 
 unfoldable pub startsFrom : ℕ → List ℕ → List ℕ → List ℕ → List ℕ → List ℕ → List ℕ
 startsFrom o assigned bounds kinds slots [] = o ∷ []
-startsFrom o assigned bounds kinds slots (j ∷ rows) =
-    o ∷ startsFrom (o + length (usedOfRow assigned bounds kinds slots j)) assigned bounds kinds slots rows
+startsFrom o assigned bounds kinds slots (j ∷ equated) =
+    o ∷ startsFrom (o + length (usedByStatement assigned bounds kinds slots j)) assigned bounds kinds slots equated
 
 -- ---- 24: equation r is not among those placed
 abbrev pub loopAt : List ℕ → List ℕ → List ℕ → ℕ → List Fault
-loopAt placed rows lines r = faultIf (not (has r placed)) (getD lines (getD rows r 0) 0) 24
+loopAt placed equated lines r = faultIf (not (has r placed)) (getD lines (getD equated r 0) 0) 24
 
 unfoldable pub loops : List ℕ → List ℕ → List ℕ → List Fault
-loops placed rows lines = gather (loopAt placed rows lines) (length rows) 0
+loops placed equated lines = gather (loopAt placed equated lines) (length equated) 0

@@ -15,7 +15,7 @@ use Rattle.sheet.specs.Sheet.{Fault, faultList}
 use Rattle.order.specs.Greedy.{order}
 use Rattle.order.specs.Table.{usesIn}
 use Rattle.drafts.specs.Places.{begins, ends}
-use Rattle.model.specs.Places.{keysIn, placesIn, doubles, resolved, nameless, equationRows, assignedSlots, usedIn}
+use Rattle.model.specs.Places.{keysIn, placesIn, doubles, resolved, nameless, equatedIn, assignedSlots, usedIn}
 use Rattle.model.specs.Places.{startsFrom, loops}
 use Rattle.model.specs.declared.answer.Plan.{Plan}
 
@@ -23,21 +23,21 @@ use Rattle.model.specs.declared.answer.Plan.{Plan}
 -- that are equations, and the order of these
 pub record Lent : Type 0 where
   pub places : List ℕ
-  pub rows : List ℕ
+  pub equated : List ℕ
   pub order : List ℕ
 
 abbrev pub lent : List ℕ → List ℕ → List ℕ → Lent
-lent places rows order = record { places = places; rows = rows; order = order }
+lent places equated order = record { places = places; equated = equated; order = order }
 
 -- a row is written to the front of one of them, as far as there is room; the rest is as lent
 abbrev pub withPlaces : List ℕ → Lent → Lent
-withPlaces row l = lent (sets (l .places) 0 row) (l .rows) (l .order)
+withPlaces row l = lent (sets (l .places) 0 row) (l .equated) (l .order)
 
-abbrev pub withRows : List ℕ → Lent → Lent
-withRows row l = lent (l .places) (sets (l .rows) 0 row) (l .order)
+abbrev pub withEquated : List ℕ → Lent → Lent
+withEquated row l = lent (l .places) (sets (l .equated) 0 row) (l .order)
 
 abbrev pub withOrder : List ℕ → Lent → Lent
-withOrder row l = lent (l .places) (l .rows) (sets (l .order) 0 row)
+withOrder row l = lent (l .places) (l .equated) (sets (l .order) 0 row)
 
 -- the answer, and the final content of the arguments, the table of uses, the fault list and the three arrays
 pub record PlanOutcome : Type 0 where
@@ -72,11 +72,11 @@ inTurn bounds n size = eqb (begins bounds 0) 0 && (eqb (begins bounds n) size &&
 
 -- arrays of these lengths have room for every definition, for every statement, and for the order of these
 unfoldable pub roomy : ℕ → ℕ → ℕ → Bool
-roomy places rows order = leb mostDefinitions places && (leb mostStatements rows && leb mostStatements order)
+roomy places equated order = leb mostDefinitions places && (leb mostStatements equated && leb mostStatements order)
 
 -- the last six are the lengths of the arguments, the table of uses, the fault list and the three arrays
 unfoldable pub fit : List ℕ → List ℕ → List ℕ → ℕ → ℕ → ℕ → ℕ → ℕ → ℕ → Bool
-fit lines bounds kinds args used faults places rows order =
+fit lines bounds kinds args used faults places equated order =
     leb (length lines) mostStatements
     && (eqb (length bounds) (length lines + 1)
     && (leb (length kinds) textBytes
@@ -84,44 +84,44 @@ fit lines bounds kinds args used faults places rows order =
     && (leb (length kinds) used
     &&
     (leb (faultBytes * length lines) faults
-    && (roomy places rows order && inTurn bounds (length lines) (length kinds)))))))
+    && (roomy places equated order && inTurn bounds (length lines) (length kinds)))))))
 
 -- ---- the table, from its end to its beginning
 
 -- 24: fewer equations are placed than there are; n is the count of definitions
 unfoldable pub orderedPlan : List ℕ → ℕ → List ℕ → List ℕ → List ℕ → List ℕ → List ℕ → Lent → PlanOutcome
-orderedPlan placed n rows lines slots used faults l =
-    cond (ltb (length placed) (length rows)) (faulted (loops placed rows lines) slots used faults (withOrder placed l))
-    (planOutcome (record { number = 0; count = 0; definitions = n; equations = length rows }) slots used faults
+orderedPlan placed n equated lines slots used faults l =
+    cond (ltb (length placed) (length equated)) (faulted (loops placed equated lines) slots used faults (withOrder placed l))
+    (planOutcome (record { number = 0; count = 0; definitions = n; equations = length equated }) slots used faults
     (withOrder placed l))
 
--- the equations of these rows, placed by what they use
+-- the equations of these numbers, placed by what they use
 unfoldable pub weighed : List ℕ → ℕ → List ℕ → List ℕ → List ℕ → List ℕ → List ℕ → List ℕ → Lent → PlanOutcome
-weighed rows n lines bounds kinds slots used faults l =
-    let assigned = assignedSlots rows bounds kinds slots in
-    let table = usedIn assigned bounds kinds slots rows in
-    let starts = startsFrom 0 assigned bounds kinds slots rows in
-    orderedPlan (order (length rows) (usesIn starts table)) n rows lines slots used faults l
+weighed equated n lines bounds kinds slots used faults l =
+    let assigned = assignedSlots equated bounds kinds slots in
+    let table = usedIn assigned bounds kinds slots equated in
+    let starts = startsFrom 0 assigned bounds kinds slots equated in
+    orderedPlan (order (length equated) (usesIn starts table)) n equated lines slots used faults l
 
 -- 22 and 23
 unfoldable pub tested : List ℕ → List ℕ → List ℕ → List ℕ → List ℕ → List ℕ → List ℕ → Lent → PlanOutcome
 tested places lines bounds kinds slots used faults l =
     let fs = nameless places lines bounds kinds slots in
     cond (some fs) (faulted fs slots used faults l)
-    (weighed (equationRows (length lines) bounds kinds) (length places) lines bounds kinds slots used faults l)
+    (weighed (equatedIn (length lines) bounds kinds) (length places) lines bounds kinds slots used faults l)
 
 -- the slots that the equations among n statements assign, and what these use
 abbrev pub ownSlots : ℕ → List ℕ → List ℕ → List ℕ → List ℕ
-ownSlots n bounds kinds slots = assignedSlots (equationRows n bounds kinds) bounds kinds slots
+ownSlots n bounds kinds slots = assignedSlots (equatedIn n bounds kinds) bounds kinds slots
 
 abbrev pub ownUses : ℕ → List ℕ → List ℕ → List ℕ → List ℕ
-ownUses n bounds kinds slots = usedIn (ownSlots n bounds kinds slots) bounds kinds slots (equationRows n bounds kinds)
+ownUses n bounds kinds slots = usedIn (ownSlots n bounds kinds slots) bounds kinds slots (equatedIn n bounds kinds)
 
 -- the equations and the table of uses are written
 unfoldable pub linkedPlan : List ℕ → List ℕ → List ℕ → List ℕ → List ℕ → List ℕ → List ℕ → Lent → PlanOutcome
 linkedPlan places lines bounds kinds slots used faults l =
     tested places lines bounds kinds slots (sets used 0 (ownUses (length lines) bounds kinds slots)) faults
-    (withRows (equationRows (length lines) bounds kinds) l)
+    (withEquated (equatedIn (length lines) bounds kinds) l)
 
 -- 21
 unfoldable pub distinct : List ℕ → List ℕ → List ℕ → List ℕ → List ℕ → List ℕ → Lent → PlanOutcome
@@ -140,7 +140,7 @@ sheeted lines bounds kinds args used faults l =
 unfoldable pub planned : List ℕ → List ℕ → List ℕ → List ℕ → List ℕ → List ℕ → Lent → PlanOutcome
 planned lines bounds kinds args used faults l =
     cond
-    (fit lines bounds kinds (length args) (length used) (length faults) (length (l .places)) (length (l .rows))
+    (fit lines bounds kinds (length args) (length used) (length faults) (length (l .places)) (length (l .equated))
     (length (l .order)))
     (sheeted lines bounds kinds args used faults l) (planOutcome (refused 9 0) args used faults l)
 

@@ -20,7 +20,7 @@ use Rattle.model.specs.declared.stages.Link.{Link}
 use Rattle.drafts.specs.Kinds.{kindConstant, kindFrom, kindFetch, defines, asks}
 use Rattle.drafts.specs.Places.{begins, ends, homeOf}
 use Rattle.model.specs.Places.{keysIn, placesIn, resolved}
-use Rattle.model.specs.Places.{equationRows, assignedSlots, usedIn, startsFrom}
+use Rattle.model.specs.Places.{equatedIn, assignedSlots, usedIn, startsFrom}
 
 -- ---- rows that are written
 
@@ -42,7 +42,7 @@ pub record Sound (lines bounds kinds used : List ℕ) : Type 0 where
   pub room : length kinds ≤ length used
   pub rises : Rises bounds (length lines)
   pub first : begins bounds 0 ≡ 0
-  pub whole : begins bounds (length lines) ≡ length kinds
+  pub ended : begins bounds (length lines) ≡ length kinds
 
 -- an array holds a row of n numbers at its front
 pub record Holds (array : List ℕ) (n : ℕ) (row : List ℕ) : Type 0 where
@@ -51,13 +51,13 @@ pub record Holds (array : List ℕ) (n : ℕ) (row : List ℕ) : Type 0 where
   pub front : take n array ≡ row
 
 -- two arrays have room for every statement
-pub record Wide (rows order : List ℕ) : Type 0 where
-  pub rows-room : mostStatements ≤ length rows
+pub record Wide (equated order : List ℕ) : Type 0 where
+  pub equated-room : mostStatements ≤ length equated
   pub order-room : mostStatements ≤ length order
 
 -- ---- definitions: the keys and the places of all, as many as there is room for; r is how many there are
 pub record Collected (kinds args : List ℕ) (r : ℕ) (keys keys′ places places′ : List ℕ) : Type 0 where
-  pub named : Put (keysIn kinds args) 0 r keys keys′
+  pub keys-so : Put (keysIn kinds args) 0 r keys keys′
   pub placed : Put (placesIn kinds) 0 r places places′
 
 -- the keys and places of a sheet that fits are at hand
@@ -65,14 +65,14 @@ pub record Keyed (lines bounds kinds args used keys places : List ℕ) : Type 0 
   pub sound : Sound lines bounds kinds used
   pub wide : length kinds ≤ length args
   pub few : length keys ≤ mostDefinitions
-  pub named : keys ≡ keysIn kinds args
+  pub keys-so : keys ≡ keysIn kinds args
   pub placed : places ≡ placesIn kinds
 
 -- ---- definitions noted behind d others: their keys and their places
 
 -- a draft of a kind, if it is one
 pub record Noted (kind key place d r : ℕ) (keys keys′ places places′ : List ℕ) : Type 0 where
-  pub named : Put (onlyIf (defines kind) key) d r keys keys′
+  pub keys-so : Put (onlyIf (defines kind) key) d r keys keys′
   pub placed : Put (onlyIf (defines kind) place) d r places places′
 
 -- place i, if it defines a name
@@ -193,21 +193,21 @@ pub record Linkable (lines bounds kinds keys owners args used : List ℕ) : Type
   pub slotted : Slotted kinds (resolved keys kinds args)
 
 -- the table of uses is written; r is how much is used
-pub record Tabled (rows bounds kinds slots : List ℕ) (r : ℕ) (starts starts′ used used′ : List ℕ) : Type 0 where
-  pub uses : Put (usedIn (assignedSlots rows bounds kinds slots) bounds kinds slots rows) 0 r used used′
-  pub begun : starts′ ≡ sets starts 0 (startsFrom 0 (assignedSlots rows bounds kinds slots) bounds kinds slots rows)
+pub record Tabled (equated bounds kinds slots : List ℕ) (r : ℕ) (starts starts′ used used′ : List ℕ) : Type 0 where
+  pub uses : Put (usedIn (assignedSlots equated bounds kinds slots) bounds kinds slots equated) 0 r used used′
+  pub begun : starts′ ≡ sets starts 0 (startsFrom 0 (assignedSlots equated bounds kinds slots) bounds kinds slots equated)
 
 -- what it gives
 pub record Linked (lines bounds kinds keys places : List ℕ) (n : Walk)
     (args args′ starts starts′ used used′ : List ℕ) : Type 0 where
   pub resolved-so : Resolved keys kinds places args args′ (n .flawed)
-  pub tabled-so : Tabled (equationRows (length lines) bounds kinds) bounds kinds args′
+  pub tabled-so : Tabled (equatedIn (length lines) bounds kinds) bounds kinds args′
       (n .count) starts starts′ used used′
 
--- what linking gives: the equations are at the front of rows, the names are resolved, and what is used is tabled
+-- what linking gives: the equations are at the front of equated, the names are resolved, and what is used is tabled
 pub record Links (lines bounds kinds keys places : List ℕ) (r : Link)
-    (args args′ used used′ rows rows′ starts′ : List ℕ) : Type 0 where
-  pub equations-put : Put (equationRows (length lines) bounds kinds) 0 (r .equations) rows rows′
+    (args args′ used used′ equated equated′ starts′ : List ℕ) : Type 0 where
+  pub equations-put : Put (equatedIn (length lines) bounds kinds) 0 (r .equations) equated equated′
   pub linked : Linked lines bounds kinds keys places (record { count = r .used; flawed = r .flawed }) args args′
       (replicate (mostStatements + 1) 0) starts′ used used′
 
@@ -217,15 +217,15 @@ pub record Searched (lines bounds kinds slots places : List ℕ) (flawed : Bool)
   pub inside : (j : ℕ) → j < length lines → ends bounds j ≤ length kinds
   pub flaw : flawed ≡ anyIn (flawedAt places kinds slots) (length kinds) 0
 
--- the m equations are held in rows, and what they use at the front of starts and used
-pub record Weighs (lines bounds kinds slots : List ℕ) (m w : ℕ) (starts used rows : List ℕ) : Type 0 where
+-- the m equations are held in equated, and what they use at the front of starts and used
+pub record Weighs (lines bounds kinds slots : List ℕ) (m w : ℕ) (starts used equated : List ℕ) : Type 0 where
   pub few : length lines ≤ mostStatements
-  pub few-rows : m ≤ mostStatements
-  pub rows-held : Holds rows m (equationRows (length lines) bounds kinds)
+  pub few-equated : m ≤ mostStatements
+  pub equated-held : Holds equated m (equatedIn (length lines) bounds kinds)
   pub starts-room : m + 1 ≤ length starts
   pub starts-held : take (m + 1) starts
       ≡ startsFrom 0 (ownSlots (length lines) bounds kinds slots) bounds kinds slots
-      (equationRows (length lines) bounds kinds)
+      (equatedIn (length lines) bounds kinds)
   pub used-room : w ≤ length used
   pub used-held : take w used ≡ ownUses (length lines) bounds kinds slots
 
@@ -235,7 +235,7 @@ pub record Marked (placed marks : List ℕ) : Type 0 where
   pub mark : (r : ℕ) → r < length marks → eqb (getD marks r 0) 0 ≡ not (has r placed)
 
 abbrev pub unmarkedAt : List ℕ → List ℕ → List ℕ → ℕ → List Fault
-unmarkedAt marks rows lines r = faultIf (eqb (getD marks r 0) 0) (getD lines (getD rows r 0) 0) 24
+unmarkedAt marks equated lines r = faultIf (eqb (getD marks r 0) 0) (getD lines (getD equated r 0) 0) 24
 
 abbrev pub unmarked : List ℕ → List ℕ → List ℕ → List Fault
-unmarked marks rows lines = gather (unmarkedAt marks rows lines) (length rows) 0
+unmarked marks equated lines = gather (unmarkedAt marks equated lines) (length equated) 0

@@ -6,7 +6,7 @@ ghost use Rattle.limits.specs.Limits.{mostStatements, mostDefinitions, slots};
 ghost use Rattle.laws.specs.Places.{onlyIf};
 ghost use Rattle.drafts.specs.Places.{ends};
 ghost use Rattle.laws.specs.Put.{Put};
-ghost use Rattle.model.specs.Places.{resolved, isEquation, equationRows, assignedSlot, assignedSlots};
+ghost use Rattle.model.specs.Places.{resolved, isEquation, equatedIn, assignedSlot, assignedSlots};
 ghost use Rattle.model.specs.Working.{Hinted, Owned, usedHere};
 use super::hints::find;
 use super::lists::put_short;
@@ -53,15 +53,15 @@ pub(crate) fn put_if(stands: bool, v: usize, buf: &mut [u16], w: usize) -> usize
 }
 
 // Stores the numbers of the equations among n statements; how many there are.
-pub(crate) fn collect_rows(n: usize, bounds: &[u16], kinds: &[u8], rows: &mut [u16]) -> usize
+pub(crate) fn collect_equated(n: usize, bounds: &[u16], kinds: &[u8], equated: &mut [u16]) -> usize
     requires { ⌜ n ≤ mostStatements ⌝ }
-    ensures { λ r. ⌜ Put (equationRows n (now (bounds .entry)) (now (kinds .entry))) 0 r (now (rows .entry))
-        (now (rows .exit)) ⌝ }
+    ensures { λ r. ⌜ Put (equatedIn n (now (bounds .entry)) (now (kinds .entry))) 0 r (now (equated .entry))
+        (now (equated .exit)) ⌝ }
 {
     let mut count: usize = 0;
     let mut j = 0;
     while j < n {
-        count = put_if(is_equation(bounds, kinds, j), j, &mut *rows, count);
+        count = put_if(is_equation(bounds, kinds, j), j, &mut *equated, count);
         j += 1;
     }
     count
@@ -91,7 +91,7 @@ fn assigned_slot(
 
 // Notes for each slot the equation that assigns it, from the last to the first, so that the first stays.
 pub(crate) fn note_owners(
-    rows: &[u16],
+    equated: &[u16],
     bounds: &[u16],
     kinds: &[u8],
     keys: &[u64],
@@ -100,15 +100,15 @@ pub(crate) fn note_owners(
     args: &[u64],
     owners: &mut [u16],
 )
-    requires { ⌜ (length (now rows) ≤ mostStatements) × (now owners ≡ replicate (slots + 1) 0)
+    requires { ⌜ (length (now equated) ≤ mostStatements) × (now owners ≡ replicate (slots + 1) 0)
         × Hinted (now keys) (now hints) (now links) ×
         (length (now keys) ≤ mostDefinitions) × (length (now kinds) ≤ length (now args)) ⌝ }
-    ensures { λ _. ⌜ Owned (assignedSlots (now (rows .entry)) (now (bounds .entry)) (now (kinds .entry))
+    ensures { λ _. ⌜ Owned (assignedSlots (now (equated .entry)) (now (bounds .entry)) (now (kinds .entry))
         (resolved (now (keys .entry)) (now (kinds .entry)) (now (args .entry)))) (now (owners .exit)) ⌝ }
 {
-    let mut r = rows.len();
+    let mut r = equated.len();
     while 0 < r {
-        let j = short_at(rows, r - 1);
+        let j = short_at(equated, r - 1);
         let slot = assigned_slot(bounds, kinds, keys, hints, links, args, j);
         put_short(&mut *owners, slot, r);
         r -= 1;

@@ -41,13 +41,13 @@ fn is_in_turn(bounds: &[u16], n: usize, size: usize) -> bool
 }
 
 // Whether three arrays of these lengths have room: for every definition, for every statement, and again.
-fn has_room(places: usize, rows: usize, order: usize) -> bool
-    ensures { λ r. ⌜ r ≡ roomy places rows order ⌝ }
+fn has_room(places: usize, equated: usize, order: usize) -> bool
+    ensures { λ r. ⌜ r ≡ roomy places equated order ⌝ }
 {
     if places < DEFINITIONS {
         return false;
     }
-    if rows < STATEMENTS {
+    if equated < STATEMENTS {
         return false;
     }
     STATEMENTS <= order
@@ -63,11 +63,11 @@ pub(crate) fn fits(
     used: usize,
     faults: usize,
     places: usize,
-    rows: usize,
+    equated: usize,
     order: usize,
 ) -> bool
     ensures { λ r. ⌜ r ≡ fit (now (lines .entry)) (now (bounds .entry))
-        (now (kinds .entry)) args used faults places rows order ⌝ }
+        (now (kinds .entry)) args used faults places equated order ⌝ }
 {
     if STATEMENTS < lines.len() {
         return false;
@@ -87,7 +87,7 @@ pub(crate) fn fits(
     if faults < FAULT_BYTES * lines.len() {
         return false;
     }
-    if has_room(places, rows, order) {
+    if has_room(places, equated, order) {
         return is_in_turn(bounds, lines.len(), kinds.len());
     }
     false

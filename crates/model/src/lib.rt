@@ -27,14 +27,14 @@ pub fn plan(
     used: &mut [u16],
     faults: &mut [u8],
     places: &mut [u16],
-    rows: &mut [u16],
+    equated: &mut [u16],
     order: &mut [u16],
 ) -> Plan
     ensures { λ r. ⌜ Plans (now (lines .entry)) (now (bounds .entry)) (now (kinds .entry)) (now (args .entry))
         (now (used .entry))
-        (now (faults .entry)) (lent (now (places .entry)) (now (rows .entry)) (now (order .entry))) r (now (args .exit))
+        (now (faults .entry)) (lent (now (places .entry)) (now (equated .entry)) (now (order .entry))) r (now (args .exit))
         (now (used .exit))
-        (now (faults .exit)) (lent (now (places .exit)) (now (rows .exit)) (now (order .exit))) ⌝ }
+        (now (faults .exit)) (lent (now (places .exit)) (now (equated .exit)) (now (order .exit))) ⌝ }
 {
     if fitting::fits(
         lines,
@@ -44,7 +44,7 @@ pub fn plan(
         used.len(),
         faults.len(),
         places.len(),
-        rows.len(),
+        equated.len(),
         order.len(),
     ) {
         return stages::run(
@@ -55,7 +55,7 @@ pub fn plan(
             used,
             faults,
             places,
-            rows,
+            equated,
             order,
         );
     }

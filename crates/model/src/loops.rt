@@ -24,15 +24,15 @@ fn mark(placed: &[u16], marks: &mut [u8])
 }
 
 // Writes a fault 24 for each equation that is not marked; how many there are.
-fn report_unmarked(marks: &[u8], rows: &[u16], lines: &[u16], faults: &mut [u8]) -> usize
-    requires { ⌜ length (now rows) ≤ mostStatements ⌝ }
-    ensures { λ r. ⌜ Reported (unmarked (now (marks .entry)) (now (rows .entry)) (now (lines .entry))) 0 r
+fn report_unmarked(marks: &[u8], equated: &[u16], lines: &[u16], faults: &mut [u8]) -> usize
+    requires { ⌜ length (now equated) ≤ mostStatements ⌝ }
+    ensures { λ r. ⌜ Reported (unmarked (now (marks .entry)) (now (equated .entry)) (now (lines .entry))) 0 r
         (now (faults .entry)) (now (faults .exit)) ⌝ }
 {
     let mut count: usize = 0;
     let mut r = 0;
-    while r < rows.len() {
-        let line = short_at(lines, short_at(rows, r));
+    while r < equated.len() {
+        let line = short_at(lines, short_at(equated, r));
         count = put_fault(byte_at(marks, r) == 0, line, 24, &mut *faults, count);
         r += 1;
     }
@@ -40,12 +40,12 @@ fn report_unmarked(marks: &[u8], rows: &[u16], lines: &[u16], faults: &mut [u8])
 }
 
 // Writes the faults 24 to the front of the list; how many there are.
-pub(crate) fn report_loops(placed: &[u16], rows: &[u16], lines: &[u16], faults: &mut [u8]) -> usize
-    requires { ⌜ length (now rows) ≤ mostStatements ⌝ }
-    ensures { λ r. ⌜ Reported (loops (now (placed .entry)) (now (rows .entry)) (now (lines .entry))) 0 r
+pub(crate) fn report_loops(placed: &[u16], equated: &[u16], lines: &[u16], faults: &mut [u8]) -> usize
+    requires { ⌜ length (now equated) ≤ mostStatements ⌝ }
+    ensures { λ r. ⌜ Reported (loops (now (placed .entry)) (now (equated .entry)) (now (lines .entry))) 0 r
         (now (faults .entry)) (now (faults .exit)) ⌝ }
 {
     let mut marks = [0u8; STATEMENTS];
     mark(placed, &mut marks);
-    report_unmarked(&marks, rows, lines, faults)
+    report_unmarked(&marks, equated, lines, faults)
 }

@@ -11,7 +11,7 @@ ghost use Rattle.model.specs.Working.{Sound, Holds, Wide, Hinted, Keyed,
 use super::answer::Plan;
 use super::collect::collect;
 use super::doubles::report_doubles;
-use super::equations::collect_rows;
+use super::equations::collect_equated;
 use super::equations::note_owners;
 use super::hints::BUCKETS;
 use super::hints::note_hints;
@@ -53,21 +53,21 @@ fn connect(
     hints: &[u16],
     links: &[u16],
     places: &[u16],
-    rows: &mut [u16],
+    equated: &mut [u16],
     starts: &mut [u16],
 ) -> Link
     requires { ⌜ Keyed (now lines) (now bounds) (now kinds) (now args) (now used) (now keys) (now places)
         × Hinted (now keys) (now hints) (now links)
-        × (mostStatements ≤ length (now rows)) × (now starts ≡ replicate (mostStatements + 1) 0) ⌝ }
+        × (mostStatements ≤ length (now equated)) × (now starts ≡ replicate (mostStatements + 1) 0) ⌝ }
     ensures { λ r. ⌜ Links (now (lines .entry)) (now (bounds .entry)) (now (kinds .entry)) (now (keys .entry))
         (now (places .entry)) r
-        (now (args .entry)) (now (args .exit)) (now (used .entry)) (now (used .exit)) (now (rows .entry))
-        (now (rows .exit)) (now (starts .exit)) ⌝ }
+        (now (args .entry)) (now (args .exit)) (now (used .entry)) (now (used .exit)) (now (equated .entry))
+        (now (equated .exit)) (now (starts .exit)) ⌝ }
 {
-    let m = collect_rows(lines.len(), bounds, kinds, &mut *rows);
+    let m = collect_equated(lines.len(), bounds, kinds, &mut *equated);
     let mut owners = [0u16; SLOTS + 1];
     note_owners(
-        &rows[..m],
+        &equated[..m],
         bounds,
         kinds,
         keys,
@@ -96,31 +96,31 @@ fn connect(
     }
 }
 
-// 24: the m equations of rows are ordered by what they use; there are n definitions.
+// 24: the m equations in equated are ordered by what they use; there are n definitions.
 fn place(
     starts: &[u16],
     used: &[u16],
     n: usize,
-    rows: &[u16],
+    equated: &[u16],
     m: usize,
     placed: &mut [u16],
     lines: &[u16],
     faults: &mut [u8],
 ) -> Plan
-    requires { ⌜ Fit m (now starts) (now used) × Holds (now rows) m (take m (now rows))
+    requires { ⌜ Fit m (now starts) (now used) × Holds (now equated) m (take m (now equated))
         × (mostStatements ≤ length (now placed)) ⌝ }
     ensures { λ r. ⌜ ((slots filled p : List ℕ) → planOutcome r slots filled (now (faults .exit))
-        (lent p (now (rows .entry)) (now (placed .exit))) ≡
-        orderedPlan (order m (usesIn (now (starts .entry)) (now (used .entry)))) n (take m (now (rows .entry)))
+        (lent p (now (equated .entry)) (now (placed .exit))) ≡
+        orderedPlan (order m (usesIn (now (starts .entry)) (now (used .entry)))) n (take m (now (equated .entry)))
         (now (lines .entry)) slots filled
-        (now (faults .entry)) (lent p (now (rows .entry)) (now (placed .entry)))) ⌝ }
+        (now (faults .entry)) (lent p (now (equated .entry)) (now (placed .entry)))) ⌝ }
 {
     let sorted = order::sort(m, starts, used, &mut *placed);
     let Sorted::Placed(k) = sorted else {
         return refusal(9, 0);
     };
     if k < m {
-        let count = report_loops(&placed[..k], &rows[..m], lines, faults);
+        let count = report_loops(&placed[..k], &equated[..m], lines, faults);
         return refusal(7, count);
     }
     Plan {
@@ -140,16 +140,16 @@ pub(crate) fn run(
     used: &mut [u16],
     faults: &mut [u8],
     places: &mut [u16],
-    rows: &mut [u16],
+    equated: &mut [u16],
     placed: &mut [u16],
 ) -> Plan
     requires { ⌜ Sound (now lines) (now bounds) (now kinds) (now used) × (length (now kinds) ≤ length (now args)) ×
-        (mostDefinitions ≤ length (now places)) × Wide (now rows) (now placed) ⌝ }
+        (mostDefinitions ≤ length (now places)) × Wide (now equated) (now placed) ⌝ }
     ensures { λ r. ⌜ planOutcome r (now (args .exit)) (now (used .exit)) (now (faults .exit))
-        (lent (now (places .exit)) (now (rows .exit))
+        (lent (now (places .exit)) (now (equated .exit))
         (now (placed .exit))) ≡ sheeted (now (lines .entry)) (now (bounds .entry)) (now (kinds .entry))
         (now (args .entry)) (now (used .entry))
-        (now (faults .entry)) (lent (now (places .entry)) (now (rows .entry)) (now (placed .entry))) ⌝ }
+        (now (faults .entry)) (lent (now (places .entry)) (now (equated .entry)) (now (placed .entry))) ⌝ }
 {
     let mut keys = [0u64; DEFINITIONS];
     let n = collect(kinds, args, &mut keys, &mut *places);
@@ -182,7 +182,7 @@ pub(crate) fn run(
         &hints,
         &links,
         &places[..n],
-        &mut *rows,
+        &mut *equated,
         &mut starts,
     );
     let m = linked.equations;
@@ -203,7 +203,7 @@ pub(crate) fn run(
         &starts[..m + 1],
         &used[..w],
         n,
-        rows,
+        equated,
         m,
         placed,
         lines,

@@ -153,7 +153,7 @@ module _ {n : ℕ} {s u m f v : List ℕ} (t : Fit n s u) where
 module _ {n : ℕ} {s u m c : List ℕ} (t : Fit n s u) (g : Cursors n s u m c) (i : ℕ) (hi : i < n) (z : getD m i 0 ≡ 0)
     (a b d k : ℕ) (ea : a ≡ getD s i 0) (eb : b ≡ getD s (i + 1) 0) (ed : d ≡ getD c i 0)
     (ek : k ≡ first (openAt u m) (b - (a + d)) (a + d)) where
-  -- at the row's end i is ready
+  -- at the end of its uses i is ready
   pub settled-ready : {h l v : List ℕ} → b ≤ k → Settles n s u m i true c h l v h l v
   settled-ready le =
       record {
@@ -186,7 +186,7 @@ module _ {n : ℕ} {s u m c : List ℕ} (t : Fit n s u) (g : Cursors n s u m c) 
           hung = λ _. (j, rw ej wait-below, rw ej uses, rw ej (omega (arith, free)), e .0, e .1, e .2);
         }
 
--- ---- the same at the first place of its row, where its cursor has not moved
+-- ---- the same at the first place of its uses, where its cursor has not moved
 module _ {n : ℕ} {s u m c : List ℕ} (t : Fit n s u) (g : Cursors n s u m c) (i : ℕ) (hi : i < n)
     (z : getD m i 0 ≡ 0) {h l v : List ℕ} where
   -- there is none
@@ -218,7 +218,7 @@ module _ {n : ℕ} {s u m c : List ℕ} (t : Fit n s u) (g : Cursors n s u m c) 
         hung = λ _. (j, hj, uses, mj, e .0, e .1, e .2);
       }
 
--- while none is marked; the row goes from a to b
+-- while none is marked; its uses go from a to b
 module _ {n : ℕ} {s u : List ℕ} (t : Fit n s u) (i : ℕ) (hi : i < n) {a b : ℕ} (ea : a ≡ getD s i 0)
     (eb : b ≡ getD s (i + 1) 0) where
   clear-at : (j : ℕ) → j < n → getD zeros j 0 ≡ 0

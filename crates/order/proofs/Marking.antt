@@ -82,7 +82,7 @@ module _ (n : ℕ) (s u m c : List ℕ) (t : Fit n s u) (g : Cursors n s u m c) 
   abbrev start : ℕ
   start = getD s i 0 + getD c i 0
 
-  -- where the row ends
+  -- where its uses end
   abbrev stop : ℕ
   stop = getD s (i + 1) 0
 
@@ -90,7 +90,7 @@ module _ (n : ℕ) (s u m c : List ℕ) (t : Fit n s u) (g : Cursors n s u m c) 
   abbrev goal : ℕ
   goal = first (openAt u m) (stop - start) start
 
-  -- each place of the row before it has a marked statement
+  -- each place of its uses before it has a marked statement
   before-goal : (p : ℕ) → getD s i 0 ≤ p → p < goal → openAt u m p ≡ false
   before-goal p lo hi =
       let e : getD s i 0 + (p - getD s i 0) ≡ p = omega arith in

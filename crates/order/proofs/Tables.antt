@@ -54,7 +54,7 @@ module _ (n : ℕ) (starts used : List ℕ) (room : ℕ) where
           let d = and-true _ (ltb n (length starts)) (c .0) in (
             record {
               few = leb-true n mostStatements (d .0);
-              rows = ltb-true n (length starts) (d .1);
+              begun = ltb-true n (length starts) (d .1);
               ends = λ i h. leb-true _ _ (all-true n _ (b .1) i h);
               below = λ k h. ltb-true _ _ (all-true (length used) _ (a .1) k h);
             },
@@ -66,7 +66,7 @@ module _ (n : ℕ) (starts used : List ℕ) (room : ℕ) where
       back t h =
           and-both _ _
           (and-both _ _
-          (and-both _ _ (and-both _ _ (le-leb _ _ (t .few)) (lt-ltb _ _ (t .rows))) (le-leb _ _ h))
+          (and-both _ _ (and-both _ _ (le-leb _ _ (t .few)) (lt-ltb _ _ (t .begun))) (le-leb _ _ h))
           (all-intro n _ (λ i l. le-leb _ _ (t .ends i l))))
           (all-intro (length used) _ (λ k l. lt-ltb _ _ (t .below k l)))
 

@@ -17,14 +17,14 @@ usedOf starts used i = slice (getD starts i 0) (getD starts (i + 1) 0) used
 abbrev pub usesIn : List ℕ → List ℕ → ℕ → ℕ → Bool
 usesIn starts used i j = has j (usedOf starts used i)
 
--- a table of n statements: there is a row for each, the rows end inside, and only the n are used
+-- a table of n statements: there is a start for each, their uses end inside, and only the n are used
 pub record Fit (n : ℕ) (starts used : List ℕ) : Type 0 where
   pub few : n ≤ mostStatements
-  pub rows : n < length starts
+  pub begun : n < length starts
   pub ends : (i : ℕ) → i < n → getD starts (i + 1) 0 ≤ length used
   pub below : (k : ℕ) → k < length used → getD used k 0 < n
 
--- row i ends within size places
+-- the uses of i end within size places
 abbrev pub endsIn : List ℕ → ℕ → ℕ → Bool
 endsIn starts size i = leb (getD starts (i + 1) 0) size
 

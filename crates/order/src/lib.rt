@@ -24,8 +24,8 @@ pub enum Sorted {
     Unfit,
 }
 
-// Whether each of the n rows ends within size places.
-fn rows_end(n: usize, starts: &[u16], size: usize) -> bool
+// Whether the uses of each of the n end within size places.
+fn uses_end(n: usize, starts: &[u16], size: usize) -> bool
     requires { ⌜ n < length (now starts) ⌝ }
     ensures { λ r. ⌜ r ≡ all n (endsIn (now (starts .entry)) size) ⌝ }
 {
@@ -66,7 +66,7 @@ fn fit(n: usize, starts: &[u16], used: &[u16], room: usize) -> bool
     if room < n {
         return false;
     }
-    if rows_end(n, starts, used.len()) {
+    if uses_end(n, starts, used.len()) {
         return used_below(n, used);
     }
     false

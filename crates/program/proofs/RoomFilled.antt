@@ -18,22 +18,22 @@ use Rattle.bits.proofs.Lows.{length-low}
 use Rattle.program.specs.Written.{fieldBytes, headOf, fitting, Fills}
 
 -- ---- rows of whole records
-abbrev pub Whole : List ℕ → Type 0
-Whole x = length x % recordBytes ≡ 0
+abbrev pub WholeRecords : List ℕ → Type 0
+WholeRecords x = length x % recordBytes ≡ 0
 
-whole-append : (x y : List ℕ) → Whole x → Whole y → Whole (x ++ y)
+whole-append : (x y : List ℕ) → WholeRecords x → WholeRecords y → WholeRecords (x ++ y)
 whole-append x y p q = omega (arith, length-append x y)
 
-pub whole-gather : (f : ℕ → List ℕ) → ((i : ℕ) → Whole (f i)) → (k i : ℕ) → Whole (gather f k i)
+pub whole-gather : (f : ℕ → List ℕ) → ((i : ℕ) → WholeRecords (f i)) → (k i : ℕ) → WholeRecords (gather f k i)
 unfolding gather
 whole-gather f h zero i = omega arith
 whole-gather f h (suc k) i = whole-append (f i) (gather f k (suc i)) (h i) (whole-gather f h k (suc i))
 
 -- of a row and one behind it as much fits as of the first, and behind that of the other
-fitting-append : (room : ℕ) (x y : List ℕ) → Whole x
+fitting-append : (room : ℕ) (x y : List ℕ) → WholeRecords x
     → fitting room (x ++ y) ≡ fitting room x ++ fitting (room - length (fitting room x)) y
 fitting-append room x y h =
-    ⊎-elim (λ (l : n < length x). part l) (λ (l : length x ≤ n). whole l) (lt-or-ge n (length x))
+    ⊎-elim (λ (l : n < length x). part l) (λ (l : length x ≤ n). all-fit l) (lt-or-ge n (length x))
   where
     -- so many bytes have room
     n : ℕ
@@ -47,8 +47,8 @@ fitting-append room x y h =
         take-append-le n x y (omega arith) ∙ rw none (sym (append-nil (take n x)))
 
     -- all of it
-    whole : length x ≤ n → fitting room (x ++ y) ≡ fitting room x ++ fitting (room - length (fitting room x)) y
-    whole l =
+    all-fit : length x ≤ n → fitting room (x ++ y) ≡ fitting room x ++ fitting (room - length (fitting room x)) y
+    all-fit l =
         let e : n ≡ length x + recordBytes * ((room - length x) / recordBytes) = omega arith in
         rw (take-all n x l) (ap (λ (k : ℕ). take k (x ++ y)) e ∙ take-append-add x y _)
 
@@ -75,7 +75,7 @@ module _ {x : List ℕ} {w m : ℕ} {b b₁ : List ℕ} (p : Fills x w m b b₁)
       omega (arith, p .behind, length-take n x, fill-long)
 
   -- one behind another
-  pub fill-both : {y : List ℕ} {r : ℕ} {b₂ : List ℕ} → Whole x → Fills y m r b₁ b₂ → Fills (x ++ y) w r b b₂
+  pub fill-both : {y : List ℕ} {r : ℕ} {b₂ : List ℕ} → WholeRecords x → Fills y m r b₁ b₂ → Fills (x ++ y) w r b b₂
   fill-both {y} {r} {b₂} h q =
       let front = fitting (length b - w) x in
       let rest = fitting ((length b - w) - length front) y in
@@ -173,12 +173,12 @@ pub fill-part : (vs b part : List ℕ) (w e : ℕ) → length vs ≡ recordBytes
     → Fills vs w e b (take w b ++ (part ++ drop (e - w) (drop w b)))
 fill-part vs b part w e l p h q =
     let n = recordBytes * ((length b - w) / recordBytes) in
-    let whole : part ≡ vs = q ∙ sets-all (take (e - w) (drop w b)) vs (mid-len w e b h ∙ omega arith) in
+    let all-over : part ≡ vs = q ∙ sets-all (take (e - w) (drop w b)) vs (mid-len w e b h ∙ omega arith) in
     let end : e ≡ w + length vs = omega arith in
     let all : take n vs ≡ vs = take-all n vs (omega arith) in
     record {
       behind = rw all end;
-      written = rw (all, whole, post-is w e b (omega arith), end, ← append-assoc) (sym (sets-eq vs b w (omega arith)));
+      written = rw (all, all-over, post-is w e b (omega arith), end, ← append-assoc) (sym (sets-eq vs b w (omega arith)));
     }
 
 -- one for which there is none is not
@@ -193,10 +193,10 @@ pub record Filling (f : ℕ → List ℕ) (n a i w₀ w : ℕ) (buf₀ buf : Lis
   pub upto : i - a ≤ n - a
   pub within : w ≤ length buf
   pub long : length buf ≡ length buf₀
-  pub whole : (j : ℕ) → Whole (f j)
+  pub records-whole : (j : ℕ) → WholeRecords (f j)
   pub so : Fills (gather f (i - a) a) w₀ w buf₀ buf
 
-pub filling-first : (f : ℕ → List ℕ) (n a w : ℕ) (buf : List ℕ) → ((j : ℕ) → Whole (f j)) → w ≤ length buf
+pub filling-first : (f : ℕ → List ℕ) (n a w : ℕ) (buf : List ℕ) → ((j : ℕ) → WholeRecords (f j)) → w ≤ length buf
     → Filling f n a a w w buf buf
 filling-first f n a w buf t h =
     record {
@@ -204,7 +204,7 @@ filling-first f n a w buf t h =
       upto = omega arith;
       within = h;
       long = refl;
-      whole = t;
+      records-whole = t;
       so = fill-none w buf (gather-done f a a (omega arith));
     }
 
@@ -217,8 +217,8 @@ module _ {f : ℕ → List ℕ} {n a i w₀ w : ℕ} {buf₀ buf : List ℕ} (v 
         upto = omega (arith, v .beyond);
         within = fill-within p (v .within);
         long = fill-long p ∙ v .long;
-        whole = v .whole;
-        so = fill-as (gather-more f a i (v .beyond)) (fill-both (v .so) (whole-gather f (v .whole) (i - a) a) p);
+        records-whole = v .records-whole;
+        so = fill-as (gather-more f a i (v .beyond)) (fill-both (v .so) (whole-gather f (v .records-whole) (i - a) a) p);
       }
 
   -- what all give

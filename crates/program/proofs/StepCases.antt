@@ -17,41 +17,41 @@ use Rattle.drafts.specs.Places.{begins, ends}
 use Rattle.drafts.specs.Kinds.{kindPush, kindFetch, kindClock, isStep, writes}
 use Rattle.program.specs.Written.{fieldBytes, recordCount, valueAt, settingAt, reach, settingsOf, stepBytes}
 use Rattle.program.specs.Written.{stepAt, stepsOf, orderedSteps}
-use Rattle.program.proofs.RoomFilled.{Whole, whole-gather, length-record}
+use Rattle.program.proofs.RoomFilled.{WholeRecords, whole-gather, length-record}
 
 -- ---- each part has whole records
-whole-record : (k s l v : ℕ) → Whole (fieldBytes k s l v)
+whole-record : (k s l v : ℕ) → WholeRecords (fieldBytes k s l v)
 whole-record k s l v = omega (arith, length-record k s l v)
 
 pub whole-setting : (phase : ℕ) (places kinds slots : List ℕ) (line i : ℕ)
-    → Whole (settingAt phase places kinds slots line i)
+    → WholeRecords (settingAt phase places kinds slots line i)
 whole-setting phase places kinds slots line i =
-    cond-ind Whole (eqb (getD kinds i 0) phase) _ []
+    cond-ind WholeRecords (eqb (getD kinds i 0) phase) _ []
     (λ _. whole-record phase (getD slots i 0) line (valueAt places kinds slots i)) (λ _. omega arith)
 
 pub whole-settings : (phase : ℕ) (places lines bounds kinds slots : List ℕ) (j : ℕ)
-    → Whole (settingsOf phase places lines bounds kinds slots j)
+    → WholeRecords (settingsOf phase places lines bounds kinds slots j)
 whole-settings phase places lines bounds kinds slots j =
-    cond-ind Whole (eqb (getD kinds (begins bounds j) 0) phase) _ []
+    cond-ind WholeRecords (eqb (getD kinds (begins bounds j) 0) phase) _ []
     (λ _. whole-gather _ (whole-setting phase places kinds slots (getD lines j 0))
     (reach phase (ends bounds j - begins bounds j)) (begins bounds j))
     (λ _. omega arith)
 
 pub whole-all-settings : (phase : ℕ) (places lines bounds kinds slots : List ℕ)
-    → Whole (gather (settingsOf phase places lines bounds kinds slots) (length lines) 0)
+    → WholeRecords (gather (settingsOf phase places lines bounds kinds slots) (length lines) 0)
 whole-all-settings phase places lines bounds kinds slots =
     whole-gather _ (whole-settings phase places lines bounds kinds slots) (length lines) 0
 
-whole-step : (k x line : ℕ) → Whole (stepBytes k x line)
+whole-step : (k x line : ℕ) → WholeRecords (stepBytes k x line)
 whole-step k x line =
-    cond-ind Whole (eqb k kindPush) _ _ (λ _. whole-record kindPush 0 line x)
-    (λ _. cond-ind Whole (eqb k kindClock) _ _ (λ _. whole-record kindFetch 0 line 0)
-    (λ _. cond-ind Whole (isStep k) _ [] (λ _. whole-record k x line 0) (λ _. omega arith)))
+    cond-ind WholeRecords (eqb k kindPush) _ _ (λ _. whole-record kindPush 0 line x)
+    (λ _. cond-ind WholeRecords (eqb k kindClock) _ _ (λ _. whole-record kindFetch 0 line 0)
+    (λ _. cond-ind WholeRecords (isStep k) _ [] (λ _. whole-record k x line 0) (λ _. omega arith)))
 
-pub whole-step-at : (kinds slots : List ℕ) (line i : ℕ) → Whole (stepAt kinds slots line i)
+pub whole-step-at : (kinds slots : List ℕ) (line i : ℕ) → WholeRecords (stepAt kinds slots line i)
 whole-step-at kinds slots line i = whole-step (getD kinds i 0) (getD slots i 0) line
 
-pub whole-steps : (lines bounds kinds slots : List ℕ) (j : ℕ) → Whole (stepsOf lines bounds kinds slots j)
+pub whole-steps : (lines bounds kinds slots : List ℕ) (j : ℕ) → WholeRecords (stepsOf lines bounds kinds slots j)
 whole-steps lines bounds kinds slots j =
     whole-gather _ (whole-step-at kinds slots (getD lines j 0)) (ends bounds j - begins bounds j) (begins bounds j)
 
@@ -93,15 +93,15 @@ module _ (k x line : ℕ) where
       step-plain g h = rw (ne-eqb k kindPush a, ne-eqb k kindClock b, le-leb 4 k g, le-leb k 14 h)
 
 -- the steps of the ordered statements, gathered over the places of the order
-pub ordered-gather : (rows lines bounds kinds slots order : List ℕ)
-    → orderedSteps rows lines bounds kinds slots order
-    ≡ gather (λ q. stepsOf lines bounds kinds slots (getD rows (getD order q 0) 0)) (length order) 0
+pub ordered-gather : (equated lines bounds kinds slots order : List ℕ)
+    → orderedSteps equated lines bounds kinds slots order
+    ≡ gather (λ q. stepsOf lines bounds kinds slots (getD equated (getD order q 0) 0)) (length order) 0
 unfolding orderedSteps gather
-ordered-gather rows lines bounds kinds slots [] = refl
-ordered-gather rows lines bounds kinds slots (r ∷ order) =
-    ap (λ l. stepsOf lines bounds kinds slots (getD rows r 0) ++ l)
-    (ordered-gather rows lines bounds kinds slots order
-    ∙ sym (gather-shift (λ q. stepsOf lines bounds kinds slots (getD rows (getD (r ∷ order) q 0) 0)) (length order) 0))
+ordered-gather equated lines bounds kinds slots [] = refl
+ordered-gather equated lines bounds kinds slots (r ∷ order) =
+    ap (λ l. stepsOf lines bounds kinds slots (getD equated r 0) ++ l)
+    (ordered-gather equated lines bounds kinds slots order
+    ∙ sym (gather-shift (λ q. stepsOf lines bounds kinds slots (getD equated (getD (r ∷ order) q 0) 0)) (length order) 0))
 
 -- a count of records goes on by what a kind adds
 pub counted : (kinds : List ℕ) (i n more : ℕ) → i < length kinds → more ≡ once (writes (getD kinds i 0))

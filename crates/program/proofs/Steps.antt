@@ -19,9 +19,9 @@ use Rattle.records.specs.declared.Instr.the-variants.{Store, Deriv}
 use Rattle.records.specs.Record.{rec, recBytes}
 use Rattle.model.specs.Definitions.{Def, definitions, keys, slotIn, Equation, equations, equationAt}
 use Rattle.model.proofs.StatementDrafts.{expressionDrafts}
-use Rattle.model.proofs.SheetWalk.{sheetKinds, sheetLines, sheetBounds, sheetSlots, sheetRows, slotOf, kind-at, slot-at}
+use Rattle.model.proofs.SheetWalk.{sheetKinds, sheetLines, sheetBounds, sheetSlots, sheetEquated, slotOf, kind-at, slot-at}
 use Rattle.model.proofs.SheetWalk.{line-at, in-statement}
-use Rattle.model.proofs.SheetEquations.{rows-by, row-at}
+use Rattle.model.proofs.SheetEquations.{equated-by, equated-at}
 use Rattle.program.specs.Program.{instrItem, equationRecs}
 use Rattle.program.specs.Written.{stepBytes, stepAt, stepsOf, orderedSteps}
 
@@ -71,13 +71,13 @@ step-state ds l k (plain x) t = refl
 step-state ds l k (from c) t = refl
 
 -- in an order, one equation after the other
-ordered-steps : (rows lines bounds kinds slots q : List ℕ)
-    → orderedSteps rows lines bounds kinds slots q
-    ≡ concat-map (λ r. stepsOf lines bounds kinds slots (getD rows r 0)) q
+ordered-steps : (equated lines bounds kinds slots q : List ℕ)
+    → orderedSteps equated lines bounds kinds slots q
+    ≡ concat-map (λ r. stepsOf lines bounds kinds slots (getD equated r 0)) q
 unfolding orderedSteps concat-map
-ordered-steps rows lines bounds kinds slots [] = refl
-ordered-steps rows lines bounds kinds slots (r ∷ q) =
-    ap (λ x. stepsOf lines bounds kinds slots (getD rows r 0) ++ x) (ordered-steps rows lines bounds kinds slots q)
+ordered-steps equated lines bounds kinds slots [] = refl
+ordered-steps equated lines bounds kinds slots (r ∷ q) =
+    ap (λ x. stepsOf lines bounds kinds slots (getD equated r 0) ++ x) (ordered-steps equated lines bounds kinds slots q)
 
 module _ (ss : List Numbered) where
   abbrev ds : List Def
@@ -99,11 +99,11 @@ module _ (ss : List Numbered) where
       (λ i. rw (kind-at (draftsIn ss) i, slot-at (keys ds) (draftsIn ss) i))
       ∙ ap (λ y. concat-map (stepOf ds (s .line)) (draftsOf y)) e)
 
-  -- at each row stand the records of its equation
-  row-steps : map stepsIn (sheetRows ss) ≡ map bytesOf (equations ds)
+  -- at each equation stand the records of its equation
+  equated-steps : map stepsIn (sheetEquated ss) ≡ map bytesOf (equations ds)
   unfolding recBytes
-  row-steps =
-      rows-by ss stepsIn bytesOf
+  equated-steps =
+      equated-by ss stepsIn bytesOf
       (λ a s b p k t e. steps-at a s b p (assignment k t) e
       ∙ step-ending ds (s .line) t (draft kindStore k) (Store (slotIn ds k)) refl)
       (λ a s b p k i t e.
@@ -111,11 +111,11 @@ module _ (ss : List Numbered) where
       ∙ step-ending ds (s .line) t (draft kindRate k) (Deriv (slotIn ds k)) refl)
 
   -- THE STEPS, in an order of the equations
-  pub steps-of : (q : List ℕ) → Below (length (sheetRows ss)) q
-      → orderedSteps (sheetRows ss) (sheetLines ss) (sheetBounds ss) (sheetKinds ss) (sheetSlots ss) q
+  pub steps-of : (q : List ℕ) → Below (length (sheetEquated ss)) q
+      → orderedSteps (sheetEquated ss) (sheetLines ss) (sheetBounds ss) (sheetKinds ss) (sheetSlots ss) q
       ≡ concat-map recBytes (concat-map (λ i. equationRecs ds (equationAt ds i)) q)
   steps-of q b =
-      ordered-steps (sheetRows ss) (sheetLines ss) (sheetBounds ss) (sheetKinds ss) (sheetSlots ss) q
-      ∙ concat-same-in (λ r. stepsIn (getD (sheetRows ss) r 0)) (λ r. bytesOf (equationAt ds r)) q
-      (λ r h. row-at ss stepsIn bytesOf row-steps r (b r h))
+      ordered-steps (sheetEquated ss) (sheetLines ss) (sheetBounds ss) (sheetKinds ss) (sheetSlots ss) q
+      ∙ concat-same-in (λ r. stepsIn (getD (sheetEquated ss) r 0)) (λ r. bytesOf (equationAt ds r)) q
+      (λ r h. equated-at ss stepsIn bytesOf equated-steps r (b r h))
       ∙ sym (concat-concat recBytes (λ i. equationRecs ds (equationAt ds i)) q)

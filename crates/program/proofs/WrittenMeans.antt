@@ -13,10 +13,10 @@ use Rattle.order.proofs.Sorting.{perm-below}
 use Rattle.records.specs.Record.{recBytes, programBytes}
 use Rattle.model.specs.Definitions.{Def, definitions, equationAt, equationCount}
 use Rattle.model.specs.Faults.{usesIn, nameFaults, modelFaults, orderOf}
-use Rattle.model.specs.Places.{keysIn, placesIn, resolved, equationRows}
-use Rattle.model.proofs.SheetWalk.{sheetKinds, sheetLines, sheetBounds, sheetKeys, sheetSlots, sheetPlaces, sheetRows}
+use Rattle.model.specs.Places.{keysIn, placesIn, resolved, equatedIn}
+use Rattle.model.proofs.SheetWalk.{sheetKinds, sheetLines, sheetBounds, sheetKeys, sheetSlots, sheetPlaces, sheetEquated}
 use Rattle.model.proofs.KeyPlaces.{Once, keys-once}
-use Rattle.model.proofs.SheetEquations.{rows-length}
+use Rattle.model.proofs.SheetEquations.{equated-length}
 use Rattle.model.proofs.NoModelFault.{no-faults, order-good}
 use Rattle.model.proofs.ArraysMean.{slots-meant}
 use Rattle.program.specs.Program.{constantRecs, initialRecs, equationRecs, program}
@@ -28,7 +28,7 @@ use Rattle.program.proofs.Counts.{count-of}
 -- the bytes of a program whose equations are in the order q
 program-of : (ss : List Numbered) → Once (sheetKeys ss) → nameFaults (definitions ss) (definitions ss) ≡ []
     → (q : List ℕ) → Below (equationCount (definitions ss)) q
-    → writtenProgram (sheetPlaces ss) (sheetRows ss) (sheetLines ss) (sheetBounds ss) (sheetKinds ss) (sheetSlots ss) q
+    → writtenProgram (sheetPlaces ss) (sheetEquated ss) (sheetLines ss) (sheetBounds ss) (sheetKinds ss) (sheetSlots ss) q
     ≡ programBytes (program (definitions ss) q)
 unfolding writtenProgram programBytes program
 program-of ss distinct clean q b =
@@ -36,7 +36,7 @@ program-of ss distinct clean q b =
     let x = concat-map (λ (d : Def). constantRecs ds d (d .what)) ds in
     let y = concat-map (λ (d : Def). initialRecs ds d (d .what)) ds in
     let z = concat-map (λ (i : ℕ). equationRecs ds (equationAt ds i)) q in
-    ap₂ _++_ (constants-of ss) (ap₂ _++_ (initials-of ss distinct clean) (steps-of ss q (rw (rows-length ss) b)))
+    ap₂ _++_ (constants-of ss) (ap₂ _++_ (initials-of ss distinct clean) (steps-of ss q (rw (equated-length ss) b)))
     ∙ sym (concat-append recBytes x (y ++ z) ∙ ap (λ r. concat-map recBytes x ++ r) (concat-append recBytes y z))
 
 -- ---- of arrays that hold the statements ss, which have no model fault
@@ -58,7 +58,7 @@ module _ (ss : List Numbered) (kinds args lines bounds : List ℕ) (laid : Laid 
 
   -- THE PROGRAM
   pub program-meant : writtenProgram (placesIn kinds)
-      (equationRows (length lines) bounds kinds) lines bounds kinds slots (orderOf ds)
+      (equatedIn (length lines) bounds kinds) lines bounds kinds slots (orderOf ds)
       ≡ programBytes (program ds (orderOf ds))
   program-meant =
       let e = no-faults ss clean in

@@ -59,19 +59,19 @@ settingsOf phase places lines bounds kinds slots j =
 abbrev pub stepsOf : List ℕ → List ℕ → List ℕ → List ℕ → ℕ → List ℕ
 stepsOf lines bounds kinds slots j = inStatement bounds (stepAt kinds slots (getD lines j 0)) j
 
--- of the ordered statements: order gives places in rows
+-- of the ordered statements: order gives places in equated
 unfoldable pub orderedSteps : List ℕ → List ℕ → List ℕ → List ℕ → List ℕ → List ℕ → List ℕ
-orderedSteps rows lines bounds kinds slots [] = []
-orderedSteps rows lines bounds kinds slots (r ∷ order) =
-    stepsOf lines bounds kinds slots (getD rows r 0) ++ orderedSteps rows lines bounds kinds slots order
+orderedSteps equated lines bounds kinds slots [] = []
+orderedSteps equated lines bounds kinds slots (r ∷ order) =
+    stepsOf lines bounds kinds slots (getD equated r 0) ++ orderedSteps equated lines bounds kinds slots order
 
 -- first all constants in text order, then all initials likewise, then each ordered statement
 unfoldable pub writtenProgram : List ℕ → List ℕ → List ℕ → List ℕ → List ℕ → List ℕ → List ℕ → List ℕ
-writtenProgram places rows lines bounds kinds slots order =
+writtenProgram places equated lines bounds kinds slots order =
     gather (settingsOf kindConstant places lines bounds kinds slots) (length lines) 0
     ++
     (gather (settingsOf kindInitial places lines bounds kinds slots)
-    (length lines) 0 ++ orderedSteps rows lines bounds kinds slots order)
+    (length lines) 0 ++ orderedSteps equated lines bounds kinds slots order)
 
 -- ---- what a function that writes says of the bytes that it is lent
 

@@ -218,7 +218,7 @@ fn put_steps(
 
 // Writes the ordered statements.
 fn put_ordered(
-    rows: &[u16],
+    equated: &[u16],
     lines: &[u16],
     bounds: &[u16],
     kinds: &[u8],
@@ -229,14 +229,14 @@ fn put_ordered(
 ) -> usize
     requires { ⌜ at ≤ length (now out) ⌝ }
     ensures { λ r. ⌜
-        Fills (orderedSteps (now (rows .entry)) (now (lines .entry)) (now (bounds .entry)) (now (kinds .entry))
+        Fills (orderedSteps (now (equated .entry)) (now (lines .entry)) (now (bounds .entry)) (now (kinds .entry))
         (now (slots .entry)) (now (order .entry)))
         at r (now (out .entry)) (now (out .exit)) ⌝ }
 {
     let mut w = at;
     let mut q: usize = 0;
     while q < order.len() {
-        let j = short_at(rows, short_at(order, q));
+        let j = short_at(equated, short_at(order, q));
         w = put_steps(lines, bounds, kinds, slots, j, &mut *out, w);
         q += 1;
     }
@@ -246,7 +246,7 @@ fn put_ordered(
 // Writes the program to the front of the lent bytes, as many records as there is room for; how many bytes that is.
 pub fn put_program(
     places: &[u16],
-    rows: &[u16],
+    equated: &[u16],
     lines: &[u16],
     bounds: &[u16],
     kinds: &[u8],
@@ -255,7 +255,7 @@ pub fn put_program(
     out: &mut [u8],
 ) -> usize
     ensures { λ r. ⌜
-        (let p = writtenProgram (now (places .entry)) (now (rows .entry)) (now (lines .entry)) (now (bounds .entry))
+        (let p = writtenProgram (now (places .entry)) (now (equated .entry)) (now (lines .entry)) (now (bounds .entry))
         (now (kinds .entry))
         (now (slots .entry)) (now (order .entry)) in
         let q = fitting (length (now (out .entry))) p in
@@ -263,5 +263,5 @@ pub fn put_program(
 {
     let a = put_all_settings(CONSTANT, places, lines, bounds, kinds, slots, &mut *out, 0);
     let b = put_all_settings(INITIAL, places, lines, bounds, kinds, slots, &mut *out, a);
-    put_ordered(rows, lines, bounds, kinds, slots, order, out, b)
+    put_ordered(equated, lines, bounds, kinds, slots, order, out, b)
 }

@@ -108,7 +108,7 @@ model = record { plan = λ lines bounds kinds args used faults l r s a b u v f g
 -- a program counted and written
 pub programs : Program
 programs =
-    record { count-records = λ kinds. one _; put-program = λ places rows lines bounds kinds slots order out. two _ _ }
+    record { count-records = λ kinds. one _; put-program = λ places equated lines bounds kinds slots order out. two _ _ }
 
 -- ---- the evaluator's three
 

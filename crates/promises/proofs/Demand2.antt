@@ -176,7 +176,7 @@ module _ (text : List ℕ) (f p : ℕ) (w : Unrefused text f p) where
               (sym (ap numberOf (in-order q g)) ∙ e),
           λ none. ap numberOf (unordered none),
         );
-        named = λ none. (faults24 ds, unordered none, names-loops ds);
+        loops-named = λ none. (faults24 ds, unordered none, names-loops ds);
         ordered = λ r g. (
           orderOf ds,
           record { good = order-good ds (no-loops ds r g); first = text-order-first text },

@@ -14,7 +14,7 @@ use Rattle.drafts.specs.Tree.{Two, plus, minus, times, over, compar, Tree, valu
 use Rattle.drafts.specs.Tree.{Constant, Initial, plain, from}
 use Rattle.drafts.specs.Tree.{Says, constants, assignment, state}
 use Rattle.grammar.specs.Look.{op, isMinus, signed, Opening, group, pair, pair-of, triple, triple-of, triple-of-two}
-use Rattle.grammar.specs.Look.{Given, whole, wants, give-to}
+use Rattle.grammar.specs.Look.{Given, full, wants, give-to}
 use Rattle.grammar.specs.Look.{Shape, Leaf, Paren, Call, NoFactor, shapeOf}
 use Rattle.grammar.specs.Grammar.{Mode, expr, term, factor, terms, factors, opened, list}
 use Rattle.grammar.specs.Grammar.{Der, unsigned, sign, no-terms, add, a-term, no-factors, mul, a-leaf, grouped, called}
@@ -51,7 +51,7 @@ DoubleOpening (triple-of-two o a b) = Doubles a × Doubles b
 
 -- of what an opening makes
 abbrev DoubleGiven : Given → Type 0
-DoubleGiven (whole e) = Doubles e
+DoubleGiven (full e) = Doubles e
 DoubleGiven (wants p) = DoubleOpening p
 
 -- of what a token begins

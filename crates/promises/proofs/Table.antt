@@ -1,4 +1,4 @@
--- The rows marked P of the paper's table of tried texts, and the listing that it gives whole, by computation.
+-- The texts marked P in the paper's table, and the listing that it gives whole, by computation.
 use Prim.Native.Nat.{ℕ}
 use Prim.Native.String.{String}
 use mathlib.Core.Path.{_≡_, refl}
@@ -53,15 +53,15 @@ three64 = ofBits binary64 0x4008_0000_0000_0000
 abbrev fault : ℕ → ℕ → Place → Fault
 fault l c p = record { line = l; code = c; place = p }
 
--- a row: a text, its verdict with the fault list or the records and the first lines of the ordered statements, and its
+-- a trial: a text, its verdict with the fault list or the records and the first lines of the ordered statements, and its
 -- listing
-pub record Row : Type 0 where
+pub record Trial : Type 0 where
   pub text : String
   pub verdict : Verdict
   pub listing : String
 
-abbrev row : String → Verdict → String → Row
-row t v l = record { text = t; verdict = v; listing = l }
+abbrev trial : String → Verdict → String → Trial
+trial t v l = record { text = t; verdict = v; listing = l }
 
 -- the tank
 abbrev pub tank : String
@@ -88,26 +88,26 @@ tankRecords =
     ∷ rec 4 (Deriv 3)
     ∷ []
 
--- the rows marked P, and the listing's second text
-unfoldable pub rows : List Row
-rows =
-    row "" (translated [] []) "OK 0\n"
-    ∷ row tank (translated tankRecords (3 ∷ 5 ∷ 4 ∷ [])) "OK 15\n3\n5\n4\n"
-    ∷ row "* TANK\nPARAM K=2\nQ=K*\nH=INTGRL(1,F-Q)\nF=LIMIT(0,3,TIME)\n"
+-- the texts marked P, and the listing's second text
+unfoldable pub trials : List Trial
+trials =
+    trial "" (translated [] []) "OK 0\n"
+    ∷ trial tank (translated tankRecords (3 ∷ 5 ∷ 4 ∷ [])) "OK 15\n3\n5\n4\n"
+    ∷ trial "* TANK\nPARAM K=2\nQ=K*\nH=INTGRL(1,F-Q)\nF=LIMIT(0,3,TIME)\n"
     (faulty 5 (fault 3 18 at-end ∷ [])) "NO 5\n3 18\n"
-    ∷ row "X=INTGRL(1,-X)"
+    ∷ trial "X=INTGRL(1,-X)"
     (translated (rec 1 (Initial 1 one64) ∷ rec 1 (Slot 1) ∷ rec 1 Neg ∷ rec 1 (Deriv 1) ∷ []) (1 ∷ [])) "OK 4\n1\n"
-    ∷ row "A=A+1" (faulty 7 (fault 1 24 at-start ∷ [])) "NO 7\n1 24\n"
-    ∷ row "A=B\nB=A\nC=1" (faulty 7 (fault 1 24 at-start ∷ fault 2 24 at-start ∷ [])) "NO 7\n1 24\n2 24\n"
-    ∷ row "A=B\nB=A\nD=A" (faulty 7 (fault 1 24 at-start ∷ fault 2 24 at-start ∷ fault 3 24 at-start ∷ []))
+    ∷ trial "A=A+1" (faulty 7 (fault 1 24 at-start ∷ [])) "NO 7\n1 24\n"
+    ∷ trial "A=B\nB=A\nC=1" (faulty 7 (fault 1 24 at-start ∷ fault 2 24 at-start ∷ [])) "NO 7\n1 24\n2 24\n"
+    ∷ trial "A=B\nB=A\nD=A" (faulty 7 (fault 1 24 at-start ∷ fault 2 24 at-start ∷ fault 3 24 at-start ∷ []))
     "NO 7\n1 24\n2 24\n3 24\n"
-    ∷ row "CONST A=1,A=2" (faulty 7 (fault 1 21 at-start ∷ [])) "NO 7\n1 21\n"
-    ∷ row "X=INTGRL(Y,1)\nY=2" (faulty 7 (fault 1 23 at-start ∷ [])) "NO 7\n1 23\n"
-    ∷ row "A=1..." (faulty 5 (fault 1 11 at-end ∷ [])) "NO 5\n1 11\n"
-    ∷ row "A=3...\n*2"
+    ∷ trial "CONST A=1,A=2" (faulty 7 (fault 1 21 at-start ∷ [])) "NO 7\n1 21\n"
+    ∷ trial "X=INTGRL(Y,1)\nY=2" (faulty 7 (fault 1 23 at-start ∷ [])) "NO 7\n1 23\n"
+    ∷ trial "A=1..." (faulty 5 (fault 1 11 at-end ∷ [])) "NO 5\n1 11\n"
+    ∷ trial "A=3...\n*2"
     (translated (rec 1 (Value three64) ∷ rec 1 (Value two64) ∷ rec 1 Mul ∷ rec 1 (Store 1) ∷ []) (1 ∷ [])) "OK 4\n1\n"
-    ∷ row "ABCDEFG=1" (faulty 5 (fault 1 15 (at-token 0) ∷ [])) "NO 5\n1 15\n"
-    ∷ row "ABCDEF=1" (translated (rec 1 (Value one64) ∷ rec 1 (Store 1) ∷ []) (1 ∷ [])) "OK 2\n1\n"
+    ∷ trial "ABCDEFG=1" (faulty 5 (fault 1 15 (at-token 0) ∷ [])) "NO 5\n1 15\n"
+    ∷ trial "ABCDEF=1" (translated (rec 1 (Value one64) ∷ rec 1 (Store 1) ∷ []) (1 ∷ [])) "OK 2\n1\n"
     ∷ []
 
 -- a text's verdict, with the room that the listing program lends, and its listing
@@ -115,15 +115,15 @@ pub record Shown : Type 0 where
   pub verdict : Verdict
   pub listing : List ℕ
 
-abbrev pub shown : Row → Shown
+abbrev pub shown : Trial → Shown
 shown r = record { verdict = verdictOf (bytes (r .text)) faultRoom programRoom; listing = listing (bytes (r .text)) }
 
-abbrev pub wanted : Row → Shown
+abbrev pub wanted : Trial → Shown
 wanted r = record { verdict = r .verdict; listing = bytes (r .listing) }
 
 -- THE TABLE. Each text has the verdict and the listing that stand beside it
-pub tried : map shown rows ≡ map wanted rows
-unfolding rows listing listed figuresIn verdictOf judged linesOf trimmed dotted passed after ended left reading partOf
+pub tried : map shown trials ≡ map wanted trials
+unfolding trials listing listed figuresIn verdictOf judged linesOf trimmed dotted passed after ended left reading partOf
     joined anyLong sizeFlaw told sheetOf
     concat-map sameBytes numbers run count lowWord decimal digitsFrom exponentFrom tenTo scaled numberOf numberAt nameAt
     tokenAt cutAt
@@ -135,6 +135,6 @@ unfolding rows listing listed figuresIn verdictOf judged linesOf trimmed dotted 
     units size climb span odd
 tried = refl
 
--- row by row
-pub each-row : (r : Row) → List·Memᴰ r rows → shown r ≡ wanted r
-each-row = at-mem shown wanted rows tried
+-- trial by trial
+pub each-trial : (r : Trial) → List·Memᴰ r trials → shown r ≡ wanted r
+each-trial = at-mem shown wanted trials tried

@@ -73,8 +73,8 @@ number-valued m up down =
 
 -- by the sign of the exponent
 signed-valued : (m : Digits) (minus : Bool) (e : ℕ) → Valued (signedNumber m minus e)
-signed-valued m true e = number-valued (m .whole) 0 (e + m .after)
-signed-valued m false e = number-valued (m .whole) e (m .after)
+signed-valued m true e = number-valued (m .amount) 0 (e + m .after)
+signed-valued m false e = number-valued (m .amount) e (m .after)
 
 -- of a cut
 abbrev Good : Cut → Type 0

@@ -132,10 +132,10 @@ pub record Model : Type 0 where
 -- count_records, put_program
 pub record Program : Type 0 where
   pub count-records : (kinds : List ℕ) → Agree (λ (r : ℕ). r ≡ recordCount kinds)
-  pub put-program : (places rows lines bounds kinds slots order out : List ℕ)
+  pub put-program : (places equated lines bounds kinds slots order out : List ℕ)
       → Agree2 (λ (r : ℕ) (o : List ℕ).
-      (r ≡ length (fitting (length out) (writtenProgram places rows lines bounds kinds slots order)))
-      × (o ≡ sets out 0 (fitting (length out) (writtenProgram places rows lines bounds kinds slots order))))
+      (r ≡ length (fitting (length out) (writtenProgram places equated lines bounds kinds slots order)))
+      × (o ≡ sets out 0 (fitting (length out) (writtenProgram places equated lines bounds kinds slots order))))
 
 -- evaluate, start, step
 pub record Evaluator : Type 0 where

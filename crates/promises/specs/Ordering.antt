@@ -53,7 +53,7 @@ pub record Decided (text : List ℕ) (f p : ℕ) : Type 0 where
   -- 7 exactly if there is no such order
   pub exactly : (numberOf (verdictOf text f p) ≡ 7) ↔ NoOrder (textDefinitions text)
   -- and then with these faults
-  pub named : NoOrder (textDefinitions text)
+  pub loops-named : NoOrder (textDefinitions text)
       → (fs : List Fault) × (verdictOf text f p ≡ faulty 7 fs) × NamesLoops (textDefinitions text) fs
   -- otherwise the program has its statements in the first such order, unless it is too long
   pub ordered : (r : List ℕ) → GoodOrder (textDefinitions text) r

@@ -52,7 +52,7 @@ fn amid(t0: Tally) -> Tally {
     let mut used = [170u16; 3];
     let mut faults = [170u8; 4];
     let mut places = [170u16; STATEMENTS];
-    let mut rows = [170u16; STATEMENTS];
+    let mut equated = [170u16; STATEMENTS];
     let mut order = [170u16; STATEMENTS];
     let p = model::plan(
         &lines,
@@ -62,13 +62,13 @@ fn amid(t0: Tally) -> Tally {
         &mut used,
         &mut faults,
         &mut places,
-        &mut rows,
+        &mut equated,
         &mut order,
     );
     let mut t = planned(t0, p, 0, 0, 2, 1);
     t = words(t, &args, 7, 1, 2);
     t = shorts(t, &places, 1, 2, 170);
-    t = shorts(t, &rows, 0, 170, 170);
+    t = shorts(t, &equated, 0, 170, 170);
     shorts(t, &order, 0, 170, 170)
 }
 
@@ -81,7 +81,7 @@ fn amid_twice(t0: Tally) -> Tally {
     let mut used = [170u16; 3];
     let mut faults = [170u8; 4];
     let mut places = [170u16; STATEMENTS];
-    let mut rows = [170u16; STATEMENTS];
+    let mut equated = [170u16; STATEMENTS];
     let mut order = [170u16; STATEMENTS];
     let p = model::plan(
         &lines,
@@ -91,7 +91,7 @@ fn amid_twice(t0: Tally) -> Tally {
         &mut used,
         &mut faults,
         &mut places,
-        &mut rows,
+        &mut equated,
         &mut order,
     );
     let t = planned(t0, p, 7, 1, 0, 0);
@@ -107,7 +107,7 @@ fn unused(t0: Tally) -> Tally {
     let mut used = [170u16; 3];
     let mut faults = [170u8; 8];
     let mut places = [170u16; STATEMENTS];
-    let mut rows = [170u16; STATEMENTS];
+    let mut equated = [170u16; STATEMENTS];
     let mut order = [170u16; STATEMENTS];
     let p = model::plan(
         &lines,
@@ -117,21 +117,21 @@ fn unused(t0: Tally) -> Tally {
         &mut used,
         &mut faults,
         &mut places,
-        &mut rows,
+        &mut equated,
         &mut order,
     );
     let mut t = planned(t0, p, 0, 0, 1, 1);
     t = words(t, &args, 1, 9, 1);
     t = shorts(t, &used, 170, 170, 170);
     t = shorts(t, &places, 2, 170, 170);
-    t = shorts(t, &rows, 1, 170, 170);
+    t = shorts(t, &equated, 1, 170, 170);
     shorts(t, &order, 0, 170, 170)
 }
 
 // Of two constants one has room, and four bytes are left.
 fn little_room(t0: Tally) -> Tally {
     let places = [0u16, 2];
-    let rows = [0u16; 1];
+    let equated = [0u16; 1];
     let lines = [1u16; 1];
     let bounds = [0u16, 4];
     let kinds = [1u8, 0, 1, 0];
@@ -140,7 +140,7 @@ fn little_room(t0: Tally) -> Tally {
     let mut out = [170u8; 20];
     let n = program::put_program(
         &places,
-        &rows[..0],
+        &equated[..0],
         &lines,
         &bounds,
         &kinds,

@@ -1,16 +1,16 @@
-// Translates the texts that no table proves: the other rows of the paper's table, the slips to shut out, and texts at
+// Translates the texts that no table proves: the other texts of the paper's table, the slips to shut out, and texts at
 // each limit. Verdict, faults, records and untouched bytes are compared with what the paper says. Then arrays that no
 // text gives.
 mod arrays;
 mod limits_met;
-mod rows;
+mod table;
 mod slips;
 mod wanted;
 
 // All groups, and the summary.
 fn main() {
     let mut t = tally::none();
-    t = rows::all(t);
+    t = table::all(t);
     t = slips::all(t);
     t = limits_met::all(t);
     t = arrays::all(t);

@@ -219,7 +219,7 @@ no-letter s at b e h = rw (ne-eqb _ 69 (λ f. h (e ∙ f)), e)
 -- ---- the number, by the exponent as it is held
 abbrev pub endOf : List ℕ → ℕ → Digits → Power → Cut
 endOf s at m (Of up down stop b) =
-    cond (isWord b || isPoint b) (badAt 16 at) (cutOf (numberOf (m .whole) up (down + m .after)) at stop)
+    cond (isWord b || isPoint b) (badAt 16 at) (cutOf (numberOf (m .amount) up (down + m .after)) at stop)
 endOf s at m Wrong = badAt 16 at
 
 -- it is the number that the definition gives

@@ -98,8 +98,8 @@ module _ (s : List ℕ) (lo : ℕ) where
 
   -- with either sign of the exponent
   signed-sound : (m : Digits) (minus : Bool) (e next : ℕ) → Inside s lo next → Sound s lo (signedNumber m minus e) next
-  signed-sound m true e next i = value-sound (m .whole) 0 (e + m .after) next i
-  signed-sound m false e next i = value-sound (m .whole) e (m .after) next i
+  signed-sound m true e next i = value-sound (m .amount) 0 (e + m .after) next i
+  signed-sound m false e next i = value-sound (m .amount) e (m .after) next i
 
   -- the whole number, from its digits and its exponent
   end-sound : (at : ℕ) (m : Digits) (e : Exponent) → lo < m .end → Stops (m .end) (length s) e

@@ -24,7 +24,7 @@ decimalAt s from a =
 -- the digits before an exponent
 abbrev pub capped : List ℕ → Digits → Mantissa
 capped s d =
-    record { value = min cap (d .whole); after = d .after; count = d .count; end = d .end; behind = getD s (d .end) 0 }
+    record { value = min cap (d .amount); after = d .after; count = d .count; end = d .end; behind = getD s (d .end) 0 }
 
 -- an exponent: with a minus it stands in down, else in up
 abbrev pub powerOf : List ℕ → Exponent → Power

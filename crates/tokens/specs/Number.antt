@@ -20,17 +20,17 @@ decimal a (b ∷ bs) = decimal (a * 10 + (b - 48)) bs
 -- the digits before an exponent: read as a whole number without the point, which is m; how many stand after the point;
 -- how many there are; and the place behind them
 pub record Digits : Type 0 where
-  pub whole : ℕ
+  pub amount : ℕ
   pub after : ℕ
   pub count : ℕ
   pub end : ℕ
 
 abbrev pub plainDigits : List ℕ → ℕ → Digits
-plainDigits w p = record { whole = decimal 0 w; after = 0; count = length w; end = p }
+plainDigits w p = record { amount = decimal 0 w; after = 0; count = length w; end = p }
 
 abbrev pub pointDigits : List ℕ → List ℕ → ℕ → Digits
 pointDigits w f p =
-    record { whole = decimal 0 (w ++ f); after = length f; count = length w + length f; end = p + length f }
+    record { amount = decimal 0 (w ++ f); after = length f; count = length w + length f; end = p + length f }
 
 -- the digits from a place on: a run of them, and behind a point another
 unfoldable pub digitsFrom : List ℕ → ℕ → Digits
@@ -80,5 +80,5 @@ numberOf m up down = cond (inRange m up down) (Number (scaled m up down)) (Bad 1
 
 -- k is the exponent less the count of digits after the point
 abbrev pub signedNumber : Digits → Bool → ℕ → Token
-signedNumber m true e = numberOf (m .whole) 0 (e + m .after)
-signedNumber m false e = numberOf (m .whole) e (m .after)
+signedNumber m true e = numberOf (m .amount) 0 (e + m .after)
+signedNumber m false e = numberOf (m .amount) e (m .after)

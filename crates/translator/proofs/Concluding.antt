@@ -23,13 +23,13 @@ use Rattle.laws.proofs.Tests.{bool-cases}
 use Rattle.model.proofs.NoModelFault.{order-good}
 use Rattle.model.specs.Definitions.{Def, definitions, equationCount}
 use Rattle.model.specs.Faults.{faults21, nameFaults, faults24, modelFaults, orderOf, usesIn as uses}
-use Rattle.model.specs.Places.{keysIn, placesIn, doubles, resolved, nameless, equationRows, assignedSlots, usedIn}
+use Rattle.model.specs.Places.{keysIn, placesIn, doubles, resolved, nameless, equatedIn, assignedSlots, usedIn}
 use Rattle.model.specs.Places.{startsFrom, loopAt, loops}
 use Rattle.model.specs.Plan.{Lent, lent, PlanOutcome, planOutcome, refused, faulted, some, fit, orderedPlan, weighed}
 use Rattle.model.specs.Plan.{tested, linkedPlan, distinct}
 use Rattle.model.specs.Plan.{sheeted, planned}
 use Rattle.translator.specs.Working.{blank, held}
-use Rattle.model.proofs.ArraysMean.{keys-meant, doubles-meant, names-meant, rows-meant, order-meant, loops-meant}
+use Rattle.model.proofs.ArraysMean.{keys-meant, doubles-meant, names-meant, equated-meant, order-meant, loops-meant}
 
 -- without a 24 all equations are placed
 pub all-placed : (ds : List Def) → faults24 ds ≡ [] → length (orderOf ds) ≡ equationCount ds
@@ -38,24 +38,24 @@ all-placed ds e =
     (good-none-left (equationCount ds) (uses ds) (orderOf ds) (order-good ds e))
 
 -- where all are placed none is named
-no-loops : (ds : List Def) (rows lines : List ℕ) → equationCount ds ≤ length (orderOf ds)
-    → length rows ≡ equationCount ds
-    → loops (orderOf ds) rows lines ≡ []
+no-loops : (ds : List Def) (equated lines : List ℕ) → equationCount ds ≤ length (orderOf ds)
+    → length equated ≡ equationCount ds
+    → loops (orderOf ds) equated lines ≡ []
 unfolding loops order
-no-loops ds rows lines h n = none (length rows) 0 (λ r k. named-none r (omega arith))
+no-loops ds equated lines h n = none (length equated) 0 (λ r k. named-none r (omega arith))
   where
     full : length (orderOf ds) ≡ equationCount ds
     full = omega (arith, place-length (equationCount ds) (uses ds) (equationCount ds) [])
 
-    named-none : (r : ℕ) → r < equationCount ds → loopAt (orderOf ds) rows lines r ≡ []
+    named-none : (r : ℕ) → r < equationCount ds → loopAt (orderOf ds) equated lines r ≡ []
     named-none r k =
         ⊎-elim (λ t. rw t)
         (λ t. absurd (length-order-iff (equationCount ds) (uses ds) .0 full r (k, has-false r (orderOf ds) t)))
         (bool-cases (has r (orderOf ds)))
 
-    none : (k i : ℕ) → ((r : ℕ) → r < i + k → loopAt (orderOf ds) rows lines r ≡ [])
-        → gather (loopAt (orderOf ds) rows lines) k i ≡ []
-    none k i g = gather-none (loopAt (orderOf ds) rows lines) k i (λ r a b. g r b)
+    none : (k i : ℕ) → ((r : ℕ) → r < i + k → loopAt (orderOf ds) equated lines r ≡ [])
+        → gather (loopAt (orderOf ds) equated lines) k i ≡ []
+    none k i g = gather-none (loopAt (orderOf ds) equated lines) k i (λ r a b. g r b)
 
 module _ (ss : List Numbered) (kinds args lines bounds : List ℕ) (laid : Laid ss kinds args lines bounds)
     (used faults : List ℕ) where
@@ -68,32 +68,32 @@ module _ (ss : List Numbered) (kinds args lines bounds : List ℕ) (laid : Laid 
   abbrev places : List ℕ
   places = placesIn kinds
 
-  abbrev rows : List ℕ
-  rows = equationRows (length lines) bounds kinds
+  abbrev equated : List ℕ
+  equated = equatedIn (length lines) bounds kinds
 
   abbrev assigned : List ℕ
-  assigned = assignedSlots rows bounds kinds slots
+  assigned = assignedSlots equated bounds kinds slots
 
   abbrev table : List ℕ
-  table = usedIn assigned bounds kinds slots rows
+  table = usedIn assigned bounds kinds slots equated
 
   abbrev starts : List ℕ
-  starts = startsFrom 0 assigned bounds kinds slots rows
+  starts = startsFrom 0 assigned bounds kinds slots equated
 
   -- the three arrays: with the places; with the equations too; with their order too
   abbrev placed : Lent
   placed = lent (held mostDefinitions places) (replicate mostStatements 0) (replicate mostStatements 0)
 
   abbrev ruled : Lent
-  ruled = lent (held mostDefinitions places) (held mostStatements rows) (replicate mostStatements 0)
+  ruled = lent (held mostDefinitions places) (held mostStatements equated) (replicate mostStatements 0)
 
   abbrev filled : Lent
-  filled = lent (held mostDefinitions places) (held mostStatements rows) (held mostStatements (orderOf ds))
+  filled = lent (held mostDefinitions places) (held mostStatements equated) (held mostStatements (orderOf ds))
 
   -- the plan of a sheet without fault
   abbrev pub soundPlan : PlanOutcome
   soundPlan =
-      planOutcome (record { number = 0; count = 0; definitions = length places; equations = length rows }) slots
+      planOutcome (record { number = 0; count = 0; definitions = length places; equations = length equated }) slots
       (sets used 0 table) faults filled
 
   -- too many definitions; or faults, listed; or none
@@ -118,31 +118,31 @@ module _ (ss : List Numbered) (kinds args lines bounds : List ℕ) (laid : Laid 
 
     -- 24: fewer are placed than there are, and these are the faults; or all are, and there is none
     by-loops : faults21 [] ss ≡ [] → nameFaults ds ds ≡ []
-        → Conclusion (weighed rows (length places) lines bounds kinds slots (sets used 0 table) faults ruled)
+        → Conclusion (weighed equated (length places) lines bounds kinds slots (sets used 0 table) faults ruled)
     unfolding weighed orderedPlan modelFaults
     by-loops e g =
-        rw (order-meant ss kinds args lines bounds laid e) (go (ltb (length (orderOf ds)) (length rows)) refl)
+        rw (order-meant ss kinds args lines bounds laid e) (go (ltb (length (orderOf ds)) (length equated)) refl)
       where
-        model : modelFaults ss ≡ loops (orderOf ds) rows lines
+        model : modelFaults ss ≡ loops (orderOf ds) equated lines
         model = rw (e, g) (sym (loops-meant ss kinds args lines bounds laid))
 
-        n : length rows ≡ equationCount ds
-        n = rows-meant ss kinds args lines bounds laid
+        n : length equated ≡ equationCount ds
+        n = equated-meant ss kinds args lines bounds laid
 
-        fewer : (fs : List Fault) → loops (orderOf ds) rows lines ≡ fs → length (orderOf ds) < length rows
+        fewer : (fs : List Fault) → loops (orderOf ds) equated lines ≡ fs → length (orderOf ds) < length equated
             → Conclusion (faulted fs slots (sets used 0 table) faults filled)
         fewer [] q h =
             absurd
             (let w = all-placed ds (sym (loops-meant ss kinds args lines bounds laid) ∙ q) in omega (arith, h, n, w))
         fewer (f ∷ fs) q h = flawed-by f fs slots (sets used 0 table) filled (model ∙ q)
 
-        go : (b : Bool) → ltb (length (orderOf ds)) (length rows) ≡ b
+        go : (b : Bool) → ltb (length (orderOf ds)) (length equated) ≡ b
             → Conclusion
-            (cond b (faulted (loops (orderOf ds) rows lines) slots (sets used 0 table) faults filled) soundPlan)
-        go true t = fewer (loops (orderOf ds) rows lines) refl (ltb-true (length (orderOf ds)) (length rows) t)
+            (cond b (faulted (loops (orderOf ds) equated lines) slots (sets used 0 table) faults filled) soundPlan)
+        go true t = fewer (loops (orderOf ds) equated lines) refl (ltb-true (length (orderOf ds)) (length equated) t)
         go false t =
             sound few
-            (model ∙ no-loops ds rows lines (omega (arith, ltb-false (length (orderOf ds)) (length rows) t, n)) n) refl
+            (model ∙ no-loops ds equated lines (omega (arith, ltb-false (length (orderOf ds)) (length equated) t, n)) n) refl
 
     -- 22 and 23
     by-names : faults21 [] ss ≡ [] → Conclusion (linkedPlan places lines bounds kinds slots used faults placed)
@@ -151,7 +151,7 @@ module _ (ss : List Numbered) (kinds args lines bounds : List ℕ) (laid : Laid 
       where
         go : (fs : List Fault) → nameless places lines bounds kinds slots ≡ fs
             → Conclusion (cond (some fs) (faulted fs slots (sets used 0 table) faults ruled)
-            (weighed rows (length places) lines bounds kinds slots (sets used 0 table) faults ruled))
+            (weighed equated (length places) lines bounds kinds slots (sets used 0 table) faults ruled))
         go [] q = by-loops e (sym (names-meant ss kinds args lines bounds laid e) ∙ q)
         go (f ∷ fs) q =
             rw (some-cons f fs)

@@ -15,7 +15,7 @@ use Rattle.sheet.specs.Sheet.{Numbered}
 use Rattle.sheet.specs.Layout.{Laid}
 use Rattle.model.specs.Definitions.{Def, definitions}
 use Rattle.model.specs.Faults.{modelFaults, orderOf}
-use Rattle.model.specs.Places.{keysIn, placesIn, resolved, equationRows}
+use Rattle.model.specs.Places.{keysIn, placesIn, resolved, equatedIn}
 use Rattle.model.specs.Plan.{PlanOutcome}
 use Rattle.records.specs.Record.{Rec, recBytes, programBytes}
 use Rattle.program.specs.Program.{program}
@@ -44,7 +44,7 @@ module _ (ss : List Numbered) (kinds args lines bounds : List ℕ) (laid : Laid 
   -- the bytes that the code writes
   abbrev pub written : List ℕ
   written =
-      writtenProgram (placesIn kinds) (equationRows (length lines) bounds kinds) lines bounds kinds
+      writtenProgram (placesIn kinds) (equatedIn (length lines) bounds kinds) lines bounds kinds
       (resolved (keysIn kinds args) kinds args) (orderOf ds)
 
   -- what the verdict on the model leaves

@@ -16,12 +16,12 @@ use Rattle.sheet.specs.Sheet.{Numbered}
 use Rattle.sheet.specs.Layout.{Laid}
 use Rattle.model.specs.Definitions.{Def, definitions, equationCount}
 use Rattle.model.specs.Faults.{modelFaults, orderOf}
-use Rattle.model.specs.Places.{placesIn, equationRows}
+use Rattle.model.specs.Places.{placesIn, equatedIn}
 use Rattle.model.specs.Plan.{lent, PlanOutcome, planOutcome, Plans, fit}
 use Rattle.model.specs.declared.answer.Plan.{Plan}
 use Rattle.model.proofs.NoModelFault.{no-faults}
-use Rattle.model.proofs.PlanStages.{rows-few}
-use Rattle.model.proofs.ArraysMean.{places-meant, rows-meant}
+use Rattle.model.proofs.PlanStages.{equated-few}
+use Rattle.model.proofs.ArraysMean.{places-meant, equated-meant}
 use Rattle.program.specs.Written.{recordCount, writtenProgram, fitting}
 use Rattle.translator.specs.declared.Verdict.{Verdict}
 use Rattle.translator.specs.declared.Verdict.the-variants.{Refused, Faulty, Translated}
@@ -47,8 +47,8 @@ pub front : (n : ℕ) (l : List ℕ) → n ≤ length l → n ≡ length (take n
 front n l h = sym (length-take-le n l h)
 
 -- ---- the plan of a sound model
-module _ {p : Plan} {places rows order lines bounds kinds args : List ℕ}
-    (s : Planned p places rows order lines bounds kinds args) where
+module _ {p : Plan} {places equated order lines bounds kinds args : List ℕ}
+    (s : Planned p places equated order lines bounds kinds args) where
   abbrev ds : List Def
   ds = definitions (s .statements)
 
@@ -56,10 +56,10 @@ module _ {p : Plan} {places rows order lines bounds kinds args : List ℕ}
   few = omega (arith, ltb-false mostDefinitions (length ds) (s .few))
 
   places-many : length (placesIn kinds) ≡ length ds
-  places-many = places-meant (s .statements) kinds (s .named) lines bounds (s .laid)
+  places-many = places-meant (s .statements) kinds (s .unresolved) lines bounds (s .laid)
 
-  rows-many : length (equationRows (length lines) bounds kinds) ≡ equationCount ds
-  rows-many = rows-meant (s .statements) kinds (s .named) lines bounds (s .laid)
+  equated-many : length (equatedIn (length lines) bounds kinds) ≡ equationCount ds
+  equated-many = equated-meant (s .statements) kinds (s .unresolved) lines bounds (s .laid)
 
   order-many : length (orderOf ds) ≡ equationCount ds
   order-many = all-placed ds (no-faults (s .statements) (s .clean) .2)
@@ -67,48 +67,48 @@ module _ {p : Plan} {places rows order lines bounds kinds args : List ℕ}
   places-short : length (placesIn kinds) ≤ mostDefinitions
   places-short = omega (arith, places-many, few)
 
-  rows-short : length (equationRows (length lines) bounds kinds) ≤ mostStatements
-  rows-short = omega (arith, rows-few (length lines) bounds kinds, s .short)
+  equated-short : length (equatedIn (length lines) bounds kinds) ≤ mostStatements
+  equated-short = omega (arith, equated-few (length lines) bounds kinds, s .short)
 
   order-short : length (orderOf ds) ≤ mostStatements
-  order-short = omega (arith, order-many, rows-many, rows-short)
+  order-short = omega (arith, order-many, equated-many, equated-short)
 
   -- the three rows, cut from their arrays
   pub places-room : p .definitions ≤ length places
   places-room = rw (s .places-held, length-held mostDefinitions (placesIn kinds))
       (omega (arith, s .definitions-counted, places-short))
 
-  pub rows-room : p .equations ≤ length rows
-  rows-room = rw (s .rows-held, length-held mostStatements (equationRows (length lines) bounds kinds))
-      (omega (arith, s .equations-counted, rows-short))
+  pub equated-room : p .equations ≤ length equated
+  equated-room = rw (s .equated-held, length-held mostStatements (equatedIn (length lines) bounds kinds))
+      (omega (arith, s .equations-counted, equated-short))
 
   pub order-room : p .equations ≤ length order
   order-room =
-      rw (s .order-held, length-held mostStatements (orderOf ds)) (omega (arith, s .equations-counted, rows-short))
+      rw (s .order-held, length-held mostStatements (orderOf ds)) (omega (arith, s .equations-counted, equated-short))
 
   pub places-cut : take (p .definitions) places ≡ placesIn kinds
   places-cut =
       rw (s .places-held)
       (take-held mostDefinitions (placesIn kinds) (p .definitions) (s .definitions-counted) places-short)
 
-  pub rows-cut : take (p .equations) rows ≡ equationRows (length lines) bounds kinds
-  rows-cut =
-      rw (s .rows-held)
-      (take-held mostStatements (equationRows (length lines) bounds kinds) (p .equations)
-      (s .equations-counted) rows-short)
+  pub equated-cut : take (p .equations) equated ≡ equatedIn (length lines) bounds kinds
+  equated-cut =
+      rw (s .equated-held)
+      (take-held mostStatements (equatedIn (length lines) bounds kinds) (p .equations)
+      (s .equations-counted) equated-short)
 
   pub order-cut : take (p .equations) order ≡ orderOf ds
   order-cut =
       rw (s .order-held)
       (take-held mostStatements (orderOf ds) (p .equations)
-      (s .equations-counted ∙ rows-many ∙ sym order-many) order-short)
+      (s .equations-counted ∙ equated-many ∙ sym order-many) order-short)
 
   -- what is written is the program's bytes
-  pub written-cut : {r₁ r₂ r₃ : List ℕ} → r₁ ≡ take (p .definitions) places → r₂ ≡ take (p .equations) rows
+  pub written-cut : {r₁ r₂ r₃ : List ℕ} → r₁ ≡ take (p .definitions) places → r₂ ≡ take (p .equations) equated
       → r₃ ≡ take (p .equations) order
-      → writtenProgram r₁ r₂ lines bounds kinds args r₃ ≡ written (s .statements) kinds (s .named) lines bounds
+      → writtenProgram r₁ r₂ lines bounds kinds args r₃ ≡ written (s .statements) kinds (s .unresolved) lines bounds
       (s .laid) [] [] []
-  written-cut e₁ e₂ e₃ = rw (e₁, e₂, e₃, places-cut, rows-cut, order-cut, s .args-resolved)
+  written-cut e₁ e₂ e₃ = rw (e₁, e₂, e₃, places-cut, equated-cut, order-cut, s .args-resolved)
 
   -- ---- the answers
   module _ (out : List ℕ) {over : Bool}
@@ -122,14 +122,14 @@ module _ {p : Plan} {places rows order lines bounds kinds args : List ℕ}
               → (b || ltb (length out / recordBytes) (recordCount kinds)) ≡ true
               → Concludes (s .statements) f out (Refused 8) f out
           go true e _ =
-              decides-eight (s .statements) kinds (s .named) lines bounds (s .laid) [] f out (s .few) (s .clean)
+              decides-eight (s .statements) kinds (s .unresolved) lines bounds (s .laid) [] f out (s .few) (s .clean)
               (ltb-true mostRecords (recordCount kinds) e)
           go false e h =
-              decides-eight′ (s .statements) kinds (s .named) lines bounds (s .laid) [] f out (s .few) (s .clean)
+              decides-eight′ (s .statements) kinds (s .unresolved) lines bounds (s .laid) [] f out (s .few) (s .clean)
               (ltb-true (length out / recordBytes) (recordCount kinds) h) (ltb-false mostRecords (recordCount kinds) e)
 
       -- or they are not, and the program is written
-      module _ {r₁ r₂ r₃ : List ℕ} (e₁ : r₁ ≡ take (p .definitions) places) (e₂ : r₂ ≡ take (p .equations) rows)
+      module _ {r₁ r₂ r₃ : List ℕ} (e₁ : r₁ ≡ take (p .definitions) places) (e₂ : r₂ ≡ take (p .equations) equated)
           (e₃ : r₃ ≡ take (p .equations) order) (z : over ≡ false) where
         under : (recordCount kinds ≤ mostRecords) × (recordCount kinds ≤ length out / recordBytes)
         under =
@@ -145,7 +145,7 @@ module _ {p : Plan} {places rows order lines bounds kinds args : List ℕ}
             → n / recordBytes ≡ recordCount kinds
         counted e =
             let many =
-            program-long (s .statements) kinds (s .named) lines bounds (s .laid) [] [] out (s .few) (s .clean) in
+            program-long (s .statements) kinds (s .unresolved) lines bounds (s .laid) [] [] out (s .few) (s .clean) in
             rw (e, written-cut e₁ e₂ e₃) (omega (arith, many))
 
         -- there is room for all of them
@@ -153,10 +153,10 @@ module _ {p : Plan} {places rows order lines bounds kinds args : List ℕ}
             ≡ writtenProgram r₁ r₂ lines bounds kinds args r₃
         all-fits =
             let many =
-            program-long (s .statements) kinds (s .named) lines bounds (s .laid) [] [] out (s .few) (s .clean) in
+            program-long (s .statements) kinds (s .unresolved) lines bounds (s .laid) [] [] out (s .few) (s .clean) in
             rw (written-cut e₁ e₂ e₃)
             (take-all (recordBytes * (length out / recordBytes))
-            (written (s .statements) kinds (s .named) lines bounds (s .laid) [] [] [])
+            (written (s .statements) kinds (s .unresolved) lines bounds (s .laid) [] [] [])
             (omega (arith, many, under .1)))
 
         pub says-zero : {n : ℕ} {out′ : List ℕ}
@@ -166,16 +166,16 @@ module _ {p : Plan} {places rows order lines bounds kinds args : List ℕ}
             → Concludes (s .statements) f out (Translated (n / recordBytes)) f out′
         says-zero e f =
             rw (counted (e .0 ∙ ap length all-fits), e .1 ∙ ap (sets out 0) all-fits, written-cut e₁ e₂ e₃)
-            (decides-zero (s .statements) kinds (s .named) lines bounds (s .laid) [] f out (s .few) (s .clean)
+            (decides-zero (s .statements) kinds (s .unresolved) lines bounds (s .laid) [] f out (s .few) (s .clean)
             (under .0) (under .1))
 
 -- ---- what is planned of statements that are laid out
 module _ {lines bounds kinds args used faults : List ℕ} (ready : Ready lines bounds kinds args used faults)
-    {p : Plan} {args′ used′ faults′ places rows order : List ℕ}
-    (plans : Plans lines bounds kinds args used faults blank p args′ used′ faults′ (lent places rows order))
+    {p : Plan} {args′ used′ faults′ places equated order : List ℕ}
+    (plans : Plans lines bounds kinds args used faults blank p args′ used′ faults′ (lent places equated order))
     (ss : List Numbered) (laid : Laid ss kinds args lines bounds) (out : List ℕ) where
   abbrev reached : PlanOutcome
-  reached = planOutcome p args′ used′ faults′ (lent places rows order)
+  reached = planOutcome p args′ used′ faults′ (lent places equated order)
 
   conclusion : Conclusion ss kinds args lines bounds laid used faults reached
   conclusion = rw plans (concluded ss kinds args lines bounds laid used faults (ready .fits))
@@ -196,12 +196,12 @@ module _ {lines bounds kinds args used faults : List ℕ} (ready : Ready lines b
         × (reached ≡ soundPlan ss kinds args lines bounds laid used faults)
     sound = decides-sound ss kinds args lines bounds laid used faults out reached conclusion not-six not-seven
 
-    pub planned-so : Planned p places rows order lines bounds kinds args′
+    pub planned-so : Planned p places equated order lines bounds kinds args′
     planned-so =
         let e = sound .2 in
         record {
           statements = ss;
-          named = args;
+          unresolved = args;
           laid = laid;
           few = sound .0;
           clean = sound .1;
@@ -210,12 +210,12 @@ module _ {lines bounds kinds args used faults : List ℕ} (ready : Ready lines b
           short = lines-short;
           equations-counted = ap (λ (o : PlanOutcome). o .plan .equations) e;
           places-held = ap (λ (o : PlanOutcome). o .arrays .places) e;
-          rows-held = ap (λ (o : PlanOutcome). o .arrays .rows) e;
+          equated-held = ap (λ (o : PlanOutcome). o .arrays .equated) e;
           order-held = ap (λ (o : PlanOutcome). o .arrays .order) e;
         }
 
     pub says-rest : (r : Verdict) {out′ : List ℕ}
-        → ((s : Planned p places rows order lines bounds kinds args′) (f : List ℕ)
+        → ((s : Planned p places equated order lines bounds kinds args′) (f : List ℕ)
         → Concludes (s .statements) f out r f out′)
         → Concludes ss faults out r faults′ out′
     unfolding planned-so

@@ -20,7 +20,7 @@ use Rattle.sheet.specs.Reader.{told, sheetOf}
 use Rattle.sheet.specs.Layout.{draftsIn, boundsFrom, Laid}
 use Rattle.model.specs.Definitions.{definitions}
 use Rattle.model.specs.Faults.{modelFaults, orderOf}
-use Rattle.model.specs.Places.{keysIn, placesIn, resolved, equationRows}
+use Rattle.model.specs.Places.{keysIn, placesIn, resolved, equatedIn}
 use Rattle.model.specs.Plan.{Lent, lent, fit}
 use Rattle.model.specs.declared.answer.Plan.{Plan}
 use Rattle.translator.specs.declared.Verdict.{Verdict}
@@ -194,18 +194,18 @@ pub record Ready (lines bounds kinds args used faults : List ℕ) : Type 0 where
 
 -- the arrays held some statements whose model is sound; the names of their arguments are resolved, and the plan is
 -- theirs
-pub record Planned (p : Plan) (places rows order lines bounds kinds args : List ℕ) : Type 0 where
+pub record Planned (p : Plan) (places equated order lines bounds kinds args : List ℕ) : Type 0 where
   pub statements : List Numbered
-  pub named : List ℕ
-  pub laid : Laid statements kinds named lines bounds
+  pub unresolved : List ℕ
+  pub laid : Laid statements kinds unresolved lines bounds
   pub few : ltb mostDefinitions (length (definitions statements)) ≡ false
   pub clean : modelFaults statements ≡ []
-  pub args-resolved : args ≡ resolved (keysIn kinds named) kinds named
+  pub args-resolved : args ≡ resolved (keysIn kinds unresolved) kinds unresolved
   pub definitions-counted : p .definitions ≡ length (placesIn kinds)
-  pub equations-counted : p .equations ≡ length (equationRows (length lines) bounds kinds)
+  pub equations-counted : p .equations ≡ length (equatedIn (length lines) bounds kinds)
   pub short : length lines ≤ mostStatements
   pub places-held : places ≡ held mostDefinitions (placesIn kinds)
-  pub rows-held : rows ≡ held mostStatements (equationRows (length lines) bounds kinds)
+  pub equated-held : equated ≡ held mostStatements (equatedIn (length lines) bounds kinds)
   pub order-held : order ≡ held mostStatements (orderOf (definitions statements))
 
 -- the answer r and the buffers f′ and p′ are what the verdict on the model of the statements gives for the buffers f

@@ -35,11 +35,11 @@ fn is_over(kinds: &[u8], room: usize) -> bool
 }
 
 // Writes the program of a sound model, if its records are few enough and there is room for them. The places of its
-// definitions, its equations and their order stand at the front of places, rows and order.
+// definitions, its equations and their order stand at the front of places, equated and order.
 fn write_program(
     plan: Plan,
     places: &[u16],
-    rows: &[u16],
+    equated: &[u16],
     order: &[u16],
     lines: &[u16],
     bounds: &[u16],
@@ -47,8 +47,8 @@ fn write_program(
     args: &[u64],
     out: &mut [u8],
 ) -> Verdict
-    requires { ⌜ Planned plan (now places) (now rows) (now order) (now lines) (now bounds) (now kinds) (now args) ⌝ }
-    ensures { λ r. ⌜ ((s : Planned plan (now (places .entry)) (now (rows .entry)) (now (order .entry))
+    requires { ⌜ Planned plan (now places) (now equated) (now order) (now lines) (now bounds) (now kinds) (now args) ⌝ }
+    ensures { λ r. ⌜ ((s : Planned plan (now (places .entry)) (now (equated .entry)) (now (order .entry))
         (now (lines .entry)) (now (bounds .entry))
         (now (kinds .entry)) (now (args .entry))) (f : List ℕ)
         → Concludes (s .statements) f (now (out .entry)) r f (now (out .exit))) ⌝ }
@@ -60,7 +60,7 @@ fn write_program(
     let e = plan.equations;
     let bytes = program::put_program(
         &places[..d],
-        &rows[..e],
+        &equated[..e],
         lines,
         bounds,
         kinds,
@@ -87,7 +87,7 @@ pub(crate) fn conclude(
         → Concludes ss (now (faults .entry)) (now (out .entry)) r (now (faults .exit)) (now (out .exit))) ⌝ }
 {
     let mut places = [0u16; DEFINITIONS];
-    let mut rows = [0u16; STATEMENTS];
+    let mut equated = [0u16; STATEMENTS];
     let mut order = [0u16; STATEMENTS];
     let plan = model::plan(
         lines,
@@ -97,7 +97,7 @@ pub(crate) fn conclude(
         used,
         faults,
         &mut places,
-        &mut rows,
+        &mut equated,
         &mut order,
     );
     if plan.number == 6 {
@@ -109,7 +109,7 @@ pub(crate) fn conclude(
     write_program(
         plan,
         &places,
-        &rows,
+        &equated,
         &order,
         lines,
         bounds,

@@ -6,7 +6,7 @@ use borrow.Author.Needs.{needs}
 use Rattle.laws.specs.Places.{gather}
 use Rattle.listing_text.proofs.Puts.{put-both}
 use Rattle.listing_text.proofs.Reach.{reach-first, reach-second, listing-reach}
-use Rattle.listing_text.specs.Written.{rowAt, head, InReach}
+use Rattle.listing_text.specs.Written.{detailAt, head, InReach}
 use Rattle.listing_text.proofs.put_all.Statement.{statement}
 use Rattle.listing_text.proofs.put_all.Tie as tie
 
@@ -15,7 +15,7 @@ abbrev first : tie.Start → List ℕ
 first s = head (s .args .a) (s .args .b) (s .args .n)
 
 abbrev others : tie.Start → List ℕ
-others s = gather (rowAt (s .args .ordered) (s .args .from .now)) (s .args .count) 0
+others s = gather (detailAt (s .args .ordered) (s .args .from .now)) (s .args .count) 0
 
 reach : (k : tie.After-shared-slice-known) → InReach (first (k .before) ++ others (k .before)) 0
 reach k =
@@ -28,8 +28,8 @@ put-head-requires c κs =
     let k = c .before .before in
     reach-first (first (k .before)) (others (k .before)) 0 (reach k)
 
-put-rows-requires : tie.Need-put-rows-requires
-put-rows-requires c κs =
+put-details-requires : tie.Need-put-details-requires
+put-details-requires c κs =
     let h = c .before .before .before in
     let k = h .before .before .before in
     (k .before .pre .1, reach-second (h .put-head .ensures) (others (k .before)) (reach k))
@@ -37,7 +37,7 @@ put-rows-requires c κs =
 returns : tie.Need-returns
 returns c =
     let p = c .before .before in
-    put-both (p .before .before .before .before .put-head .ensures) (p .put-rows .ensures)
+    put-both (p .before .before .before .before .put-head .ensures) (p .put-details .ensures)
 
 pub put-all-spec : {M : Type 1} → statement M
-put-all-spec = tie.close (tie.spec put-head-requires put-rows-requires (λ c. search needs) returns)
+put-all-spec = tie.close (tie.spec put-head-requires put-details-requires (λ c. search needs) returns)

@@ -17,7 +17,7 @@ run-requires c κs =
     let k = test .before in
     let a = S k .args in
     let told = sym (k .fits2 .ensures) ∙ test .if1 .taken in
-    fit-sound (a .lines .now) (a .bounds .now) (a .kinds .now) (a .used .now) (a .rows .now) (a .order .now)
+    fit-sound (a .lines .now) (a .bounds .now) (a .kinds .now) (a .used .now) (a .equated .now) (a .order .now)
     (length (a .args .now)) (length (a .faults .now))
     (length (a .places .now)) told
 
@@ -29,14 +29,14 @@ returns c =
     let a = S k .args in
     let told = sym (k .fits2 .ensures) ∙ test .if1 .taken in
     planned-fit (a .lines .now) (a .bounds .now) (a .kinds .now) (a .args .now) (a .used .now) (a .faults .now)
-    (lent (a .places .now) (a .rows .now) (a .order .now)) told (done .run .ensures)
+    (lent (a .places .now) (a .equated .now) (a .order .now)) told (done .run .ensures)
 
 returns-2 : tie.Need-returns-2
 returns-2 c =
     let k = c .before .before in
     let a = S k .args in
     planned-unfit (a .lines .now) (a .bounds .now) (a .kinds .now) (a .args .now) (a .used .now) (a .faults .now)
-    (lent (a .places .now) (a .rows .now) (a .order .now)) (sym (k .fits2 .ensures) ∙ c .before .if1 .left)
+    (lent (a .places .now) (a .equated .now) (a .order .now)) (sym (k .fits2 .ensures) ∙ c .before .if1 .left)
     (c .refusal .ensures)
 
 pub plan-spec : {M : Type 1} → statement M

@@ -23,7 +23,7 @@ returns-4 : tie.Need-returns-4
 unfolding fits
 returns-4 c =
     let a = c .before .before .before in
-    let e = sym (c .before .before .rows-end .ensures) ∙ c .before .if4 .taken in
+    let e = sym (c .before .before .uses-end .ensures) ∙ c .before .if4 .taken in
     rw (le-leb _ _ (a .before .before .if1 .left), lt-ltb _ _ (a .before .if2 .left), le-leb _ _ (a .if3 .left), e)
     (c .used-below .ensures)
 
@@ -31,7 +31,7 @@ returns-5 : tie.Need-returns-5
 unfolding fits
 returns-5 c =
     let a = c .before .before in
-    let e = sym (c .before .rows-end .ensures) ∙ c .if4 .left in
+    let e = sym (c .before .uses-end .ensures) ∙ c .if4 .left in
     rw (le-leb _ _ (a .before .before .if1 .left), lt-ltb _ _ (a .before .if2 .left), le-leb _ _ (a .if3 .left), e)
 
 pub fit-spec : {M : Type 1} → statement M

@@ -1,11 +1,11 @@
--- The row is empty, or the statement waits for the first of it.
+-- It uses nothing, or it waits for the first that it uses.
 use native.Mathlib.Omega.{arith}
 use borrow.Author.Needs.{needs}
 use Rattle.order.proofs.Flagging.{start-ready, start-below, start-wait}
 use Rattle.order.proofs.settle_first.Statement.{statement}
 use Rattle.order.proofs.settle_first.Tie as tie
 
--- where the function begins, from where both ends of the row are known
+-- where the function begins, from where both ends of its uses are known
 abbrev S : tie.After-index2 → tie.Start
 S c = c .before .before .before .before .before .before
 

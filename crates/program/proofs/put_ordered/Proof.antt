@@ -9,11 +9,11 @@ use Rattle.program.proofs.put_ordered.Statement.{statement}
 use Rattle.program.proofs.put_ordered.Tie as tie
 
 abbrev Inv-loop : tie.InvT-loop
-Inv-loop rows lines bounds kinds slots order out₀ at w₀ q₀ out w q =
-    Filling (λ p. stepsOf lines bounds kinds slots (getD rows (getD order p 0) 0)) (length order) 0 q at w out₀ out
+Inv-loop equated lines bounds kinds slots order out₀ at w₀ q₀ out w q =
+    Filling (λ p. stepsOf lines bounds kinds slots (getD equated (getD order p 0) 0)) (length order) 0 q at w out₀ out
 
 abbrev μ-loop : tie.MeasureT-loop
-μ-loop rows lines bounds kinds slots order out₀ at w₀ q₀ out w q = length order - q
+μ-loop equated lines bounds kinds slots order out₀ at w₀ q₀ out w q = length order - q
 
 loop-holds : tie.Need-loop-holds Inv-loop μ-loop
 loop-holds c =
@@ -39,7 +39,7 @@ returns : tie.Need-returns Inv-loop μ-loop
 returns c =
     let a = c .before .before .before .before .before .before .before .before .before .args in
     fill-as
-    (ordered-gather (a .rows .now) (a .lines .now) (a .bounds .now) (a .kinds .now) (a .slots .now) (a .order .now))
+    (ordered-gather (a .equated .now) (a .lines .now) (a .bounds .now) (a .kinds .now) (a .slots .now) (a .order .now))
     (filling-whole (c .before .loop .inv) (c .loop-test .left))
 
 pub put-ordered-spec : {M : Type 1} → statement M

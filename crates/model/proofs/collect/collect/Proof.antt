@@ -23,7 +23,7 @@ loop-again c =
     collecting-next (test .before .loop .inv) (test .loop-test .taken) (word .word-at .ensures) (noting .note .ensures)
 
 same-length : tie.Need-same-length Inv-loop μ-loop
-same-length c = c .before .loop .inv .named .long
+same-length c = c .before .loop .inv .keys-so .long
 
 same-length-2 : tie.Need-same-length-2 Inv-loop μ-loop
 same-length-2 c = c .before .loop .inv .placed .long

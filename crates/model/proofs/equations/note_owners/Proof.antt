@@ -9,17 +9,17 @@ use Rattle.model.proofs.equations.note_owners.Statement.{statement}
 use Rattle.model.proofs.equations.note_owners.Tie as tie
 
 abbrev Inv-loop : tie.InvT-loop
-Inv-loop rows bounds kinds keys hints links args owners₀ r₀ owners r =
-    Owning (assignedSlots rows bounds kinds (resolved keys kinds args)) r owners
+Inv-loop equated bounds kinds keys hints links args owners₀ r₀ owners r =
+    Owning (assignedSlots equated bounds kinds (resolved keys kinds args)) r owners
 
 abbrev μ-loop : tie.MeasureT-loop
-μ-loop rows bounds kinds keys hints links args owners₀ r₀ owners r = r
+μ-loop equated bounds kinds keys hints links args owners₀ r₀ owners r = r
 
 loop-holds : tie.Need-loop-holds Inv-loop μ-loop
 loop-holds c =
     let s = c .before .before .before .before .before .before .before .before in
     let a = s .args in
-    owning-start (a .rows .now) (a .bounds .now) (a .kinds .now)
+    owning-start (a .equated .now) (a .bounds .now) (a .kinds .now)
     (resolved (a .keys .now) (a .kinds .now) (a .args .now)) (s .pre .1)
 
 put-short-requires : tie.Need-put-short-requires Inv-loop μ-loop
@@ -32,7 +32,7 @@ put-short-requires c κs =
       arith,
       s .pre .0,
       at .loop .inv .within,
-      length-map (a .rows .now) (assignedSlot (a .bounds .now) (a .kinds .now) slots),
+      length-map (a .equated .now) (assignedSlot (a .bounds .now) (a .kinds .now) slots),
     )
 
 loop-again : tie.Need-loop-again Inv-loop μ-loop
@@ -42,9 +42,9 @@ loop-again c =
     let at = test .before in
     let s = at .before .before .before .before .before .before .before .before .before .args in
     let slots = resolved (s .keys .now) (s .kinds .now) (s .args .now) in
-    let as-many = length-map (s .rows .now) (assignedSlot (s .bounds .now) (s .kinds .now) slots) in
+    let as-many = length-map (s .equated .now) (assignedSlot (s .bounds .now) (s .kinds .now) slots) in
     let assigned =
-    assigned-at (s .rows .now) (s .bounds .now) (s .kinds .now) slots (at .loop .r - 1)
+    assigned-at (s .equated .now) (s .bounds .now) (s .kinds .now) slots (at .loop .r - 1)
     (omega (arith, at .loop .inv .within, test .loop-test .taken, as-many)) (slot .assigned-slot .ensures)
     (slot .before .short-at .ensures .0) in
     owning-next (at .loop .inv) (test .loop-test .taken) assigned (c .before .before .put-short .ensures)

@@ -68,8 +68,8 @@ S c = c .before .before .before .before .before .before .before .before .before
 left : (c : tie.Else6)
     → fit (S c .args .lines .now) (S c .args .bounds .now) (S c .args .kinds .now) (S c .args .args) (S c .args .used)
     (S c .args .faults)
-    (S c .args .places) (S c .args .rows) (S c .args .order)
-    ≡ (roomy (S c .args .places) (S c .args .rows) (S c .args .order)
+    (S c .args .places) (S c .args .equated) (S c .args .order)
+    ≡ (roomy (S c .args .places) (S c .args .equated) (S c .args .order)
     && inTurn (S c .args .bounds .now) (length (S c .args .lines .now)) (length (S c .args .kinds .now)))
 unfolding fit
 left c =

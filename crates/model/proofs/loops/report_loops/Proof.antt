@@ -9,7 +9,7 @@ returns c =
     let report = c .before .before in
     let mark = report .before .before .before .before in
     let s = mark .before .before .before .before .before .before in
-    unmarked-loops (s .args .rows .now) (s .args .lines .now) (mark .mark .ensures) (s .pre)
+    unmarked-loops (s .args .equated .now) (s .args .lines .now) (mark .mark .ensures) (s .pre)
     (report .report-unmarked .ensures)
 
 pub report-loops-spec : {M : Type 1} → statement M

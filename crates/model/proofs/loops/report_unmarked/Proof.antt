@@ -10,17 +10,17 @@ use Rattle.model.proofs.loops.report_unmarked.Statement.{statement}
 use Rattle.model.proofs.loops.report_unmarked.Tie as tie
 
 abbrev Inv-loop : tie.InvT-loop
-Inv-loop marks rows lines faults₀ count₀ r₀ faults count r =
-    Reports (unmarkedAt marks rows lines) (length rows) r count faults₀ faults
+Inv-loop marks equated lines faults₀ count₀ r₀ faults count r =
+    Reports (unmarkedAt marks equated lines) (length equated) r count faults₀ faults
 
 abbrev μ-loop : tie.MeasureT-loop
-μ-loop marks rows lines faults₀ count₀ r₀ faults count r = length rows - r
+μ-loop marks equated lines faults₀ count₀ r₀ faults count r = length equated - r
 
 loop-holds : tie.Need-loop-holds Inv-loop μ-loop
 loop-holds c =
     let s = c .before .before .before .before .args in
-    reports-first (unmarkedAt (s .marks .now) (s .rows .now) (s .lines .now)) (length (s .rows .now)) (s .faults .now)
-    (unmarked-single (s .marks .now) (s .rows .now) (s .lines .now))
+    reports-first (unmarkedAt (s .marks .now) (s .equated .now) (s .lines .now)) (length (s .equated .now)) (s .faults .now)
+    (unmarked-single (s .marks .now) (s .equated .now) (s .lines .now))
 
 put-fault-requires : tie.Need-put-fault-requires Inv-loop μ-loop
 put-fault-requires c κs =
@@ -36,7 +36,7 @@ loop-again c =
     let test = line .before .before in
     let at = test .before in
     let s = at .before .before .before .before .before .args in
-    let found = unmarked-found (s .marks .now) (s .rows .now) (s .lines .now) (at .loop .r) (mark .byte-at .ensures)
+    let found = unmarked-found (s .marks .now) (s .equated .now) (s .lines .now) (at .loop .r) (mark .byte-at .ensures)
     (line .before .short-at .ensures .0) (line .short-at2 .ensures .0) in
     reports-next (at .loop .inv) (test .loop-test .taken) found (put .put-fault .ensures)
 

@@ -41,11 +41,11 @@ loop-again c =
     sym
     (unfit-read (s .args .places .now) (s .args .kinds .now) (read .before .byte-at .ensures)
     (read .word-at .ensures)) in
-    let named = undefined ∙ sym (c .before .before .before .is-undefined .ensures) ∙ c .before .before .if1 .left in
+    let defined = undefined ∙ sym (c .before .before .before .is-undefined .ensures) ∙ c .before .before .if1 .left in
     ⊎-elim
-    (λ w. seeking-unfit (test .before .loop .inv) (test .loop-test .taken) named
+    (λ w. seeking-unfit (test .before .loop .inv) (test .loop-test .taken) defined
     (unfit ∙ sym (c .before .is-unfit .ensures) ∙ w .0 .taken) (w .1))
-    (λ w. seeking-pass (test .before .loop .inv) (test .loop-test .taken) named
+    (λ w. seeking-pass (test .before .loop .inv) (test .loop-test .taken) defined
     (unfit ∙ sym (c .before .is-unfit .ensures) ∙ w .0 .left) (w .1)) (c .if2 .came)
 
 returns-2 : tie.Need-returns-2 Inv-loop μ-loop

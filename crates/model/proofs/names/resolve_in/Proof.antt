@@ -33,7 +33,7 @@ add-slot c =
 
 loop-again : tie.Need-loop-again Inv-loop μ-loop
 loop-again c =
-    let named = sym (c .before .is-named .ensures) in
+    let asks = sym (c .before .is-named .ensures) in
     let at = c .before .before .before .before in
     let s = at .before .before .before .before .before .before .before .before .before in
     let v = at .loop .inv in
@@ -44,15 +44,15 @@ loop-again c =
     let arg = getD (at .loop .args) (at .loop .i) 0 in
     ⊎-elim
     (λ w.
-    let slot = slot-named ks kind arg (named ∙ w .0 .taken) (w .2 .ensures) in
+    let slot = slot-named ks kind arg (asks ∙ w .0 .taken) (w .2 .ensures) in
     walking-flawed v (p .wide) (p .inside) h slot (w .4 .ensures) (w .9) (w .10) (w .11) (w .7 .ensures) (w .8 .taken)
     (w .12))
     (⊎-elim
     (λ w.
-    let slot = slot-named ks kind arg (named ∙ w .0 .taken) (w .2 .ensures) in
+    let slot = slot-named ks kind arg (asks ∙ w .0 .taken) (w .2 .ensures) in
     walking-clear v (p .wide) (p .inside) h slot (w .4 .ensures) (w .9) (w .10) (w .11) (w .7 .ensures) (w .8 .left)
     (w .12))
-    (λ w. walking-other v (p .wide) (p .inside) h (named ∙ w .0 .left) (w .1) (w .2) (w .3) (w .4))) (c .if1 .came)
+    (λ w. walking-other v (p .wide) (p .inside) h (asks ∙ w .0 .left) (w .1) (w .2) (w .3) (w .4))) (c .if1 .came)
 
 same-length : tie.Need-same-length Inv-loop μ-loop
 same-length c = c .before .loop .inv .long

@@ -3,25 +3,25 @@ use mathlib.Core.Path.{refl}
 use native.Mathlib.Omega.{arith}
 use borrow.Author.Needs.{needs}
 use lib.ListN.{length}
-use Rattle.model.specs.Places.{equationRows}
+use Rattle.model.specs.Places.{equatedIn}
 use Rattle.model.specs.Working.{Holds}
-use Rattle.model.proofs.PlanStages.{rows-few, holds-put, holds-front, linkable}
+use Rattle.model.proofs.PlanStages.{equated-few, holds-put, holds-front, linkable}
 use Rattle.model.proofs.stages.connect.Statement.{statement}
 use Rattle.model.proofs.stages.connect.Tie as tie
 
 -- where the function begins, from where the equations are written
-abbrev S : tie.After-collect-rows → tie.Start
+abbrev S : tie.After-collect-equated → tie.Start
 S k =
     let near = k .before .before .before .before .before .before .before in
     near .before .before .before .before .before .before
 
 -- they are held
-held : (k : tie.After-collect-rows) → Holds (k .collect-rows .last .1 .1 .1 .0) (k .collect-rows .result)
-    (equationRows (length (S k .args .lines .now)) (S k .args .bounds .now) (S k .args .kinds .now))
+held : (k : tie.After-collect-equated) → Holds (k .collect-equated .last .1 .1 .1 .0) (k .collect-equated .result)
+    (equatedIn (length (S k .args .lines .now)) (S k .args .bounds .now) (S k .args .kinds .now))
 held k =
     let s = S k in
-    let few = rows-few (length (s .args .lines .now)) (s .args .bounds .now) (s .args .kinds .now) in
-    holds-put (k .collect-rows .ensures) (omega (arith, few, s .pre .0 .sound .few, s .pre .2))
+    let few = equated-few (length (s .args .lines .now)) (s .args .bounds .now) (s .args .kinds .now) in
+    holds-put (k .collect-equated .ensures) (omega (arith, few, s .pre .0 .sound .few, s .pre .2))
 
 slice-reshare-prefix-note-owners : tie.Need-slice-reshare-prefix-note-owners
 slice-reshare-prefix-note-owners c = held (c .before .before) .room
@@ -33,7 +33,7 @@ note-owners-requires : tie.Need-note-owners-requires
 note-owners-requires c κs =
     let k = c .before .before .before .before .before in
     let s = S k in
-    let few = rows-few (length (s .args .lines .now)) (s .args .bounds .now) (s .args .kinds .now) in (
+    let few = equated-few (length (s .args .lines .now)) (s .args .bounds .now) (s .args .kinds .now) in (
       omega (arith, holds-front (held k) .long, held k .long, few, s .pre .0 .sound .few),
       refl,
       s .pre .1,
@@ -53,7 +53,7 @@ returns c =
     let done = c .before .before .before .before .before .before in
     let k = done .before .before .before .before .before .before .before .before .before .before .before .before in
     record {
-      equations-put = k .collect-rows .ensures;
+      equations-put = k .collect-equated .ensures;
       linked = rw (S k .pre .3) at (done .resolve .ensures);
     }
 

@@ -49,7 +49,7 @@ returns : tie.Need-returns
 returns c =
     let k = c .before .before .before .before .before in
     let a = start k .args in
-    sheeted-many (k .collect .ensures) (a .lines .now) (a .bounds .now) (a .used .now) (a .faults .now) (a .rows .now)
+    sheeted-many (k .collect .ensures) (a .lines .now) (a .bounds .now) (a .used .now) (a .faults .now) (a .equated .now)
     (a .placed .now)
     (c .before .if1 .taken) (c .refusal .ensures)
 
@@ -100,8 +100,8 @@ returns-2 c =
     let s = start k in
     let a = s .args in
     let at-hand = keyed (k .collect .ensures) (s .pre .0) (s .pre .1) (s .pre .2) (e .if1 .left) in
-    let l = lent (k .collect .last .1 .1 .1 .0) (a .rows .now) (a .placed .now) in
-    sheeted-few (k .collect .ensures) (a .lines .now) (a .bounds .now) (a .used .now) (a .faults .now) (a .rows .now)
+    let l = lent (k .collect .last .1 .1 .1 .0) (a .equated .now) (a .placed .now) in
+    sheeted-few (k .collect .ensures) (a .lines .now) (a .bounds .now) (a .used .now) (a .faults .now) (a .equated .now)
     (a .placed .now)
     (e .if1 .left)
     (distinct-fault at-hand (d .report-doubles .ensures) l (c .before .if2 .taken) (c .refusal2 .ensures))
@@ -130,7 +130,7 @@ connect-requires c κs =
     let e = few h in
     let k = collected e in
     let s = start k .pre in
-    (keyed (k .collect .ensures) (s .0) (s .1) (s .2) (e .if1 .left), h .note-hints .ensures, s .3 .rows-room, refl)
+    (keyed (k .collect .ensures) (s .0) (s .1) (s .2) (e .if1 .left), h .note-hints .ensures, s .3 .equated-room, refl)
 
 -- ---- 22 and 23
 slice-reshare-prefix-report-names : tie.Need-slice-reshare-prefix-report-names
@@ -155,7 +155,7 @@ report-names-requires c κs =
     let k = collected e in
     let s = start k .pre in
     let at-hand = keyed (k .collect .ensures) (s .0) (s .1) (s .2) (e .if1 .left) in
-    searched at-hand (l .connect .ensures) (s .3 .rows-room)
+    searched at-hand (l .connect .ensures) (s .3 .equated-room)
 
 returns-3 : tie.Need-returns-3
 returns-3 c =
@@ -169,13 +169,13 @@ returns-3 c =
     let a = s .args in
     let at-hand = keyed (k .collect .ensures) (s .pre .0) (s .pre .1) (s .pre .2) (e .if1 .left) in
     let places = k .collect .last .1 .1 .1 .0 in
-    let flawed = tested-fault at-hand (l .connect .ensures) (s .pre .3 .rows-room) (f .report-names .ensures) places
+    let flawed = tested-fault at-hand (l .connect .ensures) (s .pre .3 .equated-room) (f .report-names .ensures) places
     (a .placed .now)
     (c .before .if3 .taken) (c .refusal3 .ensures) in
-    sheeted-few (k .collect .ensures) (a .lines .now) (a .bounds .now) (a .used .now) (a .faults .now) (a .rows .now)
+    sheeted-few (k .collect .ensures) (a .lines .now) (a .bounds .now) (a .used .now) (a .faults .now) (a .equated .now)
     (a .placed .now)
     (e .if1 .left)
-    (distinct-none at-hand (d .report-doubles .ensures) (lent places (a .rows .now) (a .placed .now))
+    (distinct-none at-hand (d .report-doubles .ensures) (lent places (a .equated .now) (a .placed .now))
     (two .if2 .left) flawed)
 
 -- the lengths of what is lent stay
@@ -208,13 +208,13 @@ weighed l =
     let k = collected e in
     let s = start k .pre in
     let at-hand = keyed (k .collect .ensures) (s .0) (s .1) (s .2) (e .if1 .left) in
-    placeable at-hand (l .connect .ensures) (s .3 .rows-room)
+    placeable at-hand (l .connect .ensures) (s .3 .equated-room)
 
 add-starts : tie.Need-add-starts
-add-starts c = omega (arith, weighed (linked c) .few-rows)
+add-starts c = omega (arith, weighed (linked c) .few-equated)
 
 array-share-prefix-starts : tie.Need-array-share-prefix-starts
-array-share-prefix-starts c = omega (arith, weighed (linked c) .few-rows)
+array-share-prefix-starts c = omega (arith, weighed (linked c) .few-equated)
 
 slice-aggregate-place : tie.Need-slice-aggregate-place
 slice-aggregate-place c =
@@ -231,7 +231,7 @@ slice-aggregate-place-2 c =
 place-requires : tie.Need-place-requires
 place-requires c κs =
     let l = linked (c .before .before .before .before .before) in
-    (weighed-fit (weighed l), holds-front (weighed l .rows-held), begun l .pre .3 .order-room)
+    (weighed-fit (weighed l), holds-front (weighed l .equated-held), begun l .pre .3 .order-room)
 
 same-length-13 : tie.Need-same-length-13
 same-length-13 c =
@@ -273,13 +273,13 @@ returns-4 c =
     let count = places-front (k .collect .ensures) (e .if1 .left) (s .pre .2) in
     let placed = weighed-by (weighed l) (k .collect .result) (f .report-names .last .1 .1 .1 .1 .1 .1 .0)
     (a .placed .now) (done .place .ensures) places in
-    let clear = tested-none at-hand (l .connect .ensures) (s .pre .3 .rows-room) (f .report-names .ensures) places
+    let clear = tested-none at-hand (l .connect .ensures) (s .pre .3 .equated-room) (f .report-names .ensures) places
     (a .placed .now) count
     (three .if3 .left) placed in
-    sheeted-few (k .collect .ensures) (a .lines .now) (a .bounds .now) (a .used .now) (a .faults .now) (a .rows .now)
+    sheeted-few (k .collect .ensures) (a .lines .now) (a .bounds .now) (a .used .now) (a .faults .now) (a .equated .now)
     (a .placed .now)
     (e .if1 .left)
-    (distinct-none at-hand (d .report-doubles .ensures) (lent places (a .rows .now) (a .placed .now))
+    (distinct-none at-hand (d .report-doubles .ensures) (lent places (a .equated .now) (a .placed .now))
     (two .if2 .left) clear)
 
 pub run-spec : {M : Type 1} → statement M

@@ -1,7 +1,7 @@
 -- The records are too many, or too many for the room; or the program is written.
 use mathlib.Core.Path.{refl}
 use borrow.Author.Needs.{needs}
-use Rattle.translator.proofs.Writing.{front, places-room, rows-room, order-room, says-eight, says-zero}
+use Rattle.translator.proofs.Writing.{front, places-room, equated-room, order-room, says-eight, says-zero}
 use Rattle.translator.proofs.finish.write_program.Statement.{statement}
 use Rattle.translator.proofs.finish.write_program.Tie as tie
 
@@ -20,7 +20,7 @@ slice-aggregate-put-program c =
 slice-aggregate-put-program-2 : tie.Need-slice-aggregate-put-program-2
 slice-aggregate-put-program-2 c =
     let s = S (c .before .before .before) in
-    front (s .args .plan .equations) (s .args .rows .now) (rows-room (s .pre))
+    front (s .args .plan .equations) (s .args .equated .now) (equated-room (s .pre))
 
 slice-aggregate-put-program-3 : tie.Need-slice-aggregate-put-program-3
 slice-aggregate-put-program-3 c =

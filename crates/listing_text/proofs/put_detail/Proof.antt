@@ -1,7 +1,7 @@
 -- Of a program or of a list.
 use borrow.Author.Needs.{needs}
-use Rattle.listing_text.proofs.put_row.Statement.{statement}
-use Rattle.listing_text.proofs.put_row.Tie as tie
+use Rattle.listing_text.proofs.put_detail.Statement.{statement}
+use Rattle.listing_text.proofs.put_detail.Tie as tie
 
 put-ended-requires : tie.Need-put-ended-requires
 put-ended-requires c κs = rw (c .before .if1 .taken) at (c .before .before .before .before .pre)
@@ -15,7 +15,7 @@ put-fault-requires c κs = rw (c .before .if1 .left) at (c .before .before .befo
 returns-2 : tie.Need-returns-2
 returns-2 c = let p = c .before .before in rw (p .before .before .if1 .left) (p .put-fault .ensures)
 
-pub put-row-spec : {M : Type 1} → statement M
-put-row-spec =
+pub put-detail-spec : {M : Type 1} → statement M
+put-detail-spec =
     tie.close
     (tie.spec put-ended-requires (λ c. search needs) returns put-fault-requires (λ c. search needs) returns-2)

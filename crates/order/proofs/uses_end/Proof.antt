@@ -1,4 +1,4 @@
--- The loop goes from the last row down: all rows end inside exactly if the first i do.
+-- The loop goes from the last statement down: the uses of all end inside exactly if those of the first i do.
 use mathlib.Core.Path.{_≡_, sym, _∙_}
 use Prim.Native.Nat.{_+_, _-_, _≤_}
 use native.Mathlib.Omega.{arith}
@@ -8,8 +8,8 @@ use lib.ListN.{getD}
 use Rattle.order.specs.Greedy.{all}
 use Rattle.order.specs.Table.{endsIn}
 use Rattle.order.proofs.Tables.{all-stop, all-pass, all-done}
-use Rattle.order.proofs.rows_end.Statement.{statement}
-use Rattle.order.proofs.rows_end.Tie as tie
+use Rattle.order.proofs.uses_end.Statement.{statement}
+use Rattle.order.proofs.uses_end.Tie as tie
 
 abbrev Inv-loop : tie.InvT-loop
 Inv-loop n starts size i₀ i = (i ≤ n) × (all n (endsIn starts size) ≡ all i (endsIn starts size))
@@ -42,8 +42,8 @@ returns-2 c =
     let l = c .before .loop in
     sym (l .inv .1 ∙ all-done _ (l .i) (c .loop-test .left))
 
-pub rows-end-spec : {M : Type 1} → statement M
-rows-end-spec =
+pub uses-end-spec : {M : Type 1} → statement M
+uses-end-spec =
     tie.close
     (tie.spec
     Inv-loop

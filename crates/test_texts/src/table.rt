@@ -1,4 +1,4 @@
-// The rows of the paper's table that no proof computes, and further rows for each code.
+// The texts of the paper's table that no proof computes, and further texts for each code.
 use crate::wanted::blank;
 use crate::wanted::faulty;
 use crate::wanted::record;

@@ -2,21 +2,21 @@
 use Prim.Native.Nat.{_-_}
 use native.Mathlib.Omega.{arith}
 use borrow.Author.Needs.{needs}
-use Rattle.model.specs.Places.{isEquation, equationRows}
+use Rattle.model.specs.Places.{isEquation, equatedIn}
 use Rattle.model.proofs.EquationReads.{Listing, listing-first, listing-next, listing-last}
-use Rattle.model.proofs.equations.collect_rows.Statement.{statement}
-use Rattle.model.proofs.equations.collect_rows.Tie as tie
+use Rattle.model.proofs.equations.collect_equated.Statement.{statement}
+use Rattle.model.proofs.equations.collect_equated.Tie as tie
 
 abbrev Inv-loop : tie.InvT-loop
-Inv-loop n bounds kinds rows₀ count₀ j₀ rows count j = Listing (isEquation bounds kinds) n j count rows₀ rows
+Inv-loop n bounds kinds equated₀ count₀ j₀ equated count j = Listing (isEquation bounds kinds) n j count equated₀ equated
 
 abbrev μ-loop : tie.MeasureT-loop
-μ-loop n bounds kinds rows₀ count₀ j₀ rows count j = n - j
+μ-loop n bounds kinds equated₀ count₀ j₀ equated count j = n - j
 
 loop-holds : tie.Need-loop-holds Inv-loop μ-loop
 loop-holds c =
     let s = c .before .before .before .args in
-    listing-first (isEquation (s .bounds .now) (s .kinds .now)) (s .n) (s .rows .now)
+    listing-first (isEquation (s .bounds .now) (s .kinds .now)) (s .n) (s .equated .now)
 
 put-if-requires : tie.Need-put-if-requires Inv-loop μ-loop
 put-if-requires c κs =
@@ -35,11 +35,11 @@ same-length : tie.Need-same-length Inv-loop μ-loop
 same-length c = c .before .loop .inv .written .long
 
 returns : tie.Need-returns Inv-loop μ-loop
-unfolding equationRows
+unfolding equatedIn
 returns c = listing-last (c .before .loop .inv) (c .loop-test .left)
 
-pub collect-rows-spec : {M : Type 1} → statement M
-collect-rows-spec =
+pub collect-equated-spec : {M : Type 1} → statement M
+collect-equated-spec =
     tie.close
     (tie.spec
     Inv-loop

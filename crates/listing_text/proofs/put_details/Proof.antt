@@ -4,13 +4,13 @@ use native.Mathlib.Omega.{arith}
 use borrow.Author.Needs.{needs}
 use Rattle.laws.proofs.Gathers.{Writes, writes-first}
 use Rattle.listing_text.proofs.Puts.{put-next, put-whole}
-use Rattle.listing_text.specs.Written.{rowAt}
+use Rattle.listing_text.specs.Written.{detailAt}
 use Rattle.listing_text.proofs.Reach.{reach-turn}
-use Rattle.listing_text.proofs.put_rows.Statement.{statement}
-use Rattle.listing_text.proofs.put_rows.Tie as tie
+use Rattle.listing_text.proofs.put_details.Statement.{statement}
+use Rattle.listing_text.proofs.put_details.Tie as tie
 
 abbrev Inv-loop : tie.InvT-loop
-Inv-loop ordered from count out₀ at w₀ i₀ out w i = Writes (rowAt ordered from) count 0 i at w out₀ out
+Inv-loop ordered from count out₀ at w₀ i₀ out w i = Writes (detailAt ordered from) count 0 i at w out₀ out
 
 abbrev μ-loop : tie.MeasureT-loop
 μ-loop ordered from count out₀ at w₀ i₀ out w i = count - i
@@ -18,8 +18,8 @@ abbrev μ-loop : tie.MeasureT-loop
 loop-holds : tie.Need-loop-holds Inv-loop μ-loop
 loop-holds c = writes-first _ _ _ _ _
 
-put-row-requires : tie.Need-put-row-requires Inv-loop μ-loop
-put-row-requires c κs =
+put-detail-requires : tie.Need-put-detail-requires Inv-loop μ-loop
+put-detail-requires c κs =
     let t = c .before in
     let s = t .before .before .before .before in
     (omega (arith, t .loop-test .taken, s .pre .0), reach-turn (t .before .loop .inv) (t .loop-test .taken) (s .pre .1))
@@ -28,7 +28,7 @@ loop-again : tie.Need-loop-again Inv-loop μ-loop
 loop-again c =
     let p = c .before .before in
     let t = p .before .before in
-    put-next (t .before .loop .inv) (t .loop-test .taken) (p .put-row .ensures)
+    put-next (t .before .loop .inv) (t .loop-test .taken) (p .put-detail .ensures)
 
 same-length : tie.Need-same-length Inv-loop μ-loop
 same-length c = c .before .loop .inv .long
@@ -36,14 +36,14 @@ same-length c = c .before .loop .inv .long
 returns : tie.Need-returns Inv-loop μ-loop
 returns c = put-whole (c .before .loop .inv) (c .loop-test .left)
 
-pub put-rows-spec : {M : Type 1} → statement M
-put-rows-spec =
+pub put-details-spec : {M : Type 1} → statement M
+put-details-spec =
     tie.close
     (tie.spec
     Inv-loop
     μ-loop
     loop-holds
-    put-row-requires
+    put-detail-requires
     (λ c. search needs)
     (λ c. search needs)
     loop-again
