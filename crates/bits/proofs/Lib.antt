@@ -1,2 +1,3 @@
 pub mod Lows
 mod Nans
+pub mod Agreement

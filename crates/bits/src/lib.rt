@@ -1,11 +1,10 @@
 // Numbers as bytes, low first, and floats as their bits; reads that give 0 past an end.
 ghost use mathlib.Core.Path.{_≡_};
-ghost use Prim.Native.Nat.{_+_, _-_, _<_, _^_, min};
+ghost use Prim.Native.Nat.{_+_};
 ghost use lib.Dec.{leb};
-ghost use lib.ListN.{take};
 ghost use lib.Seq.{sets};
-ghost use lib.Ieee.{binary64, toBits, ofBits};
-ghost use Rattle.bits.specs.Low.{lowBytes, lowWord};
+ghost use Rattle.bits.specs.Low.{lowBytes};
+ghost use Rattle.bits.specs.Contract.{TakesLeast, LeavesRoom, GetsLow, PutsLow, PutsEight, GivesFloat, GivesBits};
 
 pub mod reads;
 
@@ -15,14 +14,14 @@ use reads::wide;
 
 // The lesser of two numbers.
 pub fn least(a: usize, b: usize) -> usize
-    ensures { λ r. ⌜ r ≡ min a b ⌝ }
+    ensures { λ r. ⌜ TakesLeast a b r ⌝ }
 {
     if a < b { a } else { b }
 }
 
 // How many of n places from a place on stand before an end.
 pub fn room(end: usize, at: usize, n: usize) -> usize
-    ensures { λ r. ⌜ r ≡ min (end - at) n ⌝ }
+    ensures { λ r. ⌜ LeavesRoom end at n r ⌝ }
 {
     if end < at {
         return 0;
@@ -32,8 +31,7 @@ pub fn room(end: usize, at: usize, n: usize) -> usize
 
 // The number that the first n bytes of a part are, or as many as there are; of more than eight the first eight.
 pub fn get_low(part: &[u8], n: usize) -> u64
-    ensures { λ r. ⌜ r ≡ lowWord (take (min n 8) (now (part .entry))) ⌝ }
-    ensures within { λ r. ⌜ r < 256 ^ min n 8 ⌝ }
+    ensures { λ r. ⌜ GetsLow (now (part .entry)) n r ⌝ }
 {
     let mut word: u64 = 0;
     let mut i = least(part.len(), least(n, 8));
@@ -46,7 +44,7 @@ pub fn get_low(part: &[u8], n: usize) -> u64
 
 // Writes the n lowest bytes of a number from a place on, those for which there is a place.
 pub fn put_low(buf: &mut [u8], at: usize, n: usize, v: u64)
-    ensures { λ _. ⌜ now (buf .exit) ≡ sets (now (buf .entry)) at (lowBytes n v) ⌝ }
+    ensures { λ _. ⌜ PutsLow (now (buf .entry)) at n v (now (buf .exit)) ⌝ }
 {
     let count = room(buf.len(), at, n);
     let mut rest = v;
@@ -60,7 +58,7 @@ pub fn put_low(buf: &mut [u8], at: usize, n: usize, v: u64)
 
 // The float of a bit pattern. All patterns of a NaN are the one NaN.
 pub fn float_of(bits: u64) -> f64
-    ensures { λ r. ⌜ r ≡ ofBits binary64 bits ⌝ }
+    ensures { λ r. ⌜ GivesFloat bits r ⌝ }
 {
     if 0x7ff0_0000_0000_0000 < bits % 0x8000_0000_0000_0000 {
         0.0 / 0.0
@@ -71,7 +69,7 @@ pub fn float_of(bits: u64) -> f64
 
 // The bit pattern of a float. A NaN has one pattern, whatever the machine holds.
 pub fn bits_of(x: f64) -> u64
-    ensures { λ r. ⌜ r ≡ toBits binary64 x ⌝ }
+    ensures { λ r. ⌜ GivesBits x r ⌝ }
 {
     if x != x {
         0x7ff8_0000_0000_0000
@@ -116,7 +114,7 @@ fn put_four(buf: &mut [u8], at: usize, v: u64)
 
 // Writes the eight lowest bytes.
 pub fn put_eight(buf: &mut [u8], at: usize, v: u64)
-    ensures { λ _. ⌜ now (buf .exit) ≡ sets (now (buf .entry)) at (lowBytes 8 v) ⌝ }
+    ensures { λ _. ⌜ PutsEight (now (buf .entry)) at v (now (buf .exit)) ⌝ }
 {
     if has_room(buf.len(), at, 8) {
         put_four(&mut *buf, at, v);

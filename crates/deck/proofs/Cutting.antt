@@ -1,13 +1,13 @@
 -- Laws of lines over the bytes of a text.
 use Prim.Native.Nat.{ℕ, suc, _+_, _-_, _≤_, _<_, zero-le, suc-le-suc}
-use mathlib.Core.Path.{_≡_, refl, ap, _∙_}
+use mathlib.Core.Path.{_≡_, refl, sym, ap, _∙_}
 use mathlib.Core.Bool.{Bool, true, false, cond}
 use mathlib.Core.List.{List, [], _∷_, _++_}
 use mathlib.Core.Logic.{⊎-elim}
 use native.Mathlib.Numerals.{add-one}
 use native.Mathlib.Nat.{not-suc-le-zero}
 use native.Mathlib.Omega.{arith}
-use lib.ListN.{length, getD, take, drop, drop-of-length-le, length-drop, length-take}
+use lib.ListN.{length, getD, take, drop, drop-of-length-le, length-drop, length-take, length-append}
 use lib.Seq.{drop-cons, drop-drop, take-suc, length-take-le}
 use lib.Dec.{eqb}
 use borrow.Author.Tests.{eq-eqb, ne-eqb}
@@ -144,3 +144,27 @@ module _ (t : List ℕ) (at : ℕ) (l : Line) (ls : List Line) (q : linesOf (dro
       let e : l ≡ lineOf t at (at + width (drop at t)) = cc (q, a .lines) in
       let n : at + length l + 1 ≡ at + width (drop at t) + 1 = omega (arith, ap length e ∙ a .long) in
       rw n (cc (q, a .lines))
+
+-- ---- lines of two parts
+
+-- lines behind a first line stay behind it
+cut-append : (f : Bool) (b : ℕ) (l : Line) (ls ms : List Line) → cut f b ((l ∷ ls) ++ ms) ≡ cut f b (l ∷ ls) ++ ms
+cut-append true b l ls ms = refl
+cut-append false b l ls ms = refl
+
+-- behind a byte 10 the lines begin anew
+pub lines-append : (x y : List ℕ) → linesOf (x ++ (10 ∷ y)) ≡ linesOf (x ++ (10 ∷ [])) ++ linesOf y
+unfolding linesOf
+lines-append [] y = refl
+lines-append (b ∷ x) y =
+    let e = lines-cons (x ++ (10 ∷ [])) (simp length-append (omega arith)) in
+    ap (cut (eqb b 10) b) (lines-append x y ∙ ap (λ (ls : List Line). ls ++ linesOf y) e)
+    ∙ cut-append (eqb b 10) b _ _ (linesOf y)
+    ∙ ap (λ (ls : List Line). cut (eqb b 10) b ls ++ linesOf y) (sym e)
+
+-- where the last line lacks its byte 10, the lines are the same with it
+pub lines-lacking : (x : List ℕ) (b : ℕ) → (b ≡ 10 → ⊥)
+    → linesOf ((x ++ (b ∷ [])) ++ (10 ∷ [])) ≡ linesOf (x ++ (b ∷ []))
+unfolding linesOf
+lines-lacking [] b e = rw (ne-eqb _ _ e)
+lines-lacking (a ∷ x) b e = ap (cut (eqb a 10) a) (lines-lacking x b e)

@@ -2,9 +2,10 @@ pub mod Local
 pub mod Rising
 pub mod Cutting
 pub mod Ends
-pub mod Seams
 pub mod Steps
 pub mod Tallies
 pub mod Parts
 pub mod Writes
 pub mod Walking
+pub mod Sharing
+pub mod Agreement

@@ -1,4 +1,4 @@
--- Demand 3, at the level of lines: what a change of one run of lines leaves as it was.
+-- Readings in parts, and with line numbers raised: what demand 3 is proved with.
 use Prim.Native.Nat.{ℕ, suc, _+_}
 use mathlib.Core.Path.{_≡_, refl, ap, _∙_}
 use mathlib.Core.Bool.{Bool, true, false, cond}
@@ -11,20 +11,32 @@ use Rattle.deck.specs.Reading.{closedIn, stateAfter}
 use Rattle.deck.specs.Reports.{report}
 use Rattle.deck.specs.Later.{later, laterState, laterReport}
 
--- ---- a reading of p ++ q: what is closed in p, and then the reading of q from the state after p
+-- ---- lines p, and q behind them
+
+-- their reading is what is closed in p, and then the reading of q from the state after p
 pub reading-append : (s : State) (n : ℕ) (p q : List Line)
     → reading s n (p ++ q) ≡ closedIn s n p ++ reading (stateAfter s n p) (n + length p) q
 unfolding reading closedIn stateAfter
 reading-append s n [] q = rw add-zero
 reading-append s n (l ∷ p) q = rw (reading-append (after s n l) (suc n) p q, append-assoc, add-suc, suc-add)
 
-pub state-append : (s : State) (n : ℕ) (p q : List Line)
+-- what they close is what is closed in p, and then in q from the state after p
+pub closed-append : (s : State) (n : ℕ) (p q : List Line)
+    → closedIn s n (p ++ q) ≡ closedIn s n p ++ closedIn (stateAfter s n p) (n + length p) q
+unfolding closedIn stateAfter
+closed-append s n [] q = rw add-zero
+closed-append s n (l ∷ p) q = rw (closed-append (after s n l) (suc n) p q, append-assoc, add-suc, suc-add)
+
+-- the state after them is that after q, from the state after p
+state-append : (s : State) (n : ℕ) (p q : List Line)
     → stateAfter s n (p ++ q) ≡ stateAfter (stateAfter s n p) (n + length p) q
 unfolding stateAfter
 state-append s n [] q = rw add-zero
 state-append s n (l ∷ p) q = rw (state-append (after s n l) (suc n) p q, add-suc, suc-add)
 
 -- ---- behind a line without closing dots reading is fresh
+
+-- whatever the state before it
 pub after-undotted : (s : State) (n : ℕ) (l : Line) → dotted l ≡ false → after s n l ≡ fresh
 unfolding after
 after-undotted fresh n l e = rw e (go (passed l))
@@ -34,19 +46,24 @@ after-undotted fresh n l e = rw e (go (passed l))
     go false = refl
 after-undotted (inside f cs) n l e = rw e
 
+-- whatever the lines before it
 pub fresh-behind : (ls : List Line) (l : Line) → dotted l ≡ false → stateAfter fresh 1 (ls ++ (l ∷ [])) ≡ fresh
 unfolding stateAfter
 fresh-behind ls l e = state-append fresh 1 ls (l ∷ []) ∙ after-undotted (stateAfter fresh 1 ls) (1 + length ls) l e
 
 -- ---- line numbers raised by k
+
+-- of the statement that a line without dots ends
 ends-later : (k : ℕ) (b : Bool) (f : ℕ) (cs : List Line) → ends b (k + f) cs ≡ map (later k) (ends b f cs)
 ends-later k true f cs = refl
 ends-later k false f cs = refl
 
+-- of the statement that a dotted line keeps open
 goes-on-later : (k : ℕ) (b : Bool) (f : ℕ) (cs : List Line) → goes-on b (k + f) cs ≡ laterState k (goes-on b f cs)
 goes-on-later k true f cs = refl
 goes-on-later k false f cs = refl
 
+-- of the state after a line
 after-later : (k : ℕ) (s : State) (n : ℕ) (l : Line) → after (laterState k s) (k + n) l ≡ laterState k (after s n l)
 unfolding after
 after-later k fresh n l = go (passed l)
@@ -57,6 +74,7 @@ after-later k fresh n l = go (passed l)
     go false = goes-on-later k (dotted l) n (l ∷ [])
 after-later k (inside f cs) n l = goes-on-later k (dotted l) f (cs ++ (l ∷ []))
 
+-- of what a line ends
 ended-later : (k : ℕ) (s : State) (n : ℕ) (l : Line) → ended (laterState k s) (k + n) l ≡ map (later k) (ended s n l)
 unfolding ended
 ended-later k fresh n l = go (passed l)
@@ -67,11 +85,13 @@ ended-later k fresh n l = go (passed l)
     go false = ends-later k (dotted l) n (l ∷ [])
 ended-later k (inside f cs) n l = ends-later k (dotted l) f (cs ++ (l ∷ []))
 
+-- of what the end leaves
 left-later : (k : ℕ) (s : State) → left (laterState k s) ≡ map (later k) (left s)
 unfolding left
 left-later k fresh = refl
 left-later k (inside f cs) = refl
 
+-- of a whole reading
 pub reading-later : (k : ℕ) (s : State) (n : ℕ) (ls : List Line)
     → reading (laterState k s) (k + n) ls ≡ map (later k) (reading s n ls)
 unfolding reading
@@ -79,8 +99,7 @@ reading-later k s n [] = left-later k s
 reading-later k s n (l ∷ ls) =
     rw (ended-later k s n l, after-later k s n l, ← (add-suc k n), reading-later k (after s n l) (suc n) ls, map-append)
 
--- ---- reports, their line numbers raised by k
-
+-- of reports
 pub map-later : {A : Type 0} (f : List Line → Bool → A) (k : ℕ) (ss : List Statement)
     → map (report f) (map (later k) ss) ≡ map (laterReport k) (map (report f) ss)
 map-later f k [] = refl

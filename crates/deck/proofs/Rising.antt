@@ -1,13 +1,18 @@
--- The first lines of a text's statements rise.
-use Prim.Native.Nat.{ℕ, suc, _<_}
+-- The first lines of a text's statements rise, and are among the lines that were read.
+use Prim.Native.Nat.{ℕ, suc, _+_, _≤_, _<_}
 use mathlib.Core.Bool.{Bool, true, false, cond}
 use mathlib.Core.List.{List, [], _∷_, _++_, map}
 use native.Mathlib.Omega.{arith}
+use lib.ListN.{length}
+use Rattle.laws.specs.Every.{Every}
+use Rattle.laws.proofs.Every.{every-append, every-map}
 use Rattle.laws.specs.Rising.{Rising}
 use Rattle.laws.proofs.Rising.{rising-le}
 use Rattle.deck.specs.Lines.{Line, dotted, passed}
 use Rattle.deck.specs.Reading.{Statement, State, fresh, inside, goes-on, ends, after, ended, left, reading}
+use Rattle.deck.specs.Reading.{closedIn}
 
+-- their first lines
 abbrev pub firsts : List Statement → List ℕ
 firsts ss = map (λ (s : Statement). s .first) ss
 
@@ -16,10 +21,12 @@ abbrev least : State → ℕ → ℕ
 least fresh n = n
 least (inside f cs) n = f
 
+-- a statement that is open starts before line n
 abbrev Before : State → ℕ → Type 0
 Before fresh n = Unit {0}
 Before (inside f cs) n = f < n
 
+-- the first lines of a reading rise from there
 pub reading-rises : (s : State) (n : ℕ) (ls : List Line) → Before s n → Rising (least s n) (firsts (reading s n ls))
 unfolding reading left after ended
 reading-rises fresh n [] b = tt
@@ -38,3 +45,60 @@ reading-rises (inside f cs) n (l ∷ ls) b = go (dotted l) (λ s b. reading-rise
     go true ih = ih (inside f (cs ++ (l ∷ []))) (omega arith)
     go false ih =
         (omega arith, rising-le (suc n) (suc f) (firsts (reading fresh (suc n) ls)) (ih fresh tt) (omega arith))
+
+-- ---- the lines that were read are those from n on
+
+-- rising numbers are at least the bound
+firsts-from : (n : ℕ) (ss : List Statement) → Rising n (firsts ss) → Every (λ (s : Statement). n ≤ s .first) ss
+firsts-from n [] r = tt
+firsts-from n (s ∷ ss) r =
+    (r .0, firsts-from n ss (rising-le (suc (s .first)) n (firsts ss) (r .1) (omega (arith, r .0))))
+
+-- statements of a fresh reading start on its first line at the earliest
+pub reading-from : (n : ℕ) (ls : List Line) → Every (λ (s : Statement). n ≤ s .first) (reading fresh n ls)
+reading-from n ls = firsts-from n (reading fresh n ls) (reading-rises fresh n ls tt)
+
+-- a statement that line n ends starts there at the latest
+ended-before : (s : State) (n : ℕ) (l : Line) → Before s n → Every (λ (t : Statement). t .first < suc n) (ended s n l)
+unfolding ended
+ended-before fresh n l b = go (passed l) (dotted l)
+  where
+    go : (p d : Bool) → Every (λ (t : Statement). t .first < suc n) (cond p [] (ends d n (l ∷ [])))
+    go true d = tt
+    go false true = tt
+    go false false = (omega arith, tt)
+ended-before (inside f cs) n l b = go (dotted l)
+  where
+    go : (d : Bool) → Every (λ (t : Statement). t .first < suc n) (ends d f (cs ++ (l ∷ [])))
+    go true = tt
+    go false = (omega arith, tt)
+
+-- so does one that is open behind it
+after-before : (s : State) (n : ℕ) (l : Line) → Before s n → Before (after s n l) (suc n)
+unfolding after
+after-before fresh n l b = go (passed l) (dotted l)
+  where
+    go : (p d : Bool) → Before (cond p fresh (goes-on d n (l ∷ []))) (suc n)
+    go true d = tt
+    go false true = omega arith
+    go false false = tt
+after-before (inside f cs) n l b = go (dotted l)
+  where
+    go : (d : Bool) → Before (goes-on d f (cs ++ (l ∷ []))) (suc n)
+    go true = omega arith
+    go false = tt
+
+-- statements that lines end start on the last of these at the latest
+closed-before : (s : State) (n : ℕ) (ls : List Line) → Before s n
+    → Every (λ (t : Statement). t .first < n + length ls) (closedIn s n ls)
+unfolding closedIn
+closed-before s n [] b = tt
+closed-before s n (l ∷ ls) b =
+    every-append (λ (t : Statement). t .first < n + length (l ∷ ls)) (ended s n l) (closedIn (after s n l) (suc n) ls)
+    (every-map _ _ (ended s n l) (λ t h. omega arith) (ended-before s n l b))
+    (every-map _ _ (closedIn (after s n l) (suc n) ls) (λ t h. omega arith)
+    (closed-before (after s n l) (suc n) ls (after-before s n l b)))
+
+-- so those that a text's first lines end start on one of these
+pub closed-among : (ls : List Line) → Every (λ (s : Statement). s .first ≤ length ls) (closedIn fresh 1 ls)
+closed-among ls = every-map _ _ (closedIn fresh 1 ls) (λ t h. omega arith) (closed-before fresh 1 ls tt)

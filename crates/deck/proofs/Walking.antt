@@ -27,9 +27,9 @@ use Rattle.deck.proofs.Parts.{size-flaw, joined-short}
 -- ---- an answer of the code: Statement, with first f, start s, cards k, closed d, long g and next nx; or End
 
 -- the statements that it stands for: the one that was found, with its lines in the text, and those behind it
-abbrev told : List ℕ → Found → List Read
-told t End = []
-told t (Statement f s k d g nx) = record { first = f; cards = cardsAt t s k; closed = d } ∷ statementsFrom t nx
+abbrev readOf : List ℕ → Found → List Read
+readOf t End = []
+readOf t (Statement f s k d g nx) = record { first = f; cards = cardsAt t s k; closed = d } ∷ statementsFrom t nx
 
 -- its count of lines and its flag are those of the lines
 abbrev Right : List ℕ → Found → Type 0
@@ -68,7 +68,7 @@ inside-cards {t} {s} {at} {k} {long} {cs} {ls} i = rw (i .all) (take-at cs ls k 
 
 -- inside a statement
 run-reads : (t : List ℕ) (f s at k : ℕ) (long : Bool) (cs ls : List Line) → Inside t s at k long cs ls
-    → (reading (inside f cs) (f + k) ls ≡ told t (runOf f s at k long ls)) × Right t (runOf f s at k long ls)
+    → (reading (inside f cs) (f + k) ls ≡ readOf t (runOf f s at k long ls)) × Right t (runOf f s at k long ls)
 unfolding reading runOf left ended after
 run-reads t f s at k long cs [] i = (rw (i .rest, inside-cards i), rw (inside-cards i) (i .count, i .flag))
 run-reads t f s at k long cs (l ∷ ls) i =
@@ -88,15 +88,15 @@ run-reads t f s at k long cs (l ∷ ls) i =
     stop = Statement f s (k + 1) true (long || ltb cardBytes (length l))
         (record { at = at + length l + 1; line = f + (k + 1) })
 
-    go : (b : Bool) → (reading (inside f (cs ++ (l ∷ []))) (f + (k + 1)) ls ≡ told t more) × Right t more
+    go : (b : Bool) → (reading (inside f (cs ++ (l ∷ []))) (f + (k + 1)) ls ≡ readOf t more) × Right t more
         → (ends b f (cs ++ (l ∷ [])) ++ reading (goes-on b f (cs ++ (l ∷ []))) (suc (f + k)) ls
-        ≡ told t (cond b more stop)) × Right t (cond b more stop)
+        ≡ readOf t (cond b more stop)) × Right t (cond b more stop)
     go true h = (rw up (h .0), h .1)
     go false h = (rw (up, next .rest, inside-cards next), rw (inside-cards next) (next .count, next .flag))
 
 -- from a fresh line on
 next-reads : (t : List ℕ) (at n : ℕ) (ls : List Line) → linesOf (drop at t) ≡ ls
-    → (reading fresh n ls ≡ told t (nextOf at n ls)) × Right t (nextOf at n ls)
+    → (reading fresh n ls ≡ readOf t (nextOf at n ls)) × Right t (nextOf at n ls)
 unfolding reading nextOf left ended after anyLong
 next-reads t at n [] q = (refl, tt)
 next-reads t at n (l ∷ ls) q = go (passed l) (next-reads t (at + length l + 1) (n + 1) ls (lines-tail t at l ls q))
@@ -107,19 +107,19 @@ next-reads t at n (l ∷ ls) q = go (passed l) (next-reads t (at + length l + 1)
     start : Found
     start = runOf n at at 0 false (l ∷ ls)
 
-    run : (reading (inside n []) (n + 0) (l ∷ ls) ≡ told t start) × Right t start
+    run : (reading (inside n []) (n + 0) (l ∷ ls) ≡ readOf t start) × Right t start
     run = run-reads t n at at 0 false [] (l ∷ ls) (record { count = refl; all = q; rest = q; flag = refl })
 
-    go : (b : Bool) → (reading fresh (n + 1) ls ≡ told t more) × Right t more
+    go : (b : Bool) → (reading fresh (n + 1) ls ≡ readOf t more) × Right t more
         → (cond b [] (ends (dotted l) n (l ∷ [])) ++ reading (cond b fresh (goes-on (dotted l) n (l ∷ []))) (suc n) ls
-        ≡ told t (cond b more start))
+        ≡ readOf t (cond b more start))
         × Right t (cond b more start)
     go true h = (rw (← (add-one n)) (h .0), h .1)
     go false h = (rw add-zero at (run .0), run .1)
 
 -- from a lawful cursor on
 found-reads : (t : List ℕ) (c : Cursor) → Lawful c
-    → (statementsFrom t c ≡ told t (foundFrom t c)) × Right t (foundFrom t c)
+    → (statementsFrom t c ≡ readOf t (foundFrom t c)) × Right t (foundFrom t c)
 found-reads t c h = rw (found-next t c h) (next-reads t (c .at) (c .line) (linesOf (drop (c .at) t)) refl)
 
 -- ---- one step of a caller's walk, from a cursor c over the statement that was found there to the cursor nx behind it
@@ -144,7 +144,7 @@ module _ (t : List ℕ) (c : Cursor) (h : Lawful c) where
       let z : sizeFlaw (cardsAt t s k) d ≡ flawOf d (sizeCode k d g) =
       size-flaw (cardsAt t s k) d ∙ rw (r .0, ← (r .1)) in
       record {
-        reads = x .0 ∙ ap (told t) e;
+        reads = x .0 ∙ ap (readOf t) e;
         size = z;
         short = λ n. joined-short (cardsAt t s k) d (z ∙ rw (eq-eqb _ 0 n));
         bytes = b .0;
@@ -154,4 +154,4 @@ module _ (t : List ℕ) (c : Cursor) (h : Lawful c) where
 
   -- where nothing is found there are no statements
   pub walk-end : foundFrom t c ≡ End → statementsFrom t c ≡ []
-  walk-end e = found-reads t c h .0 ∙ ap (told t) e
+  walk-end e = found-reads t c h .0 ∙ ap (readOf t) e

@@ -1,8 +1,8 @@
--- Line numbers raised, and texts cut between lines: what demand 3 is said with.
-use Prim.Native.Nat.{ℕ, _+_}
+-- Line numbers raised, and what two lists share: what demand 3 is said with.
+use Prim.Native.Nat.{ℕ, _+_, _≤_, _<_}
 use mathlib.Core.Path.{_≡_}
-use mathlib.Core.List.{List, [], _∷_, _++_}
-use mathlib.Core.Logic.{_⊎_}
+use mathlib.Core.List.{List, _++_, map}
+use Rattle.laws.specs.Every.{Every}
 use Rattle.deck.specs.Reading.{Statement, State, fresh, inside}
 use Rattle.deck.specs.Reports.{Report}
 
@@ -17,10 +17,26 @@ laterState k (inside f cs) = inside (k + f) cs
 abbrev pub laterReport : {A : Type 0} → ℕ → Report A → Report A
 laterReport k r = record { line = k + r .line; what = r .what }
 
--- ---- whole lines: nothing, or bytes of which the last is a byte 10
-abbrev pub Whole : List ℕ → Type 0
-Whole x = (x ≡ []) ⊎ ((z : List ℕ) × (x ≡ z ++ (10 ∷ [])))
+-- ---- what two lists share
 
--- only the last line of a text may lack its byte 10: x is whole, or nothing follows it
-abbrev pub Seam : List ℕ → List ℕ → Type 0
-Seam x y = Whole x ⊎ (y ≡ [])
+-- both begin with the same
+pub record Begin {A : Type 0} (front a b : List A) : Type 0 where
+  pub rest-old : List A
+  pub rest-new : List A
+  pub old : a ≡ front ++ rest-old
+  pub new : b ≡ front ++ rest-new
+
+-- a list ends with the tail, its numbers raised by n. The tail starts behind line n; what stands before it, the front
+-- first, starts on line n at the latest
+pub record Ends {A : Type 0} (line : A → ℕ) (raise : ℕ → A → A) (front tail : List A) (n : ℕ) (all : List A) : Type 0
+  where
+    pub between : List A
+    pub parts : all ≡ (front ++ between) ++ map (raise n) tail
+    pub before : Every (λ (x : A). line x ≤ n) (front ++ between)
+    pub behind : Every (λ (x : A). n < line x) (map (raise n) tail)
+
+-- both begin with the same and end with the same, but that numbers are raised by m in the one and by n in the other
+pub record Share {A : Type 0} (line : A → ℕ) (raise : ℕ → A → A) (front tail : List A) (m n : ℕ) (a b : List A) : Type 0
+  where
+    pub old : Ends line raise front tail m a
+    pub new : Ends line raise front tail n b

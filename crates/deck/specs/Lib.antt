@@ -9,3 +9,4 @@ pub mod Later
 pub mod Next
 pub mod Codes
 pub mod Survey
+pub mod Contract

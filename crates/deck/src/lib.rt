@@ -12,14 +12,7 @@ use joining::put_part;
 use lines::is_passed;
 use lines::line_end;
 use statements::run;
-ghost use mathlib.Core.Path.{_≡_};
-ghost use lib.ListN.{length};
-ghost use lib.Seq.{sets};
-ghost use Rattle.deck.specs.Lines.{linesOf};
-ghost use Rattle.deck.specs.Joined.{joined};
-ghost use Rattle.deck.specs.Next.{foundFrom, Further, cardsAt};
-ghost use Rattle.deck.specs.Codes.{sizeCode};
-ghost use Rattle.deck.specs.Survey.{sizesOf};
+ghost use Rattle.deck.specs.Contract.{FindsNext, CountsLines, Surveys, CodesSize, Joins};
 
 // Where the next line begins, and its number.
 pub struct Cursor {
@@ -44,8 +37,7 @@ pub enum Found {
 // The next statement from a cursor at which reading is fresh; none where the cursor's number is too large to be its
 // line's.
 pub fn next_statement(text: &[u8], c: Cursor) -> Found
-    ensures value { λ r. ⌜ r ≡ foundFrom (now (text .entry)) c ⌝ }
-    ensures further { λ r. ⌜ Further (length (now (text .entry))) c r ⌝ }
+    ensures { λ r. ⌜ FindsNext (now (text .entry)) c r ⌝ }
 {
     let mut at = c.at;
     let mut line = c.line;
@@ -75,7 +67,7 @@ pub struct Sizes {
 
 // How many lines a text has.
 pub fn line_count(text: &[u8]) -> usize
-    ensures { λ r. ⌜ r ≡ length (linesOf (now (text .entry))) ⌝ }
+    ensures { λ r. ⌜ CountsLines (now (text .entry)) r ⌝ }
 {
     let n = count_ends(text);
     let size = text.len();
@@ -90,7 +82,7 @@ pub fn line_count(text: &[u8]) -> usize
 
 // How many lines and how many statements a text has.
 pub fn survey(text: &[u8]) -> Sizes
-    ensures { λ r. ⌜ r ≡ sizesOf (now (text .entry)) ⌝ }
+    ensures { λ r. ⌜ Surveys (now (text .entry)) r ⌝ }
 {
     let mut at = 0;
     let mut n = Tally {
@@ -111,7 +103,7 @@ pub fn survey(text: &[u8]) -> Sizes
 
 // The code of a statement's fault, or 0: still open, too many lines, a line too long; in this order.
 pub fn size_code(cards: usize, closed: bool, long: bool) -> u8
-    ensures { λ r. ⌜ r ≡ sizeCode cards closed long ⌝ }
+    ensures { λ r. ⌜ CodesSize cards closed long r ⌝ }
 {
     if !closed {
         return 11;
@@ -130,9 +122,7 @@ pub const JOINED_BYTES: usize = limits::CARDS * (limits::CARD_BYTES + 1) - 1;
 
 // Writes the joined text of so many lines from a place on, those of its bytes for which there is a place; its length.
 pub fn join(text: &[u8], start: usize, cards: usize, out: &mut [u8]) -> usize
-    ensures value { λ r. ⌜ r ≡ length (joined (cardsAt (now (text .entry)) start cards)) ⌝ }
-    ensures written { λ _. ⌜ now (out .exit)
-        ≡ sets (now (out .entry)) 0 (joined (cardsAt (now (text .entry)) start cards)) ⌝ }
+    ensures { λ r. ⌜ Joins (now (text .entry)) start cards (now (out .entry)) r (now (out .exit)) ⌝ }
 {
     if cards == 0 {
         return 0;

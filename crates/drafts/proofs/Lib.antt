@@ -1,1 +1,2 @@
 pub mod Postfix
+pub mod Agreement

@@ -5,3 +5,4 @@ pub mod Items
 pub mod Kinds
 pub mod Drafts
 pub mod Places
+pub mod Contract

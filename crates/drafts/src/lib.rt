@@ -1,10 +1,7 @@
 // The middle language between grammar and program: drafts, each a kind and an argument. A draft is a record to be, with
 // a name's key in the place of its slot.
-ghost use mathlib.Core.Path.{_≡_};
-ghost use Prim.Native.Nat.{_<_, _≤_};
-ghost use Rattle.laws.specs.Counts.{once};
-ghost use Rattle.drafts.specs.Kinds.{defines, asks, isNamed, closes, writes};
-ghost use Rattle.drafts.specs.Places.{homeOf};
+ghost use Rattle.drafts.specs.Contract.{WhetherDefining, WhetherAsking, WhetherNamed, WhetherClosing};
+ghost use Rattle.drafts.specs.Contract.{CountsDraft, FindsHome};
 use bits::reads::short_at;
 
 // ---- the kinds; 1 to 14 are those of the records that are written
@@ -51,7 +48,7 @@ pub const RATE: u8 = 14;
 
 // Whether a draft of this kind defines its name.
 pub fn is_defining(kind: u8) -> bool
-    ensures { λ r. ⌜ r ≡ defines kind ⌝ }
+    ensures { λ r. ⌜ WhetherDefining kind r ⌝ }
 {
     if kind == CONSTANT {
         return true;
@@ -64,7 +61,7 @@ pub fn is_defining(kind: u8) -> bool
 
 // Whether it asks for a name that must be defined.
 pub fn is_asking(kind: u8) -> bool
-    ensures { λ r. ⌜ r ≡ asks kind ⌝ }
+    ensures { λ r. ⌜ WhetherAsking kind r ⌝ }
 {
     if kind == FETCH {
         return true;
@@ -74,7 +71,7 @@ pub fn is_asking(kind: u8) -> bool
 
 // Whether its argument is a name's key.
 pub fn is_named(kind: u8) -> bool
-    ensures { λ r. ⌜ r ≡ isNamed kind ⌝ }
+    ensures { λ r. ⌜ WhetherNamed kind r ⌝ }
 {
     if is_defining(kind) {
         return true;
@@ -90,7 +87,7 @@ pub fn is_named(kind: u8) -> bool
 
 // Whether it closes an equation.
 pub fn is_closing(kind: u8) -> bool
-    ensures { λ r. ⌜ r ≡ closes kind ⌝ }
+    ensures { λ r. ⌜ WhetherClosing kind r ⌝ }
 {
     if kind == STORE {
         return true;
@@ -100,7 +97,7 @@ pub fn is_closing(kind: u8) -> bool
 
 // How many records it writes: one or none.
 pub fn records_of(kind: u8) -> usize
-    ensures { λ r. ⌜ (r ≡ once (writes kind)) × (r ≤ 1) ⌝ }
+    ensures { λ r. ⌜ CountsDraft kind r ⌝ }
 {
     if kind < CONSTANT {
         return 0;
@@ -118,7 +115,7 @@ pub fn records_of(kind: u8) -> usize
 
 // The place at which a slot is defined, if places are those of the definitions.
 pub fn home_of(places: &[u16], slot: u64) -> usize
-    ensures { λ r. ⌜ (r ≡ homeOf (now (places .entry)) slot) × (r < 65536) ⌝ }
+    ensures { λ r. ⌜ FindsHome (now (places .entry)) slot r ⌝ }
 {
     if slot == 0 {
         return short_at(places, 0);

@@ -6,3 +6,5 @@ pub mod RunRecord
 pub mod RunProgram
 pub mod StatePasses
 pub mod EntryAnswers
+pub mod Agreement
+pub mod Refused

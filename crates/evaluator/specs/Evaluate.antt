@@ -1,5 +1,6 @@
 -- Evaluating, starting and stepping: the answer, and what the two lent buffers then hold.
 use Prim.Native.Nat.{ℕ, _/_, _%_}
+use mathlib.Core.Path.{_≡_}
 use mathlib.Core.Bool.{cond, _||_, not}
 use mathlib.Core.List.{List, [], _∷_}
 use lib.Dec.{eqb, ltb}
@@ -89,3 +90,7 @@ stepped p h v d =
     let m = ran p v d in
     let n = begun (advanced h (moveAll h (m .derivs) (m .values) (decoded p))) (m .derivs) in
     unless (refusal p v d) v d n
+
+-- ---- with v and d lent a refusal writes nothing
+abbrev pub RefusedUnwritten : List Float → List Float → RunOutcome → Type 0
+RefusedUnwritten v d o = (o .answer .number ≡ 0 → ⊥) → (o .values ≡ v) × (o .derivs ≡ d)

@@ -27,7 +27,7 @@ given m (value x) = x
 given m (slot s) = getD (m .values) s nan
 
 -- what is done for each shape
-abbrev act : Machine → Shape → Machine
+abbrev pub act : Machine → Shape → Machine
 act m (constant s x) = record { stack = m .stack; values = set (m .values) s x; derivs = m .derivs }
 act m (initial s x) = m
 act m (push p) = yield m 0 (given m p)

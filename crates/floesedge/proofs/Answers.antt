@@ -17,8 +17,8 @@ use Rattle.records.specs.Record.{decodeFrom, decoded}
 use Rattle.translator.specs.declared.Verdict.{Verdict}
 use Rattle.translator.specs.declared.Verdict.the-variants.{Faulty, Translated}
 use Rattle.translator.specs.Contract.{numberIn, countIn, Translates}
-use Rattle.floesedge.specs.declared.Verdict.{Verdict as CVerdict}
-use Rattle.floesedge.specs.Contract.{Translates as Translates′}
+use Rattle.floesedge.specs.declared.CVerdict.{CVerdict}
+use Rattle.floesedge.specs.Contract.{TranslatesFixed}
 use Rattle.translator.specs.Verdict.{Translation, translation, verdictOf, countOf}
 use Rattle.translator.proofs.Counted.{few, count-few}
 use Rattle.translator.proofs.Verdicts.{by-number}
@@ -101,7 +101,7 @@ module _ {p : List ℕ} {v d : List Float} {r : Answer} {v′ d′ : List Float}
 -- ---- the same answer in its fixed layout
 pub same-translation : (text f p f′ p′ : List ℕ) (r : Verdict) (v : CVerdict) → Translates text f p r f′ p′
     → v .number ≡ numberIn r → v .count ≡ countIn r
-    → Translates′ text f p v f′ p′
+    → TranslatesFixed text f p v f′ p′
 same-translation text f p f′ p′ r v e n c = rw (n, c) (by-number text f p e)
 
 -- the count of each case

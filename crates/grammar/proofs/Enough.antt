@@ -131,10 +131,10 @@ abbrev pub Reader : Type 0
 Reader = Mode → ℕ → List Symbol → Res Tree
 
 -- two readers agree on what is less than n
-abbrev pub Agree : Reader → Reader → ℕ → Type 0
-Agree g g′ n = (m : Mode) (d : ℕ) (s : List Symbol) → At m s → rank m + 5 * length s < n → g m d s ≡ g′ m d s
+abbrev pub AlikeBelow : Reader → Reader → ℕ → Type 0
+AlikeBelow g g′ n = (m : Mode) (d : ℕ) (s : List Symbol) → At m s → rank m + 5 * length s < n → g m d s ≡ g′ m d s
 
-module _ (f : ℕ) (g : Reader) {n : ℕ} (same : Agree (parse f) g n) (d : ℕ) where
+module _ (f : ℕ) (g : Reader) {n : ℕ} (same : AlikeBelow (parse f) g n) (d : ℕ) where
   -- a part, and what goes on from it
   linked-cong : (part : Mode) (chain : Tree → Mode) (is : List Draft) (u : List Symbol) → At part u
       → ((e : Tree) (t : List Symbol) → At (chain e) t)
@@ -148,7 +148,7 @@ module _ (f : ℕ) (g : Reader) {n : ℕ} (same : Agree (parse f) g n) (d : ℕ)
 
 -- where they agree on what is less, one call of them is the same
 pub step-cong : (f : ℕ) (g : Reader) (m : Mode) (d : ℕ) (s : List Symbol) → At m s
-    → Agree (parse f) g (rank m + 5 * length s)
+    → AlikeBelow (parse f) g (rank m + 5 * length s)
     → step (parse f) m d s ≡ step g m d s
 step-cong f g expr d s p same =
     let o = addOp (next s) in

@@ -15,7 +15,8 @@ use Rattle.drafts.specs.Drafts.{Draft}
 use Rattle.grammar.specs.Look.{next, Paren, Call, shapeOf}
 use Rattle.grammar.specs.Grammar.{Derives}
 use Rattle.grammar.specs.Parser.{End, got, bad, Res, entire, calls, Read, read, fault, answer, readRow}
-use Rattle.grammar.specs.Meaning.{Calm, Front, Wrong, TooDeep, Meaning, wrong, deep}
+use Rattle.grammar.specs.Meaning.{Calm, Front, TooDeep}
+use Rattle.grammar.proofs.Stops.{Wrong, Stops, wrong, deep}
 use Rattle.grammar.proofs.Endings.{clash, Code, for-grammar, for-depth, OutEnd, Fronts}
 use Rattle.grammar.proofs.Whole.{Stated, StatedVia, stated-le, entire-out}
 use Rattle.grammar.proofs.Accepts.{entire-complete, accepts}
@@ -183,12 +184,12 @@ first row w t c j q h lt T = go (readRow (take (j + 1) row)) (answered (take (j 
         )
 
 -- every fault of the parser has this meaning
-meaning : (row : List Symbol) (c i : ℕ) → readRow row ≡ fault c i → Meaning row c i
+meaning : (row : List Symbol) (c i : ℕ) → readRow row ≡ fault c i → Stops row c i
 meaning row c i h = go (readRow row) (answered row) h
   where
     at-place : {b : ℕ} (w t : List Symbol) → row ≡ w ++ t → Fronts Derives levels b w → Code t b
         → ending levels (w ++ t) ≡ bad b t
-        → Meaning row b (length w)
+        → Stops row b (length w)
     at-place w t q F for-grammar k =
         wrong {i = length w} (rw q (meaning-wrong w t F k)) λ j lt. first row w t 18 j q k lt
     at-place w t q F (for-depth p) k =
@@ -196,7 +197,7 @@ meaning row c i h = go (readRow row) (answered row) h
         deep {i = length w} (rw q (meaning-deep w t (a .0) (a .1) (a .2) p (a .3 refl) k)) λ j lt.
         first row w t 19 j q k lt
 
-    go : (r : Read) → Answer row r → r ≡ fault c i → Meaning row c i
+    go : (r : Read) → Answer row r → r ≡ fault c i → Stops row c i
     go r (right a) e = clash (cc)
     go r (stopped {c = b} w t q F d k) e =
         let m : b ≡ c = cc in
@@ -228,7 +229,7 @@ apart row i j W f T =
     ⊎-elim (λ lt. f j lt T) not-past (lt-or-ge j i)
 
 -- two meanings of a row are one
-pub only : {row : List Symbol} {c b i j : ℕ} → Meaning row c i → Meaning row b j → (c ≡ b) × (i ≡ j)
+pub only : {row : List Symbol} {c b i j : ℕ} → Stops row c i → Stops row b j → (c ≡ b) × (i ≡ j)
 only {row} {i = i} {j = j} (wrong W f) (wrong U g) =
     (refl, order-cases i j (before W U) (λ e. e) λ lt. sym (before U W lt))
   where
@@ -242,15 +243,15 @@ only {row} {i = i} {j = j} (deep T f) (deep S g) =
     (refl, order-cases i j (λ lt. absurd (g i lt T)) (λ e. e) λ lt. absurd (f j lt S))
 
 -- a statement has none
-no-meaning : {row : List Symbol} {c i : ℕ} {x : Says} → Meaning row c i → Derives levels row x → ⊥
+no-meaning : {row : List Symbol} {c i : ℕ} {x : Says} → Stops row c i → Derives levels row x → ⊥
 no-meaning {x = x} (wrong W f) a = W .not-whole levels x a
 no-meaning {row} {i = i} {x = x} (deep T f) a =
     T .no-more (front-of {x = x} (take (i + 1) row) (drop (i + 1) row) (rw (take-append-drop (i + 1) row) a))
 
 -- the parser answers a fault exactly if it has this meaning
-pub exactly : (row : List Symbol) (c i : ℕ) → (readRow row ≡ fault c i) ↔ Meaning row c i
+pub exactly : (row : List Symbol) (c i : ℕ) → (readRow row ≡ fault c i) ↔ Stops row c i
 exactly row c i = (meaning row c i, λ m. go m (readRow row) refl)
   where
-    go : Meaning row c i → (r : Read) → readRow row ≡ r → r ≡ fault c i
+    go : Stops row c i → (r : Read) → readRow row ≡ r → r ≡ fault c i
     go m (read x) e = absurd (no-meaning m (accepts row x .0 e))
     go m (fault b j) e = let z = only (meaning row b j e) m in rw (z .0, z .1)

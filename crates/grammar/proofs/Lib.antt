@@ -16,7 +16,10 @@ pub mod Statements
 pub mod Entry
 pub mod Local
 pub mod Rows
+pub mod Stops
 pub mod Faults
 pub mod Tight
+pub mod Means
 pub mod Stack
 pub mod Tried
+pub mod Agreement

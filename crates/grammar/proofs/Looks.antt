@@ -188,8 +188,8 @@ pub new-drafts : {p : Opening} → New p → so-far p ≡ []
 new-drafts new-pair = refl
 new-drafts new-triple = refl
 
--- given one more: what is full has these, those of the expression, and the opening's own; what wants another has these and
--- those of the expression
+-- given one more: what is full has these, those of the expression, and the opening's own; what wants another has these
+-- and those of the expression
 abbrev pub Gave : Opening → Tree → Given → Type 0
 Gave p e (full x) = so-far p ++ (drafted e ++ openDrafts p) ≡ drafted x
 Gave p e (wants q) = so-far q ≡ so-far p ++ drafted e

@@ -22,7 +22,7 @@ use Rattle.grammar.specs.Parser.{Res, give, stop, tell, when, byShape, b
 use Rattle.grammar.specs.Codes.{wantOf, kindOpening, closerOf, leafKind, leafArg, faceOf}
 use Rattle.grammar.specs.Contract.{Ready, passed, stopped, Meets, Parses}
 use Rattle.grammar.proofs.Clauses.{reads-factor, reads-opened, reads-deep, reads-list}
-use Rattle.grammar.proofs.Seen.{token-at, stands, leaf-told, face-told}
+use Rattle.grammar.proofs.Seen.{token-at, stands, leaf-noted, face-noted}
 use Rattle.grammar.proofs.Meets.{meets-by, meets-rest, meets-give, meets-stop, meets-tell, meets-mark}
 use Rattle.grammar.proofs.Meets.{meets-else, meets-need, meets-shut}
 use Rattle.grammar.proofs.Ways.{after, stops, goes-on}
@@ -62,10 +62,10 @@ module _ {ks us : List ℕ} {i p k : ℕ} {l u : List ℕ} {f : Face} (w : Ready
 
   -- it stands before the end
   pub one-inside : {n : ℕ} → f ≡ One n → i < length ks
-  one-inside e = stands ks i λ z. face-told k 0 (sym e ∙ ef 0) (ek ∙ z)
+  one-inside e = stands ks i λ z. face-noted k 0 (sym e ∙ ef 0) (ek ∙ z)
 
   pub function-inside : {n c : ℕ} → f ≡ Function n c → i < length ks
-  function-inside e = stands ks i λ z. face-told k 0 (sym e ∙ ef 0) (ek ∙ z)
+  function-inside e = stands ks i λ z. face-noted k 0 (sym e ∙ ef 0) (ek ∙ z)
 
   -- one draft
   pub one-room : {n : ℕ} → f ≡ One n → (p < length l) × (p < length u)
@@ -78,7 +78,7 @@ module _ {ks us : List ℕ} {i p k : ℕ} {l u : List ℕ} {f : Face} (w : Ready
       let row = heldRow ks us in
       let b = one-inside e in
       let h = as-shown k (getD us i 0) (sym e ∙ ef (getD us i 0)) in
-      let z : drafted (h .0) ≡ draft n a ∷ [] = leaf-told k (getD us i 0) (h .1) ∙ rw (h .2, g) in
+      let z : drafted (h .0) ≡ draft n a ∷ [] = leaf-noted k (getD us i 0) (h .1) ∙ rw (h .2, g) in
       record {
         meets = meets-by (reads factor d) (by-shape d (h .1) ∙ ap (λ is. tell is (give (h .0) (rest (drop i row)))) z)
             (meets-tell n a x y (meets-rest (meets-give (w .even) (omega arith) (h .0))));
@@ -87,7 +87,7 @@ module _ {ks us : List ℕ} {i p k : ℕ} {l u : List ℕ} {f : Face} (w : Ready
   -- parentheses
   pub group-enter : {t : ℕ} → f ≡ Group → 1 + 5 * (length ks - i) ≡ t
       → (5 * (length ks - i) < t) × ((getD ks i 0 ≡ 40) × Ready ks us i p l u)
-  group-enter e m = (omega arith, (sym ek ∙ face-told k 0 (sym e ∙ ef 0), w))
+  group-enter e m = (omega arith, (sym ek ∙ face-noted k 0 (sym e ∙ ef 0), w))
 
   pub factor-group : {d : ℕ} {r : Part} {l₁ u₁ : List ℕ} → f ≡ Group
       → ((o : Opening) → wantOf o ≡ 1 → kindOpening o ≡ 0 → Parses ks us (opened o) d i p l u r l₁ u₁)

@@ -76,25 +76,25 @@ unfolding byteOf
 mul-seen k a = rw (mark-test k a 42 (omega arith), mark-test k a 47 (omega arith))
 
 -- what a token's shape tells of its numbers: one that is a whole factor has one draft
-abbrev Told : ℕ → Shape → Type 0
-Told a (Leaf e) = drafted e ≡ draft (leafKind e) (leafArg (leafKind e) a) ∷ []
-Told a Paren = Unit {0}
-Told a (Call p) = Unit {0}
-Told a NoFactor = Unit {0}
+abbrev Noted : ℕ → Shape → Type 0
+Noted a (Leaf e) = drafted e ≡ draft (leafKind e) (leafArg (leafKind e) a) ∷ []
+Noted a Paren = Unit {0}
+Noted a (Call p) = Unit {0}
+Noted a NoFactor = Unit {0}
 
-told : (k a : ℕ) → Told a (shapeOf (symbolOf k a))
+noted : (k a : ℕ) → Noted a (shapeOf (symbolOf k a))
 unfolding shapeOf drafted
-told k a = by-kind (λ k. Told a (shapeOf (symbolOf k a))) tt refl refl tt tt tt tt refl tt tt tt
+noted k a = by-kind (λ k. Noted a (shapeOf (symbolOf k a))) tt refl refl tt tt tt tt refl tt tt tt
     (λ k h. rw (high k a h) (go (eqb k 40))) k
   where
-    go : (t : Bool) → Told a (cond t Paren NoFactor)
+    go : (t : Bool) → Noted a (cond t Paren NoFactor)
     go true = tt
     go false = tt
 
 -- so it does where the shape is known
-pub leaf-told : (k a : ℕ) {e : Tree} → shapeOf (symbolOf k a) ≡ Leaf e
+pub leaf-noted : (k a : ℕ) {e : Tree} → shapeOf (symbolOf k a) ≡ Leaf e
     → drafted e ≡ draft (leafKind e) (leafArg (leafKind e) a) ∷ []
-leaf-told k a q = subst (λ (h : Shape). Told a h) q (told k a)
+leaf-noted k a q = subst (λ (h : Shape). Noted a h) q (noted k a)
 
 -- and of one that opens parentheses its kind
 abbrev Faced : ℕ → Face → Type 0
@@ -118,8 +118,8 @@ faced k a =
     go k false e = tt
 
 -- so it does where the face is known
-pub face-told : (k a : ℕ) {f : Face} → f ≡ faceOf (shapeOf (symbolOf k a)) → Faced k f
-face-told k a q = subst (λ (f : Face). Faced k f) (sym q) (faced k a)
+pub face-noted : (k a : ℕ) {f : Face} → f ≡ faceOf (shapeOf (symbolOf k a)) → Faced k f
+face-noted k a q = subst (λ (f : Face). Faced k f) (sym q) (faced k a)
 
 -- and every other kind begins none
 pub no-face : (k a : ℕ) → (k ≡ 1 → ⊥) → (k ≡ 2 → ⊥) → (k ≡ 7 → ⊥) → (k ≡ 40 → ⊥) → (k ≡ 8 → ⊥) → (k ≡ 9 → ⊥)

@@ -6,8 +6,9 @@ use mathlib.Core.List.{List, [], _∷_, _++_}
 use native.Mathlib.Omega.{arith}
 use Rattle.limits.specs.Limits.{levels, stackPlaces}
 use Rattle.tokens.specs.Symbol.{INSW, Symbol, mark, number, name, word}
-use Rattle.drafts.specs.Tree.{Two, plus, minus, times, over, compar, Tree, value, named, time, negated, two, three}
-use Rattle.drafts.specs.Tree.{Says, constants, assignment, state}
+use Rattle.drafts.specs.Tree.{Two, plus, minus, times, over, compar, Tree}
+use Rattle.drafts.specs.Tree.{Says}
+use Rattle.drafts.specs.Items.{peak, peakOf}
 use Rattle.grammar.specs.Look.{next, rest, byteOf, op, signed, shapeOf, startOf}
 use Rattle.grammar.specs.Look.{Opening, group, pair, pair-of, triple, triple-of, triple-of-two, Given, full}
 use Rattle.grammar.specs.Look.{wants, give-to}
@@ -18,21 +19,6 @@ use Rattle.grammar.specs.Grammar.{Derives, of-constants, of-assignment, 
 use Rattle.grammar.specs.Parser.{Read, read, fault, bind, parse, assigned, statement, entire, readRow}
 use Rattle.grammar.proofs.Looks.{Bare, bare-value, bare-name, bare-time, New, new-pair, new-triple, as-shaped}
 use Rattle.grammar.proofs.Sound.{nought}
-
--- how many stand at once at most: operands are worked out from left to right, each above those before it
-unfoldable pub peak : Tree → ℕ
-peak (value x) = 1
-peak (named k) = 1
-peak time = 1
-peak (negated a) = peak a
-peak (two o a b) = max (peak a) (1 + peak b)
-peak (three o a b c) = max (peak a) (max (1 + peak b) (2 + peak c))
-
--- for a statement: constants work out nothing
-abbrev pub peakOf : Says → ℕ
-peakOf (constants cs) = 0
-peakOf (assignment k e) = peak e
-peakOf (state k i e) = peak e
 
 -- ---- openings
 

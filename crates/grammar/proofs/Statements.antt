@@ -20,7 +20,7 @@ use Rattle.grammar.specs.Grammar.{expr}
 use Rattle.grammar.specs.Parser.{Res, give, tell, bind, need, parse, reads}
 use Rattle.grammar.specs.Parser.{signedNumber, onMore, valued, many, initially, assigned, rated, started}
 use Rattle.grammar.specs.Parser.{integrated, equated, statement, calls}
-use Rattle.grammar.specs.Contract.{Ready, Within, passed, stopped, Meets, Parses, Lists, numberAt, initialAt}
+use Rattle.grammar.specs.Contract.{Ready, Within, passed, stopped, Meets, Parses, ParsesMany, numberAt, initialAt}
 use Rattle.grammar.proofs.Clauses.{to-reads}
 use Rattle.grammar.proofs.Seen.{token-at, stands, is-name, no-name, is-integral, no-integral, start-name}
 use Rattle.grammar.proofs.Seen.{start-words, start-none}
@@ -76,7 +76,7 @@ comma-inside ks j {c} e z = stands ks j λ y. let v : c ≡ 0 = e ∙ y in omega
 
 module _ {ks us : List ℕ} {i p m : ℕ} {l u : List ℕ} (w : Ready ks us i p l u) (em : m ≡ getD ks i 0) where
   -- no name
-  pub const-none : (m ≡ 2 → ⊥) → Lists ks us i p l u (stopped 18 i) l u
+  pub const-none : (m ≡ 2 → ⊥) → ParsesMany ks us i p l u (stopped 18 i) l u
   unfolding many
   const-none n =
       record {
@@ -94,7 +94,7 @@ module _ {ks us : List ℕ} {i p m : ℕ} {l u : List ℕ} (w : Ready ks us i p 
     const-named : {r : Part} {l₁ u₁ : List ℕ}
         → ((f : ℕ) → length ks - i ≤ f → Meets ks us (λ s. need 61 s (valued (many f) (getD us i 0)))
         (i + 1) p l u r l₁ u₁)
-        → Lists ks us i p l u r l₁ u₁
+        → ParsesMany ks us i p l u r l₁ u₁
     unfolding many
     const-named {r} {l₁} {u₁} g =
         record {
@@ -106,7 +106,7 @@ module _ {ks us : List ℕ} {i p m : ℕ} {l u : List ℕ} (w : Ready ks us i p 
 
     module _ {e : ℕ} (ee : e ≡ getD ks (i + 1) 0) where
       -- no =
-      pub const-shut : (e ≡ 61 → ⊥) → Lists ks us i p l u (stopped 18 (i + 1)) l u
+      pub const-shut : (e ≡ 61 → ⊥) → ParsesMany ks us i p l u (stopped 18 (i + 1)) l u
       const-shut n =
           let a = name-inside in
           const-named λ f le. meets-shut (valued (many f) (getD us i 0)) 61 (w .even) (omega arith) (omega arith) λ z. n
@@ -122,13 +122,13 @@ module _ {ks us : List ℕ} {i p m : ℕ} {l u : List ℕ} (w : Ready ks us i p 
         -- behind =
         const-equals : {r : Part} {l₁ u₁ : List ℕ}
             → ((f : ℕ) → length ks - i ≤ f → Meets ks us (valued (many f) (getD us i 0)) (i + 2) p l u r l₁ u₁)
-            → Lists ks us i p l u r l₁ u₁
+            → ParsesMany ks us i p l u r l₁ u₁
         const-equals g =
             let n : i + 2 ≡ i + 1 + 1 = omega arith in
             const-named λ f le. meets-need 61 (w .even) (omega arith) (sym ee ∙ equals) (rw n at (g f le))
 
         -- no number
-        pub const-missing : {j : ℕ} → Missing j ≡ numberAt ks us (i + 2) → Lists ks us i p l u (stopped 18 j) l u
+        pub const-missing : {j : ℕ} → Missing j ≡ numberAt ks us (i + 2) → ParsesMany ks us i p l u (stopped 18 j) l u
         const-missing h = const-equals λ f le. number-stops const-within _ h
 
         module _ {k a j : ℕ} (h : Found k a j ≡ numberAt ks us (i + 2)) where
@@ -148,7 +148,7 @@ module _ {ks us : List ℕ} {i p m : ℕ} {l u : List ℕ} (w : Ready ks us i p 
             -- its two drafts
             const-valued : {r : Part} {l₃ u₃ : List ℕ}
                 → ((f : ℕ) (z : Constant) → length ks - i ≤ f → Meets ks us (onMore (many f) z) j (p + 2) l₂ u₂ r l₃ u₃)
-                → Lists ks us i p l u r l₃ u₃
+                → ParsesMany ks us i p l u r l₃ u₃
             const-valued g =
                 let v = value in
                 let n = getD us i 0 in
@@ -158,7 +158,7 @@ module _ {ks us : List ℕ} {i p m : ℕ} {l u : List ℕ} (w : Ready ks us i p 
                 (g f (constantOf n (v .what)) le))
 
             -- the last
-            pub const-last : (c ≡ 44 → ⊥) → Lists ks us i p l u (passed j (p + 2)) l₂ u₂
+            pub const-last : (c ≡ 44 → ⊥) → ParsesMany ks us i p l u (passed j (p + 2)) l₂ u₂
             const-last n =
                 const-valued λ f z le. meets-else (λ s. bind (many f (rest s)) λ cs t. give (z ∷ cs) t) 44 (w .even)
                 (omega arith) (λ q. n (ec ∙ q))
@@ -172,8 +172,8 @@ module _ {ks us : List ℕ} {i p m : ℕ} {l u : List ℕ} (w : Ready ks us i p 
                 let b = value .on in
                 (omega arith, const-on .ready 1 (getD us i 0) k a x y x′ y′ d)
 
-            pub const-more : {r : Part} {l₃ u₃ : List ℕ} → c ≡ 44 → Lists ks us (j + 1) (p + 2) l₂ u₂ r l₃ u₃
-                → Lists ks us i p l u r l₃ u₃
+            pub const-more : {r : Part} {l₃ u₃ : List ℕ} → c ≡ 44 → ParsesMany ks us (j + 1) (p + 2) l₂ u₂ r l₃ u₃
+                → ParsesMany ks us i p l u r l₃ u₃
             const-more q g =
                 let v = value in
                 const-valued λ f z le. meets-mark (give (z ∷ [])) 44 (w .even) (omega arith) (sym ec ∙ q)
@@ -372,7 +372,7 @@ module _ {ks us : List ℕ} {p k : ℕ} {l u : List ℕ} (w : Ready ks us 0 p l 
         room-args = omega (arith, w .room-args);
       }
 
-  pub begins-words : {r : Part} {l₁ u₁ : List ℕ} → 3 ≤ k → k ≤ 5 → Lists ks us 1 p l u r l₁ u₁
+  pub begins-words : {r : Part} {l₁ u₁ : List ℕ} → 3 ≤ k → k ≤ 5 → ParsesMany ks us 1 p l u r l₁ u₁
       → Meets ks us (statement (calls (heldRow ks us)) levels) 0 p l u r l₁ u₁
   unfolding statement
   begins-words a b g =

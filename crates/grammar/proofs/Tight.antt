@@ -6,7 +6,7 @@ use mathlib.Core.Bool.{Bool, true, false}
 use mathlib.Core.List.{List, [], _∷_, _++_, append-assoc, append-nil}
 use native.Mathlib.Omega.{arith}
 use lib.Dec.{eqb}
-use lib.ListN.{length, replicate}
+use lib.ListN.{length}
 use Rattle.tokens.specs.Symbol.{INTGRL, INSW, Symbol, mark, name, word}
 use Rattle.drafts.specs.Tree.{Tree, insw, Says, assignment}
 use Rattle.grammar.specs.Look.{next, rest, byteOf, group, triple, give-to, shapeOf, Integral, startOf}
@@ -14,19 +14,11 @@ use Rattle.grammar.specs.Grammar.{expr, term, factor, Der, unsigned, no-
 use Rattle.grammar.specs.Grammar.{called, opening, last}
 use Rattle.grammar.specs.Grammar.{Derives, of-constants, of-assignment, of-state}
 use Rattle.grammar.specs.Parser.{bad, bind, parse}
-use Rattle.grammar.specs.Meaning.{Front}
+use Rattle.grammar.specs.Meaning.{Front, inside, deepest}
 use Rattle.grammar.proofs.Endings.{clash, Begins}
 use Rattle.grammar.proofs.Sound.{zero-list}
 use Rattle.grammar.proofs.Complete.{complete}
 use Rattle.grammar.proofs.Local.{bind-bad}
-
--- n openings, INSW, and the tokens r
-abbrev inside : ℕ → List Symbol → List Symbol
-inside n r = replicate n (mark 40) ++ word INSW ∷ r
-
--- behind name =
-unfoldable pub deepest : ℕ → List Symbol
-deepest n = name 1 ∷ mark 61 ∷ inside n []
 
 -- ---- with one level more it is the front of a statement
 

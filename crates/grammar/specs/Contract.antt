@@ -65,7 +65,7 @@ rowOutcome ks us l u p =
     (rowWrote (heldRow ks us) p l u)
     (parseOutcome NoRoom l u)
 
--- the whole promise of `parse_row`: two outcomes that it allows are equal
+-- `parse_row`: the answer r and the buffers l′ and u′ are those of the row
 abbrev pub ParsesRow : List ℕ → List ℕ → List ℕ → List ℕ → ℕ → Parsed → List ℕ → List ℕ → Type 0
 ParsesRow ks us l u p r l′ u′ = parseOutcome r l′ u′ ≡ rowOutcome ks us l u p
 
@@ -109,7 +109,7 @@ pub record Parses (ks us : List ℕ) (m : Mode) (d i p : ℕ) (l u : List ℕ) (
   pub meets : Meets ks us (reads m d) i p l u r l′ u′
 
 -- what the constants from place i on give, at every count of calls that suffices
-pub record Lists (ks us : List ℕ) (i p : ℕ) (l u : List ℕ) (r : Part) (l′ u′ : List ℕ) : Type 0 where
+pub record ParsesMany (ks us : List ℕ) (i p : ℕ) (l u : List ℕ) (r : Part) (l′ u′ : List ℕ) : Type 0 where
   pub meets : (f : ℕ) → length ks - i < f → Meets ks us (many f) i p l u r l′ u′
 
 -- what writes nothing itself: the draft of what was read, or the place where it is missing

@@ -2,13 +2,15 @@
 -- 18, or an opening that the grammar allows but goes to level 17, 19.
 use Prim.Native.Nat.{ℕ, suc, _+_, _≤_, _<_}
 use mathlib.Core.Path.{_≡_}
+use mathlib.Core.Logic.{_⊎_, _↔_}
 use mathlib.Core.List.{List, [], _∷_, _++_}
-use lib.ListN.{length, getD, take}
+use lib.ListN.{length, getD, take, replicate}
 use Rattle.limits.specs.Limits.{levels}
-use Rattle.tokens.specs.Symbol.{Symbol, mark}
+use Rattle.tokens.specs.Symbol.{INSW, Symbol, mark, name, word}
 use Rattle.drafts.specs.Tree.{Says}
 use Rattle.grammar.specs.Look.{Opening, Call, shapeOf}
 use Rattle.grammar.specs.Grammar.{Derives}
+use Rattle.grammar.specs.Parser.{read, fault, readRow}
 
 -- the tokens w are the front of a statement with at most d levels; a statement without limit is one with some count of
 -- levels
@@ -28,17 +30,40 @@ pub record TooDeep (row : List Symbol) (i : ℕ) : Type 0 where
   pub allowed : Front (suc levels) (take (i + 1) row)
   pub no-more : Front levels (take (i + 1) row) → ⊥
 
--- at place i no statement can go on: what stands before it is the front of one, within the levels but for a function's
--- name that wants one more; with the token there it is the front of none, whatever the levels; and the row is none (at
--- its end that is all)
-pub record Wrong (row : List Symbol) (i : ℕ) : Type 0 where
+-- 18 at token i: the tokens before it begin some statement of the grammar, those up to and including it begin none at
+-- any depth (at the early end: the row is none), and no earlier opening is too deep
+pub record Eighteen (row : List Symbol) (i : ℕ) : Type 0 where
   pub within : i ≤ length row
-  pub before : Front (suc levels) (take i row)
-  pub before-calm : Calm (take i row) → Front levels (take i row)
-  pub no-more : i < length row → (d : ℕ) → Front d (take (i + 1) row) → ⊥
-  pub not-whole : (d : ℕ) (x : Says) → Derives d row x → ⊥
+  pub depth : ℕ
+  pub begun : Front depth (take i row)
+  pub no-further : i < length row → (d : ℕ) → Front d (take (i + 1) row) → ⊥
+  pub none : i ≡ length row → (d : ℕ) (x : Says) → Derives d row x → ⊥
+  pub earlier : (j : ℕ) → j < i → TooDeep row j → ⊥
 
--- the first such place, and the code
-pub data Meaning (row : List Symbol) : ℕ → ℕ → Type 0 where
-  wrong : {i : ℕ} → Wrong row i → ((j : ℕ) → j < i → TooDeep row j → ⊥) → Meaning row 18 i
-  deep : {i : ℕ} → TooDeep row i → ((j : ℕ) → j < i → TooDeep row j → ⊥) → Meaning row 19 i
+-- 19 at token i: it is an opening that the grammar allows with one level more than there are and not with those, and
+-- none is earlier
+pub record Nineteen (row : List Symbol) (i : ℕ) : Type 0 where
+  pub deep : TooDeep row i
+  pub earlier : (j : ℕ) → j < i → TooDeep row j → ⊥
+
+-- what the parser answers, exactly
+pub record Means (row : List Symbol) : Type 0 where
+  pub statement : (x : Says) → (readRow row ≡ read x) ↔ Derives levels row x
+  pub eighteen : (i : ℕ) → (readRow row ≡ fault 18 i) ↔ Eighteen row i
+  pub nineteen : (i : ℕ) → (readRow row ≡ fault 19 i) ↔ Nineteen row i
+  pub no-other : (c i : ℕ) → readRow row ≡ fault c i → (c ≡ 18) ⊎ (c ≡ 19)
+  -- for the tokens before a fault 18 one level more suffices, and the levels unless they end in a function's name
+  pub seventeen : (i : ℕ) → Eighteen row i → Front (suc levels) (take i row)
+  pub sixteen : (i : ℕ) → Eighteen row i → Calm (take i row) → Front levels (take i row)
+  -- it is one statement, whatever the depth
+  pub one : (d e : ℕ) (x y : Says) → Derives d row x → Derives e row y → x ≡ y
+
+-- ---- the exception: a front that ends with a function's name can want one level more than there are
+
+-- n openings, INSW, and the tokens r
+abbrev pub inside : ℕ → List Symbol → List Symbol
+inside n r = replicate n (mark 40) ++ word INSW ∷ r
+
+-- behind name =
+unfoldable pub deepest : ℕ → List Symbol
+deepest n = name 1 ∷ mark 61 ∷ inside n []

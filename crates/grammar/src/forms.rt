@@ -5,7 +5,7 @@ ghost use Rattle.limits.specs.Limits.{levels};
 ghost use Rattle.tokens.specs.Held.{heldRow};
 ghost use Rattle.drafts.specs.Tree.{Initial};
 ghost use Rattle.grammar.specs.Parser.{assigned, rated, integrated, statement, calls};
-ghost use Rattle.grammar.specs.Contract.{Ready, Within, Meets, Lists, numberAt, initialAt};
+ghost use Rattle.grammar.specs.Contract.{Ready, Within, Meets, ParsesMany, numberAt, initialAt};
 use super::expressions::Part;
 use super::expressions::emit;
 use super::expressions::expression;
@@ -68,7 +68,7 @@ pub(crate) fn constants(
     place: usize,
 ) -> Part
     requires { ⌜ Ready (now kinds) (now args) at place (now drafts) (now values) ⌝ }
-    ensures { λ r. ⌜ Lists (now (kinds .entry)) (now (args .entry)) at place
+    ensures { λ r. ⌜ ParsesMany (now (kinds .entry)) (now (args .entry)) at place
         (now (drafts .entry)) (now (values .entry)) r (now (drafts .exit)) (now (values .exit)) ⌝ }
 {
     if byte_at(kinds, at) != tokens::NAME {

@@ -14,3 +14,4 @@ pub mod Gathers
 pub mod Bools
 pub mod Stores
 pub mod Every
+pub mod Chosen

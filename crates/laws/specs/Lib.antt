@@ -8,3 +8,4 @@ pub mod Rising
 pub mod Places
 pub mod Put
 pub mod Every
+pub mod Agree

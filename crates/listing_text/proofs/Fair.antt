@@ -18,7 +18,7 @@ use Rattle.sheet.specs.Reader.{sheetOf}
 use Rattle.model.specs.Definitions.{definitions, equationAt}
 use Rattle.model.specs.Faults.{modelFaults, orderOf}
 use Rattle.program.specs.Program.{program}
-use Rattle.translator.specs.Verdict.{Verdict, refused, faulty, translated, ifFaults, programmed, modelled, judged}
+use Rattle.translator.specs.Verdict.{Decision, refused, faulty, translated, ifFaults, programmed, modelled, judged}
 use Rattle.translator.specs.Verdict.{verdictOf}
 use Rattle.listing_text.specs.Listing.{line}
 use Rattle.listing_text.proofs.Numbers.{ReportBelow, SaidBelow, FaultBelow, sheet-below, faults-below}
@@ -28,13 +28,13 @@ use Rattle.listing_text.proofs.Ordered.{program-ends, program-below}
 
 -- no other verdict is 0 than that with a program; lines are small, and the records that end a statement have the
 -- ordered lines
-abbrev pub Fair : Verdict → Type 0
+abbrev pub Fair : Decision → Type 0
 Fair (refused n) = 0 < n
 Fair (faulty n fs) = (0 < n) × Every (FaultBelow 65536) fs
 Fair (translated rs ls) = Every (RecBelow 65536) rs × (concat-map endedBy rs ≡ concat-map line ls)
 
 -- if some fault stands, or else the next
-fair-faults : (n : ℕ) (fs : List Fault) (v : Verdict) → 0 < n → Every (FaultBelow 65536) fs → Fair v
+fair-faults : (n : ℕ) (fs : List Fault) (v : Decision) → 0 < n → Every (FaultBelow 65536) fs → Fair v
     → Fair (ifFaults n fs v)
 fair-faults n [] v z p q = q
 fair-faults n (f ∷ fs) v z p q = (z, p)

@@ -7,3 +7,4 @@ mod Back
 mod Ordered
 mod Fair
 mod ListedMeans
+pub mod Agreement

@@ -11,7 +11,7 @@ use Rattle.laws.specs.Put.{Put}
 use Rattle.sheet.specs.Sheet.{faultList}
 use Rattle.sheet.proofs.Entries.{list-length}
 use Rattle.records.specs.Record.{programBytes}
-use Rattle.translator.specs.Verdict.{Verdict as Decision, refused, faulty, translated, verdictOf}
+use Rattle.translator.specs.Verdict.{Decision, refused, faulty, translated, verdictOf}
 use Rattle.translator.specs.Verdict.{numberOf, countOf, faultsAfter, programAfter, Translation, translation}
 use Rattle.translator.specs.declared.Verdict.{Verdict}
 use Rattle.translator.specs.Contract.{numberIn, countIn, Translates}

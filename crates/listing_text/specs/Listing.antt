@@ -8,7 +8,7 @@ use Rattle.limits.specs.Limits.{faultRoom, programRoom}
 use Rattle.laws.specs.Text.{bytes}
 use Rattle.laws.specs.Lists.{concat-map}
 use Rattle.sheet.specs.Sheet.{Fault}
-use Rattle.translator.specs.Verdict.{Verdict, refused, faulty, translated, verdictOf}
+use Rattle.translator.specs.Verdict.{Decision, refused, faulty, translated, verdictOf}
 
 -- a number in decimal digits, with at most f of them
 unfoldable pub figuresIn : ℕ → ℕ → List ℕ
@@ -30,7 +30,7 @@ line2 m n = figures m ++ (32 ∷ line n)
 
 -- OK and the record count, then the first line of each ordered statement; otherwise NO and the number, then line and
 -- code of each fault
-unfoldable pub listed : Verdict → List ℕ
+unfoldable pub listed : Decision → List ℕ
 listed (refused n) = bytes "NO " ++ line n
 listed (faulty n fs) = bytes "NO " ++ (line n ++ concat-map (λ (f : Fault). line2 (f .line) (f .code)) fs)
 listed (translated rs ls) = bytes "OK " ++ (line (length rs) ++ concat-map line ls)

@@ -1,14 +1,14 @@
 -- What is worked out by place over the arrays of a sheet is what the definitions say of its statements.
 use Prim.Native.Nat.{ℕ, _<_}
-use mathlib.Core.Path.{_≡_, refl, ap}
-use mathlib.Core.List.{List, [], _∷_}
+use mathlib.Core.Path.{_≡_}
+use mathlib.Core.List.{List, []}
 use lib.ListN.{length, getD}
 use Rattle.laws.specs.Counts.{has}
-use Rattle.sheet.specs.Sheet.{Numbered, Fault}
+use Rattle.sheet.specs.Sheet.{Numbered}
 use Rattle.sheet.specs.Layout.{Laid}
 use Rattle.order.specs.Greedy.{order}
 use Rattle.model.specs.Definitions.{Def, definitions, keys, equationCount}
-use Rattle.model.specs.Faults.{faults21, nameFaults, faults24, orElse, modelFaults, orderOf}
+use Rattle.model.specs.Faults.{faults21, nameFaults, faults24, orderOf}
 use Rattle.model.specs.Places.{keysIn, placesIn, doubles, resolved, nameless, equatedIn, loops}
 use Rattle.model.proofs.SheetWalk.{sheetSlots}
 use Rattle.model.proofs.KeyPlaces.{noDef, keys-once}
@@ -17,11 +17,6 @@ use Rattle.model.proofs.SheetNames.{names-of}
 use Rattle.model.proofs.SheetEquations.{equated-length}
 use Rattle.model.proofs.UsesFit.{usedOf}
 use Rattle.model.proofs.SheetUses.{order-of, loops-of}
-
--- what is sought only if f is empty matters only then
-or-else : (f g h : List Fault) → (f ≡ [] → g ≡ h) → orElse f g ≡ orElse f h
-or-else [] g h e = e refl
-or-else (x ∷ f) g h e = refl
 
 -- ---- of arrays that hold the statements ss. That the table of uses is one that can be ordered holds of any arrays
 -- (laws of Table)
@@ -79,12 +74,3 @@ module _ (ss : List Numbered) (kinds args lines bounds : List ℕ) (laid : Laid 
   -- 24
   pub loops-meant : loops (orderOf ds) equated lines ≡ faults24 ds
   loops-meant = rw (laid .kinds-held, laid .lines-held, laid .bounds-held) (loops-of ss)
-
-  -- THE MODEL'S FAULTS
-  pub faults-meant : orElse (doubles lines bounds kinds args)
-      (orElse (nameless places lines bounds kinds slots) (loops (orderOf ds) equated lines))
-      ≡ modelFaults ss
-  unfolding modelFaults
-  faults-meant =
-      rw (doubles-meant, loops-meant)
-      (or-else (faults21 [] ss) _ _ (λ e. ap (λ f. orElse f (faults24 ds)) (names-meant e)))

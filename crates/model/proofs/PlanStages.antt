@@ -18,7 +18,7 @@ use Rattle.laws.proofs.Gathers.{any-none, none-any, gather-none, gather-short}
 use Rattle.sheet.specs.Sheet.{Fault, faultList}
 use Rattle.order.specs.Greedy.{order}
 use Rattle.order.specs.Table.{usesIn, Fit, fits}
-use Rattle.order.specs.Answer.{Sorts}
+use Rattle.order.specs.Contract.{Sorts}
 use Rattle.order.specs.declared.Sorted.{Sorted}
 use Rattle.order.specs.declared.Sorted.the-variants.{Placed, Unfit}
 use Rattle.order.proofs.Tables.{fits-iff}
@@ -98,7 +98,7 @@ module _ {fs : List Fault} {c : ℕ} {list list′ : List ℕ} (v : Reported fs 
       )
 
 -- ---- 24
-module _ {m : ℕ} {starts used array out : List ℕ} {r : Sorted} (v : Sorts m starts used array out r)
+module _ {m : ℕ} {starts used array out : List ℕ} {r : Sorted} (v : Sorts m starts used array r out)
     (f : Fit m starts used)
     (w : mostStatements ≤ length array) where
   abbrev inOrder : List ℕ
@@ -126,7 +126,8 @@ module _ {m : ℕ} {starts used array out : List ℕ} {r : Sorted} (v : Sorts m 
   sorts-long = ap length sorts-content ∙ length-sets array 0 inOrder
 
   -- fewer are placed than there are
-  pub sorts-short : {equated faults faults′ : List ℕ} {k c : ℕ} {p : Plan} (n : ℕ) (lines : List ℕ) → r ≡ Placed k → k < m
+  pub sorts-short : {equated faults faults′ : List ℕ} {k c : ℕ} {p : Plan} (n : ℕ) (lines : List ℕ) → r ≡ Placed k
+      → k < m
       → Holds equated m (take m equated)
       → Reported (loops (take k out) (take m equated) lines) 0 c faults faults′ → p ≡ refused 7 c
       → (slots filled places : List ℕ)
@@ -136,10 +137,10 @@ module _ {m : ℕ} {starts used array out : List ℕ} {r : Sorted} (v : Sorts m 
   sorts-short {equated} {faults} {faults′} {k} {c} n lines e l q u z slots filled places =
       let front : take k out ≡ inOrder =
       rw (sorts-content, sorts-count e) (front-row array inOrder (omega (arith, sorts-room, sorts-count e))) in
-      let told : Reported (loops inOrder (take m equated) lines) 0 c faults faults′ = rw front at u in
-      let count : c ≡ length (loops inOrder (take m equated) lines) = omega (arith, told .behind) in
+      let reported : Reported (loops inOrder (take m equated) lines) 0 c faults faults′ = rw front at u in
+      let count : c ≡ length (loops inOrder (take m equated) lines) = omega (arith, reported .behind) in
       rw (lt-ltb (length inOrder) (length (take m equated)) (omega (arith, q .long, sorts-count e)))
-      (outcome-same slots filled (z ∙ ap (refused 7) count) (told .written) (ap (lent places equated) sorts-content))
+      (outcome-same slots filled (z ∙ ap (refused 7) count) (reported .written) (ap (lent places equated) sorts-content))
 
   -- all are placed
   pub sorts-whole : {equated : List ℕ} {k : ℕ} (n : ℕ) (lines faults : List ℕ) → r ≡ Placed k → m ≤ k
@@ -238,7 +239,8 @@ module _ {lines bounds kinds slots starts used equated : List ℕ} {m w : ℕ}
   unfolding weighed
   weighed-by n faults placed e places = e slots used places ∙ same
     where
-      same : orderedPlan (order m (usesIn (take (m + 1) starts) (take w used))) n (take m equated) lines slots used faults
+      same : orderedPlan (order m (usesIn (take (m + 1) starts) (take w used))) n
+          (take m equated) lines slots used faults
           (lent places equated placed)
           ≡ weighed (equatedIn (length lines) bounds kinds) n lines bounds kinds slots used faults
           (lent places equated placed)
@@ -342,7 +344,8 @@ module _ {lines bounds kinds args used keys places : List ℕ} (k : Keyed lines 
     table = r .linked
 
     equations-held : Holds equated′ (n .equations) (equatedIn (length lines) bounds kinds)
-    equations-held = holds-put (r .equations-put) (omega (arith, equated-few (length lines) bounds kinds, k .sound .few))
+    equations-held = holds-put (r .equations-put)
+        (omega (arith, equated-few (length lines) bounds kinds, k .sound .few))
 
     pub placeable : Weighs lines bounds kinds slots (n .equations) (n .used) starts used′ equated′
     placeable = weighs (k .sound) equations-held table
@@ -409,7 +412,8 @@ module _ {lines bounds kinds args used keys places : List ℕ} (k : Keyed lines 
           let count = q ∙ ap length (k .placed) in
           let same =
           ap₂
-          (λ (b : ℕ) (list : List ℕ). weighed equated b lines bounds kinds slots used′ list (lent places₀ equated′ placed))
+          (λ (b : ℕ) (list : List ℕ). weighed equated b lines bounds kinds slots used′ list
+          (lent places₀ equated′ placed))
           count (f .0) in
           linked-by faults places₀ placed (rw (f .1) (e ∙ same))
 
@@ -450,7 +454,8 @@ module _ {kinds args keys places places′ : List ℕ} {n : ℕ}
       }
 
   -- the places are written
-  arrays : (equated order : List ℕ) → lent places′ equated order ≡ withPlaces (placesIn kinds) (lent places equated order)
+  arrays : (equated order : List ℕ) → lent places′ equated order
+      ≡ withPlaces (placesIn kinds) (lent places equated order)
   arrays equated order = ap (λ (a : List ℕ). lent a equated order) (v .placed .written)
 
   module _ {p : Plan} (lines bounds used faults equated order : List ℕ) where
@@ -463,7 +468,8 @@ module _ {kinds args keys places places′ : List ℕ} {n : ℕ}
         (outcome-same args used e refl (arrays equated order))
 
     pub sheeted-few : {args′ used′ faults′ : List ℕ} {l′ : Lent} → n ≤ mostDefinitions
-        → planOutcome p args′ used′ faults′ l′ ≡ distinct lines bounds kinds args used faults (lent places′ equated order)
+        → planOutcome p args′ used′ faults′ l′
+        ≡ distinct lines bounds kinds args used faults (lent places′ equated order)
         → planOutcome p args′ used′ faults′ l′ ≡ sheeted lines bounds kinds args used faults (lent places equated order)
     unfolding sheeted
     sheeted-few h e =

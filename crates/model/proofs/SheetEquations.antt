@@ -22,7 +22,8 @@ use Rattle.drafts.specs.Places.{begins, ends, lastKind}
 use Rattle.model.specs.Places.{isEquation, equatedIn, assignedSlot, usedBy, usedAt, usedByStatement}
 use Rattle.model.proofs.Lines.{no-equations}
 use Rattle.model.proofs.StatementDrafts.{expressionDrafts, expression-names}
-use Rattle.model.proofs.SheetWalk.{sheetKinds, sheetLines, sheetBounds, sheetKeys, sheetSlots, sheetEquated, slotOf}
+use Rattle.model.proofs.SheetWalk.{sheetKinds, sheetLines, sheetBounds, sheetKeys, sheetSlots, sheetEquated}
+use Rattle.model.proofs.SheetWalk.{slotOf}
 use Rattle.model.proofs.SheetWalk.{kind-at, slot-at, draftsBy, begins-at}
 use Rattle.model.proofs.SheetWalk.{ends-at, line-at, in-statement, last-at}
 use Rattle.model.proofs.SheetKeys.{definedIn}
@@ -133,7 +134,8 @@ module _ (ss : List Numbered) where
   equated-at h H e r l = same-at h H (sheetEquated ss) (equations ds) 0 noEquation e r l
 
   -- THE LINES of the equations
-  pub equated-lines : map (λ j. getD (sheetLines ss) j 0) (sheetEquated ss) ≡ map (λ (e : Equation). e .line) (equations ds)
+  pub equated-lines : map (λ j. getD (sheetLines ss) j 0) (sheetEquated ss)
+      ≡ map (λ (e : Equation). e .line) (equations ds)
   equated-lines =
       equated-by (λ j. getD (sheetLines ss) j 0) (λ (e : Equation). e .line) (λ a s b p k t e. line-at ss a s b p)
       (λ a s b p k i t e. line-at ss a s b p)
@@ -141,7 +143,8 @@ module _ (ss : List Numbered) where
   -- HOW MANY they are
   pub equated-length : length (sheetEquated ss) ≡ equationCount ds
   equated-length =
-      same-length (λ j. getD (sheetLines ss) j 0) (λ (e : Equation). e .line) (sheetEquated ss) (equations ds) equated-lines
+      same-length (λ j. getD (sheetLines ss) j 0) (λ (e : Equation). e .line) (sheetEquated ss)
+      (equations ds) equated-lines
 
   -- ---- what each equation assigns
   abbrev assignedAt : ℕ → ℕ
@@ -196,5 +199,6 @@ module _ (ss : List Numbered) where
         ≡ map (λ (e : Equation). usedByNames assigned ks (names (e .tree))) (equations ds)
     uses-equated =
         equated-by usedIn (λ (e : Equation). usedByNames assigned ks (names (e .tree)))
-        (λ a s b p k t e. used-statement a s b p ∙ ap (λ x. concat-map usedByDraft (draftsOf x)) e ∙ used-ending t 13 k refl)
+        (λ a s b p k t e. used-statement a s b p ∙ ap (λ x. concat-map usedByDraft (draftsOf x)) e
+        ∙ used-ending t 13 k refl)
         (λ a s b p k i t e. used-statement a s b p ∙ ap (λ x. concat-map usedByDraft (draftsOf x)) e ∙ used-state k i t)

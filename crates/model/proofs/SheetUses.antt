@@ -30,7 +30,8 @@ use Rattle.model.proofs.SheetWalk.{sheetKinds, sheetLines, sheetBounds,
 use Rattle.model.proofs.KeyPlaces.{Once, place-in, place-at, place-same, at-same, equationKeys, count-keys}
 use Rattle.model.proofs.KeyPlaces.{key-at, equations-once}
 use Rattle.model.proofs.UsesFit.{assignedOf, usesOf, usedOf, table-equated}
-use Rattle.model.proofs.SheetEquations.{slotFor, usedByNames, equated-lines, equated-length, equated-at, equated-slots}
+use Rattle.model.proofs.SheetEquations.{slotFor, usedByNames, equated-lines, equated-length, equated-at}
+use Rattle.model.proofs.SheetEquations.{equated-slots}
 use Rattle.model.proofs.SheetEquations.{uses-equated}
 
 -- a number below m that may be taken is the one taken
@@ -150,7 +151,8 @@ module _ (ss : List Numbered) where
         let ks = keys defs in
         let f = usesOf (sheetBounds ss) (sheetKinds ss) (sheetSlots ss) (sheetEquated ss) in
         let taken = assignedOf (sheetBounds ss) (sheetKinds ss) (sheetSlots ss) (sheetEquated ss) in
-        let u = equated-at ss f (λ (e : Equation). usedByNames taken ks (names (e .tree))) (uses-equated ss taken) i h in
+        let u = equated-at ss f (λ (e : Equation). usedByNames taken ks (names (e .tree)))
+        (uses-equated ss taken) i h in
         let m : j < equationCount defs = omega (arith, equated-length ss) in
         ap (has j) (table-equated (sheetBounds ss) (sheetKinds ss) (sheetSlots ss) (sheetEquated ss) i h ∙ u)
         ∙ ap (λ x. has j (usedByNames x ks (names (equationAt defs i .tree)))) (equated-slots ss)

@@ -17,11 +17,13 @@ use Rattle.model.specs.Places.{assignedSlot, assignedSlots, usedBy, used
 
 -- the starts are where the uses of each equation begin
 starts-at : (o : ℕ) (assigned bounds kinds slots equated : List ℕ)
-    → startsFrom o assigned bounds kinds slots equated ≡ startsAt (usedByStatement assigned bounds kinds slots) o equated
+    → startsFrom o assigned bounds kinds slots equated
+    ≡ startsAt (usedByStatement assigned bounds kinds slots) o equated
 unfolding startsFrom startsAt
 starts-at o assigned bounds kinds slots [] = refl
 starts-at o assigned bounds kinds slots (j ∷ equated) =
-    ap (_∷_ o) (starts-at (o + length (usedByStatement assigned bounds kinds slots j)) assigned bounds kinds slots equated)
+    let next = o + length (usedByStatement assigned bounds kinds slots j) in
+    ap (_∷_ o) (starts-at next assigned bounds kinds slots equated)
 
 -- the uses of all equations
 used-at : (assigned bounds kinds slots equated : List ℕ)

@@ -19,7 +19,8 @@ use Rattle.order.specs.Table.{Fit}
 use Rattle.drafts.specs.Kinds.{kindFetch}
 use Rattle.model.specs.Definitions.{placeIn}
 use Rattle.drafts.specs.Places.{begins, ends}
-use Rattle.model.specs.Places.{isEquation, equatedIn, assignedSlot, assignedSlots, usedBy, usedAt, usedByStatement}
+use Rattle.model.specs.Places.{isEquation, equatedIn, assignedSlot, assignedSlots, usedBy, usedAt}
+use Rattle.model.specs.Places.{usedByStatement}
 use Rattle.model.specs.Places.{usedIn, startsFrom}
 use Rattle.model.specs.Working.{Rises, Sound}
 use Rattle.model.proofs.DefinitionsCollected.{only-length}
@@ -70,7 +71,8 @@ module _ (assigned bounds kinds slots : List ℕ) where
   unfolding usedIn count
   used-below [] = λ j h. absurd (omega arith)
   used-below (j ∷ equated) =
-      below-append (length assigned) (usedByStatement assigned bounds kinds slots j) (usedIn assigned bounds kinds slots equated)
+      below-append (length assigned) (usedByStatement assigned bounds kinds slots j)
+      (usedIn assigned bounds kinds slots equated)
       (below-gather (length assigned) (usedAt assigned kinds slots) used-at-below (ends bounds j - begins bounds j)
       (begins bounds j)) (used-below equated)
 
@@ -79,17 +81,24 @@ module _ (assigned bounds kinds slots : List ℕ) where
       → length (startsFrom o assigned bounds kinds slots equated) ≡ suc (length equated)
   unfolding startsFrom
   starts-length o [] = refl
-  starts-length o (j ∷ equated) = ap suc (starts-length (o + length (usedByStatement assigned bounds kinds slots j)) equated)
+  starts-length o (j ∷ equated) = ap suc
+      (starts-length (o + length (usedByStatement assigned bounds kinds slots j)) equated)
 
   starts-within : (o : ℕ) (equated : List ℕ) (i : ℕ)
-      → getD (startsFrom o assigned bounds kinds slots equated) i 0 ≤ o + length (usedIn assigned bounds kinds slots equated)
+      → getD (startsFrom o assigned bounds kinds slots equated) i 0 ≤ o + length
+      (usedIn assigned bounds kinds slots equated)
   unfolding startsFrom usedIn
   starts-within o [] zero = omega arith
   starts-within o [] (suc i) = omega arith
   starts-within o (j ∷ equated) zero = omega arith
   starts-within o (j ∷ equated) (suc i) =
       let row = usedByStatement assigned bounds kinds slots j in
-      omega (arith, length-append row (usedIn assigned bounds kinds slots equated), starts-within (o + length row) equated i)
+      omega (
+        arith,
+        length-append row (usedIn assigned bounds kinds slots equated),
+        starts-within
+            (o + length row) equated i,
+      )
 
   -- the equations among k statements from i on use no more than these have drafts
   few-from : (k i : ℕ) → ((j : ℕ) → i ≤ j → j < i + k → begins bounds j ≤ ends bounds j)

@@ -2,7 +2,9 @@
 pub mod Definitions
 pub mod Faults
 pub mod Text
+pub mod Orders
 -- as code holds it
 pub mod Places
 pub mod Working
 pub mod Plan
+pub mod Contract

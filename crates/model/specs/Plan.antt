@@ -3,7 +3,6 @@
 -- program is written from: the count of definitions, with their places at the front of an array, and of equations, with
 -- these and their order.
 use Prim.Native.Nat.{ℕ, _+_, _*_}
-use mathlib.Core.Path.{_≡_}
 use mathlib.Core.Bool.{Bool, not, cond, _&&_}
 use mathlib.Core.List.{List}
 use lib.Dec.{eqb, leb, ltb}
@@ -91,7 +90,8 @@ fit lines bounds kinds args used faults places equated order =
 -- 24: fewer equations are placed than there are; n is the count of definitions
 unfoldable pub orderedPlan : List ℕ → ℕ → List ℕ → List ℕ → List ℕ → List ℕ → List ℕ → Lent → PlanOutcome
 orderedPlan placed n equated lines slots used faults l =
-    cond (ltb (length placed) (length equated)) (faulted (loops placed equated lines) slots used faults (withOrder placed l))
+    cond (ltb (length placed) (length equated))
+    (faulted (loops placed equated lines) slots used faults (withOrder placed l))
     (planOutcome (record { number = 0; count = 0; definitions = n; equations = length equated }) slots used faults
     (withOrder placed l))
 
@@ -143,9 +143,3 @@ planned lines bounds kinds args used faults l =
     (fit lines bounds kinds (length args) (length used) (length faults) (length (l .places)) (length (l .equated))
     (length (l .order)))
     (sheeted lines bounds kinds args used faults l) (planOutcome (refused 9 0) args used faults l)
-
--- THE CONTRACT of `plan`: answer and contents are what is planned. Two outcomes that it allows are equal
-abbrev pub Plans : List ℕ → List ℕ → List ℕ → List ℕ → List ℕ → List ℕ → Lent → Plan → List ℕ → List ℕ → List ℕ → Lent
-    → Type 0
-Plans lines bounds kinds args used faults l p args′ used′ faults′ l′ =
-    planOutcome p args′ used′ faults′ l′ ≡ planned lines bounds kinds args used faults l

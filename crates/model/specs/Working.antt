@@ -195,7 +195,8 @@ pub record Linkable (lines bounds kinds keys owners args used : List ℕ) : Type
 -- the table of uses is written; r is how much is used
 pub record Tabled (equated bounds kinds slots : List ℕ) (r : ℕ) (starts starts′ used used′ : List ℕ) : Type 0 where
   pub uses : Put (usedIn (assignedSlots equated bounds kinds slots) bounds kinds slots equated) 0 r used used′
-  pub begun : starts′ ≡ sets starts 0 (startsFrom 0 (assignedSlots equated bounds kinds slots) bounds kinds slots equated)
+  pub begun : starts′ ≡ sets starts 0
+      (startsFrom 0 (assignedSlots equated bounds kinds slots) bounds kinds slots equated)
 
 -- what it gives
 pub record Linked (lines bounds kinds keys places : List ℕ) (n : Walk)

@@ -1,5 +1,6 @@
 // The model of a sheet: what its statements define, the faults 21 to 24, and the order of its equations.
-ghost use Rattle.model.specs.Plan.{lent, Plans};
+ghost use Rattle.model.specs.Plan.{lent};
+ghost use Rattle.model.specs.Contract.{Plans};
 
 pub mod answer;
 mod collect;
@@ -31,10 +32,10 @@ pub fn plan(
     order: &mut [u16],
 ) -> Plan
     ensures { λ r. ⌜ Plans (now (lines .entry)) (now (bounds .entry)) (now (kinds .entry)) (now (args .entry))
-        (now (used .entry))
-        (now (faults .entry)) (lent (now (places .entry)) (now (equated .entry)) (now (order .entry))) r (now (args .exit))
-        (now (used .exit))
-        (now (faults .exit)) (lent (now (places .exit)) (now (equated .exit)) (now (order .exit))) ⌝ }
+        (now (used .entry)) (now (faults .entry))
+        (lent (now (places .entry)) (now (equated .entry)) (now (order .entry))) r
+        (now (args .exit)) (now (used .exit)) (now (faults .exit))
+        (lent (now (places .exit)) (now (equated .exit)) (now (order .exit))) ⌝ }
 {
     if fitting::fits(
         lines,

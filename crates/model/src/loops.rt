@@ -40,7 +40,12 @@ fn report_unmarked(marks: &[u8], equated: &[u16], lines: &[u16], faults: &mut [u
 }
 
 // Writes the faults 24 to the front of the list; how many there are.
-pub(crate) fn report_loops(placed: &[u16], equated: &[u16], lines: &[u16], faults: &mut [u8]) -> usize
+pub(crate) fn report_loops(
+    placed: &[u16],
+    equated: &[u16],
+    lines: &[u16],
+    faults: &mut [u8],
+) -> usize
     requires { ⌜ length (now equated) ≤ mostStatements ⌝ }
     ensures { λ r. ⌜ Reported (loops (now (placed .entry)) (now (equated .entry)) (now (lines .entry))) 0 r
         (now (faults .entry)) (now (faults .exit)) ⌝ }

@@ -9,7 +9,6 @@ use Rattle.laws.proofs.Tests.{bool-cases, not-both}
 use Rattle.order.specs.Order.{_≼_, Good, First, unsortable}
 use Rattle.order.specs.Greedy.{order, LeftOver}
 use Rattle.order.proofs.Sorting.{left-over-iff, order-good, good-none-left, order-first, order-first-lines}
-use Rattle.order.proofs.Sorting.{order-unique}
 use Rattle.order.proofs.Chains.{unsortable-iff}
 
 module _ (n : ℕ) (uses : ℕ → ℕ → Bool) where
@@ -34,10 +33,6 @@ module _ (n : ℕ) (uses : ℕ → ℕ → Bool) where
   -- THE ORDER: if none is unsortable, the greedy order is the first of all such orders
   pub order-is-first : Sortable → First n uses (order n uses)
   order-is-first s = record { good = order-good n uses (none-left s); least = order-first n uses }
-
-  -- and no other list is
-  pub first-is-order : (q : List ℕ) → First n uses q → q ≡ order n uses
-  first-is-order q f = order-unique n uses q (f .good) (f .least)
 
   -- first also by the list of first lines, or of other numbers that rise with the statements
   pub first-by-lines : (line : ℕ → ℕ) → ((a b : ℕ) → b < n → a < b → line a < line b)

@@ -158,7 +158,7 @@ module _ {n : ℕ} {s u m c : List ℕ} (t : Fit n s u) (g : Cursors n s u m c) 
   settled-ready le =
       record {
         moved = g;
-        told = sym (ready-unmarked n s u m i z ∙ goal-end n s u m c t g i hi (rw (ek, ea, eb, ed) at le));
+        flag-is = sym (ready-unmarked n s u m i z ∙ goal-end n s u m c t g i hi (rw (ek, ea, eb, ed) at le));
         kept = λ _. (refl, refl, refl);
         hung = λ e. absurd (not-both refl e);
       }
@@ -181,7 +181,7 @@ module _ {n : ℕ} {s u m c : List ℕ} (t : Fit n s u) (g : Cursors n s u m c) 
         let uses : usesIn s u i (getD u k 0) ≡ true = rw (ek, ea, eb, ed) (goal-used n s u m c t g i hi o) in
         record {
           moved = rw (ek, ea, eb, ed) (goal-moves n s u m c t g i hi);
-          told = sym (ready-unmarked n s u m i z ∙ goal-open n s u m c t g i hi o);
+          flag-is = sym (ready-unmarked n s u m i z ∙ goal-open n s u m c t g i hi o);
           kept = λ f. absurd (not-both f refl);
           hung = λ _. (j, rw ej wait-below, rw ej uses, rw ej (omega (arith, free)), e .0, e .1, e .2);
         }
@@ -196,7 +196,7 @@ module _ {n : ℕ} {s u m c : List ℕ} (t : Fit n s u) (g : Cursors n s u m c) 
       let e = first-from (openAt u m) (getD s (i + 1) 0 - a) a in
       record {
         moved = g;
-        told = sym (ready-unmarked n s u m i z ∙ goal-end n s u m c t g i hi (omega arith));
+        flag-is = sym (ready-unmarked n s u m i z ∙ goal-end n s u m c t g i hi (omega arith));
         kept = λ _. (refl, refl, refl);
         hung = λ f. absurd (not-both refl f);
       }
@@ -213,7 +213,7 @@ module _ {n : ℕ} {s u m c : List ℕ} (t : Fit n s u) (g : Cursors n s u m c) 
       let hj : j < n = rw ej (t .below a (omega arith)) in
       record {
         moved = g;
-        told = sym (ready-unmarked n s u m i z ∙ free-not n s u m i j uses hj (omega arith));
+        flag-is = sym (ready-unmarked n s u m i z ∙ free-not n s u m i j uses hj (omega arith));
         kept = λ f. absurd (not-both f refl);
         hung = λ _. (j, hj, uses, mj, e .0, e .1, e .2);
       }

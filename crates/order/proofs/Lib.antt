@@ -11,3 +11,4 @@ pub mod Seeking
 pub mod Settling
 pub mod Placing
 pub mod Answers
+pub mod Agreement

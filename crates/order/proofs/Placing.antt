@@ -19,7 +19,7 @@ use Rattle.laws.proofs.Counts.{count-snoc-same, count-snoc-other}
 use Rattle.order.specs.Greedy.{first, ready, next, place, order}
 use Rattle.order.specs.Table.{usesIn, Fit}
 use Rattle.order.specs.Marks.{readyIn, none, flag, State, Woken, Awake}
-use Rattle.order.specs.Answer.{Filled}
+use Rattle.order.specs.Contract.{Filled}
 use Rattle.order.proofs.Sorting.{first-before, first-hit, first-same, ready-free, next-ready}
 use Rattle.order.proofs.Searches.{first-skip, first-bound}
 use Rattle.order.proofs.Marking.{ready-same, cursors-mark}
@@ -80,11 +80,11 @@ module _ {n : ℕ} {s u lent out marks flags cursors heads links waits : List �
   going-next : found ≡ chosen
   unfolding next
   going-next =
-      let told : (i : ℕ) → i < n → flag flags i ≡ readyIn n s u marks i =
+      let flag-so : (i : ℕ) → i < n → flag flags i ≡ readyIn n s u marks i =
       flags-tell (g .fit) (g .state .known) (λ i _ l e. omega (arith, g .fit .few)) in
       sym (first-skip (flag flags) n from (g .begun) (λ j h. le-ltb 0 (getD flags j 0) (omega (arith, g .clear j h))))
       ∙ first-same (flag flags) (ready n uses placed) n n 0 (omega arith)
-      (λ i h. told i h ∙ ready-same n s u marks i placed (g .mark) h)
+      (λ i h. flag-so i h ∙ ready-same n s u marks i placed (g .mark) h)
 
   -- what is found is one of the n, if it is not n itself
   pub going-found : (i : ℕ) → i ≡ found → (i ≡ n → ⊥) → i < n

@@ -13,7 +13,7 @@ use Rattle.limits.specs.Limits.{mostStatements}
 use Rattle.laws.specs.Counts.{once, count, _∈_}
 use Rattle.laws.proofs.Tests.{eq-or-ne}
 use Rattle.laws.proofs.Counts.{once-same, once-other}
-use Rattle.order.specs.Marks.{none, Leads, Lists}
+use Rattle.order.specs.Marks.{none, Leads, Queues}
 
 -- ---- queues by statements, one of them another
 abbrev put : (ℕ → List ℕ) → ℕ → List ℕ → ℕ → List ℕ
@@ -54,7 +54,7 @@ ended l x (y ∷ zs) h f e = absurd (omega (arith, e .0, f y (omega (arith, once
 
 module _ {n : ℕ} {h l v : List ℕ} (few : n ≤ mostStatements) where
   -- ---- the list of j is taken off, to be gone through
-  pub open-list : Lists n h l v none none → (j : ℕ) → j < n → Lists n (set h j none) l v j (getD h j 0)
+  pub open-list : Queues n h l v none none → (j : ℕ) → j < n → Queues n (set h j none) l v j (getD h j 0)
   open-list g j hj =
       record {
         heads-size = length-set h j none ∙ g .heads-size;
@@ -69,8 +69,8 @@ module _ {n : ℕ} {h l v : List ℕ} (few : n ≤ mostStatements) where
       }
 
   -- it has been gone through
-  module _ {p x : ℕ} (g : Lists n h l v p x) (hp : p < n) where
-    pub close-list : none ≤ x → Lists n h l v none none × ((i : ℕ) → i < n → getD v i 0 ≡ p → ⊥)
+  module _ {p x : ℕ} (g : Queues n h l v p x) (hp : p < n) where
+    pub close-list : none ≤ x → Queues n h l v none none × ((i : ℕ) → i < n → getD v i 0 ≡ p → ⊥)
     unfolding Leads count
     close-list hx =
         let e : g .queue p ≡ [] = ended l x (g .queue p) hx (λ i m. omega (arith, g .only i p hp m)) (g .own hp) in (
@@ -109,7 +109,7 @@ module _ {n : ℕ} {h l v : List ℕ} (few : n ≤ mostStatements) where
                 (eq-or-ne (getD v x 0) p),
           )
 
-      pub pop : Lists n h l (set v x none) p (getD l x 0)
+      pub pop : Queues n h l (set v x none) p (getD l x 0)
       unfolding count
       pop =
           let b = begun l x (g .queue p) hx (g .own hp) in
@@ -162,8 +162,8 @@ module _ {n : ℕ} {h l v : List ℕ} (few : n ≤ mostStatements) where
           }
 
   -- ---- one that waits for none is put to the front of the list of j
-  pub push : {p y : ℕ} → Lists n h l v p y → (x j : ℕ) → x < n → j < n → (j ≡ p → ⊥) → getD v x 0 ≡ none
-      → Lists n (set h j x) (set l x (getD h j 0)) (set v x j) p y
+  pub push : {p y : ℕ} → Queues n h l v p y → (x j : ℕ) → x < n → j < n → (j ≡ p → ⊥) → getD v x 0 ≡ none
+      → Queues n (set h j x) (set l x (getD h j 0)) (set v x j) p y
   unfolding count Leads
   push {p} {y} g x j hx hj nj vx =
       let lv : x < length v = omega (arith, g .waits-size) in

@@ -48,7 +48,7 @@ module _ {n k : ℕ} {s u m f c h l v c′ h′ l′ v′ : List ℕ} (t : Fit n
               moved = w .moved;
               lists = st .lists;
               known =
-                  flags-ready t (λ i _. refl) hk (st .known) (g .idle k (omega arith) hk) (sym (w .told))
+                  flags-ready t (λ i _. refl) hk (st .known) (g .idle k (omega arith) hk) (sym (w .flag-is))
                   (g .unmarked k hk) (λ i a b. omega arith);
             });
         unmarked = g .unmarked;
@@ -157,7 +157,7 @@ module _ {n : ℕ} {s u m f c h l v : List ℕ} {j low x early : ℕ} (g : Wakin
                   known =
                       flags-ready (g .fit) (λ i a. getD-set-other v x i none 0 a) (o .0) (g .state .known)
                       (getD-set-same v x none 0 long)
-                      (sym (w .told)) (waking-open .0) (λ i a _. a);
+                      (sym (w .flag-is)) (waking-open .0) (λ i a _. a);
                 });
             before = omega (arith, g .before);
             clear = λ i a. getD-set-other f x i 1 0 (λ q. omega arith) ∙ g .clear i (omega arith);

@@ -16,7 +16,7 @@ use Rattle.laws.proofs.Counts.{count-append, once-other, count-cons-same, count
 use Rattle.laws.proofs.Counts.{has-false, place-of}
 use Rattle.order.specs.Order.{Permutation, _≼_, EachAfter, Good, Chain, Unsortable}
 use Rattle.order.specs.Greedy.{all, first, ready, next, place, order, LeftOver}
-use Rattle.order.proofs.Dictionary.{≼-prefix, ≼-append, ≼-antisym, ≼-map}
+use Rattle.order.proofs.Dictionary.{≼-prefix, ≼-append, ≼-map}
 
 -- ---- `all` and `first`
 pub all-true : (k : ℕ) (f : ℕ → Bool) → all k f ≡ true → (j : ℕ) → j < k → f j ≡ true
@@ -364,10 +364,6 @@ module _ (n : ℕ) (uses : ℕ → ℕ → Bool) where
       → map line (order n uses) ≼ map line q
   order-first-lines line up q g =
       ≼-map line (order n uses) q (λ a b h l. up a b (perm-below q (g .perm) b h) l) (order-first q g)
-
-  -- that says which it is
-  pub order-unique : (q : List ℕ) → Good n uses q → ((r : List ℕ) → Good n uses r → q ≼ r) → q ≡ order n uses
-  order-unique q g h = ≼-antisym q (order n uses) (h (order n uses) (order-good (good-none-left q g))) (order-first q g)
 
   -- nothing is left over exactly if n are placed
   pub length-order-iff : length (order n uses) ≡ n ↔ ((i : ℕ) → LeftOver n uses i → ⊥)

@@ -4,4 +4,4 @@ pub mod Greedy
 -- as code holds it
 pub mod Table
 pub mod Marks
-pub mod Answer
+pub mod Contract

@@ -44,7 +44,7 @@ Leads links x [] = x ≡ none
 Leads links x (y ∷ ys) = (x ≡ y) × Leads links (getD links y 0) ys
 
 -- who waits for q stands once in the list of q, and nobody else does; the list of p is gone through, and goes on at x
-pub record Lists (n : ℕ) (heads links waits : List ℕ) (p x : ℕ) : Type 0 where
+pub record Queues (n : ℕ) (heads links waits : List ℕ) (p x : ℕ) : Type 0 where
   pub heads-size : length heads ≡ mostStatements
   pub links-size : length links ≡ mostStatements
   pub waits-size : length waits ≡ mostStatements
@@ -79,7 +79,7 @@ pub record Flags (n k : ℕ) (starts used marks flags waits : List ℕ) (p : ℕ
 -- all that is known between two steps
 pub record State (n k : ℕ) (starts used marks flags cursors heads links waits : List ℕ) (p x : ℕ) : Type 0 where
   pub moved : Cursors n starts used marks cursors
-  pub lists : Lists n heads links waits p x
+  pub lists : Queues n heads links waits p x
   pub known : Flags n k starts used marks flags waits p
 
 -- what `settle` gives: whether i is ready; if not, i waits for one that it uses and that is not marked, at the front of
@@ -87,7 +87,7 @@ pub record State (n k : ℕ) (starts used marks flags cursors heads links waits 
 pub record Settles (n : ℕ) (starts used marks : List ℕ) (i : ℕ) (r : Bool)
     (cursors heads links waits heads′ links′ waits′ : List ℕ) : Type 0 where
   pub moved : Cursors n starts used marks cursors
-  pub told : r ≡ readyIn n starts used marks i
+  pub flag-is : r ≡ readyIn n starts used marks i
   pub kept : r ≡ true → (heads′ ≡ heads) × (links′ ≡ links) × (waits′ ≡ waits)
   pub hung : r ≡ false → (j : ℕ) × (j < n) × (usesIn starts used i j ≡ true) × (getD marks j 0 ≡ 0)
       × (heads′ ≡ set heads j i) × (links′ ≡ set links i (getD heads j 0)) × (waits′ ≡ set waits i j)
@@ -109,7 +109,7 @@ pub record Woken (n : ℕ) (starts used marks flags cursors heads links waits : 
   pub one : j < n
   pub mark : 0 < getD marks j 0
   pub moved : Cursors n starts used marks cursors
-  pub lists : Lists n heads links waits none none
+  pub lists : Queues n heads links waits none none
   pub known : Flags n n starts used marks flags waits j
   pub clear : (i : ℕ) → i < low → getD flags i 0 ≡ 0
 

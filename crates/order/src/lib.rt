@@ -7,7 +7,7 @@ ghost use Rattle.order.specs.Greedy.{all, first};
 ghost use Rattle.order.specs.Table.{Fit, endsIn, belowAt, fits};
 ghost use Rattle.order.specs.Marks.{openAt, none, zeros, flag, someFlag, Cursors, Settles, Blank, State, Woken};
 ghost use Rattle.order.specs.Marks.{Awake};
-ghost use Rattle.order.specs.Answer.{Filled, Sorts};
+ghost use Rattle.order.specs.Contract.{Filled, Sorts};
 use bits::least;
 use bits::reads::index;
 use limits::STATEMENTS;
@@ -327,7 +327,7 @@ fn place(n: usize, starts: &[u16], used: &[u16], out: &mut [u16]) -> usize
 
 // The order of the statements 0 .. n - 1, where i uses used[starts[i]..starts[i + 1]], to the front of out.
 pub fn sort(n: usize, starts: &[u16], used: &[u16], out: &mut [u16]) -> Sorted
-    ensures { λ r. ⌜ Sorts n (now (starts .entry)) (now (used .entry)) (now (out .entry)) (now (out .exit)) r ⌝ }
+    ensures { λ r. ⌜ Sorts n (now (starts .entry)) (now (used .entry)) (now (out .entry)) r (now (out .exit)) ⌝ }
 {
     if fit(n, starts, used, out.len()) {
         return Sorted::Placed(place(n, starts, used, out));

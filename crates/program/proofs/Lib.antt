@@ -4,3 +4,4 @@ pub mod Counts
 pub mod WrittenMeans
 pub mod RoomFilled
 pub mod StepCases
+pub mod Agreement

@@ -178,7 +178,8 @@ fill-part vs b part w e l p h q =
     let all : take n vs ≡ vs = take-all n vs (omega arith) in
     record {
       behind = rw all end;
-      written = rw (all, all-over, post-is w e b (omega arith), end, ← append-assoc) (sym (sets-eq vs b w (omega arith)));
+      written = rw (all, all-over, post-is w e b (omega arith), end, ← append-assoc)
+          (sym (sets-eq vs b w (omega arith)));
     }
 
 -- one for which there is none is not
@@ -218,7 +219,8 @@ module _ {f : ℕ → List ℕ} {n a i w₀ w : ℕ} {buf₀ buf : List ℕ} (v 
         within = fill-within p (v .within);
         long = fill-long p ∙ v .long;
         records-whole = v .records-whole;
-        so = fill-as (gather-more f a i (v .beyond)) (fill-both (v .so) (whole-gather f (v .records-whole) (i - a) a) p);
+        so = fill-as (gather-more f a i (v .beyond))
+            (fill-both (v .so) (whole-gather f (v .records-whole) (i - a) a) p);
       }
 
   -- what all give

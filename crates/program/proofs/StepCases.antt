@@ -101,7 +101,8 @@ ordered-gather equated lines bounds kinds slots [] = refl
 ordered-gather equated lines bounds kinds slots (r ∷ order) =
     ap (λ l. stepsOf lines bounds kinds slots (getD equated r 0) ++ l)
     (ordered-gather equated lines bounds kinds slots order
-    ∙ sym (gather-shift (λ q. stepsOf lines bounds kinds slots (getD equated (getD (r ∷ order) q 0) 0)) (length order) 0))
+    ∙ sym (gather-shift (λ q. stepsOf lines bounds kinds slots (getD equated (getD (r ∷ order) q 0) 0))
+    (length order) 0))
 
 -- a count of records goes on by what a kind adds
 pub counted : (kinds : List ℕ) (i n more : ℕ) → i < length kinds → more ≡ once (writes (getD kinds i 0))

@@ -19,7 +19,8 @@ use Rattle.records.specs.declared.Instr.the-variants.{Store, Deriv}
 use Rattle.records.specs.Record.{rec, recBytes}
 use Rattle.model.specs.Definitions.{Def, definitions, keys, slotIn, Equation, equations, equationAt}
 use Rattle.model.proofs.StatementDrafts.{expressionDrafts}
-use Rattle.model.proofs.SheetWalk.{sheetKinds, sheetLines, sheetBounds, sheetSlots, sheetEquated, slotOf, kind-at, slot-at}
+use Rattle.model.proofs.SheetWalk.{sheetKinds, sheetLines, sheetBounds, sheetSlots, sheetEquated, slotOf, kind-at}
+use Rattle.model.proofs.SheetWalk.{slot-at}
 use Rattle.model.proofs.SheetWalk.{line-at, in-statement}
 use Rattle.model.proofs.SheetEquations.{equated-by, equated-at}
 use Rattle.program.specs.Program.{instrItem, equationRecs}
@@ -77,7 +78,8 @@ ordered-steps : (equated lines bounds kinds slots q : List ℕ)
 unfolding orderedSteps concat-map
 ordered-steps equated lines bounds kinds slots [] = refl
 ordered-steps equated lines bounds kinds slots (r ∷ q) =
-    ap (λ x. stepsOf lines bounds kinds slots (getD equated r 0) ++ x) (ordered-steps equated lines bounds kinds slots q)
+    ap (λ x. stepsOf lines bounds kinds slots (getD equated r 0) ++ x)
+    (ordered-steps equated lines bounds kinds slots q)
 
 module _ (ss : List Numbered) where
   abbrev ds : List Def

@@ -14,7 +14,8 @@ use Rattle.records.specs.Record.{recBytes, programBytes}
 use Rattle.model.specs.Definitions.{Def, definitions, equationAt, equationCount}
 use Rattle.model.specs.Faults.{usesIn, nameFaults, modelFaults, orderOf}
 use Rattle.model.specs.Places.{keysIn, placesIn, resolved, equatedIn}
-use Rattle.model.proofs.SheetWalk.{sheetKinds, sheetLines, sheetBounds, sheetKeys, sheetSlots, sheetPlaces, sheetEquated}
+use Rattle.model.proofs.SheetWalk.{sheetKinds, sheetLines, sheetBounds, sheetKeys, sheetSlots, sheetPlaces}
+use Rattle.model.proofs.SheetWalk.{sheetEquated}
 use Rattle.model.proofs.KeyPlaces.{Once, keys-once}
 use Rattle.model.proofs.SheetEquations.{equated-length}
 use Rattle.model.proofs.NoModelFault.{no-faults, order-good}
@@ -28,7 +29,8 @@ use Rattle.program.proofs.Counts.{count-of}
 -- the bytes of a program whose equations are in the order q
 program-of : (ss : List Numbered) → Once (sheetKeys ss) → nameFaults (definitions ss) (definitions ss) ≡ []
     → (q : List ℕ) → Below (equationCount (definitions ss)) q
-    → writtenProgram (sheetPlaces ss) (sheetEquated ss) (sheetLines ss) (sheetBounds ss) (sheetKinds ss) (sheetSlots ss) q
+    → writtenProgram (sheetPlaces ss) (sheetEquated ss) (sheetLines ss) (sheetBounds ss) (sheetKinds ss)
+    (sheetSlots ss) q
     ≡ programBytes (program (definitions ss) q)
 unfolding writtenProgram programBytes program
 program-of ss distinct clean q b =

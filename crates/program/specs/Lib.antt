@@ -2,3 +2,4 @@
 pub mod Program
 -- as code holds it
 pub mod Written
+pub mod Contract

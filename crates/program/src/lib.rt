@@ -4,8 +4,9 @@ ghost use Prim.Native.Nat.{_-_, _≤_, _<_};
 ghost use lib.ListN.{length};
 ghost use lib.Seq.{sets};
 ghost use Rattle.laws.specs.Places.{gather};
-ghost use Rattle.program.specs.Written.{fieldBytes, headOf, recordCount, valueAt, settingAt, reach, settingsOf};
-ghost use Rattle.program.specs.Written.{stepBytes, stepsOf, orderedSteps, writtenProgram, fitting, Fills};
+ghost use Rattle.program.specs.Written.{fieldBytes, headOf, valueAt, settingAt, reach, settingsOf, stepBytes};
+ghost use Rattle.program.specs.Written.{stepsOf, orderedSteps, Fills};
+ghost use Rattle.program.specs.Contract.{CountsRecords, PutsProgram};
 use bits::put_eight;
 use bits::reads::byte_at;
 use bits::reads::short_at;
@@ -23,7 +24,7 @@ use limits::RECORD_BYTES;
 
 // How many records the drafts of these kinds write.
 pub fn count_records(kinds: &[u8]) -> usize
-    ensures { λ r. ⌜ r ≡ recordCount (now (kinds .entry)) ⌝ }
+    ensures { λ r. ⌜ CountsRecords (now (kinds .entry)) r ⌝ }
 {
     let mut n: usize = 0;
     let mut i: usize = 0;
@@ -254,12 +255,9 @@ pub fn put_program(
     order: &[u16],
     out: &mut [u8],
 ) -> usize
-    ensures { λ r. ⌜
-        (let p = writtenProgram (now (places .entry)) (now (equated .entry)) (now (lines .entry)) (now (bounds .entry))
-        (now (kinds .entry))
-        (now (slots .entry)) (now (order .entry)) in
-        let q = fitting (length (now (out .entry))) p in
-        (r ≡ length q) × (now (out .exit) ≡ sets (now (out .entry)) 0 q)) ⌝ }
+    ensures { λ r. ⌜ PutsProgram (now (places .entry)) (now (equated .entry)) (now (lines .entry))
+        (now (bounds .entry)) (now (kinds .entry)) (now (slots .entry)) (now (order .entry)) (now (out .entry))
+        r (now (out .exit)) ⌝ }
 {
     let a = put_all_settings(CONSTANT, places, lines, bounds, kinds, slots, &mut *out, 0);
     let b = put_all_settings(INITIAL, places, lines, bounds, kinds, slots, &mut *out, a);

@@ -1,177 +1,99 @@
--- Any two outcomes that the contract of an open entry allows are equal.
-use Prim.Native.Nat.{ℕ}
-use mathlib.Core.Path.{_≡_, sym, ap, ap₂, _∙_}
-use mathlib.Core.List.{List}
-use lib.Ieee.{Float}
-use Rattle.grammar.specs.Contract.{ParseOutcome}
-use Rattle.grammar.specs.declared.Parsed.{Parsed}
-use Rattle.model.specs.Plan.{PlanOutcome}
-use Rattle.program.specs.Program.{program}
-use Rattle.evaluator.specs.declared.Answer.{Answer}
-use Rattle.evaluator.specs.Evaluate.{RunOutcome, runOutcome}
-use Rattle.evaluator.specs.Judge.{answer}
-use Rattle.translator.specs.Contract.{Reply}
-use Rattle.translator.specs.Verdict.{Translation}
-use Rattle.floesedge.specs.declared.Answer.{Answer as CAnswer}
-use Rattle.promises.specs.Agreement.{Agree2, Bits, Deck, Tokens, Drafts, Grammar, Order, Records, Sheet, Model}
-use Rattle.promises.specs.Agreement.{Program, Evaluator}
-use Rattle.promises.specs.Agreement.{Translator, Listing, Library, Counting}
+-- Any two outcomes that the contract of an open entry allows are equal: each crate's own theorems, collected.
+use Rattle.bits.proofs.Agreement as of-bits
+use Rattle.deck.proofs.Agreement as of-deck
+use Rattle.tokens.proofs.Agreement as of-tokens
+use Rattle.drafts.proofs.Agreement as of-drafts
+use Rattle.grammar.proofs.Agreement as of-grammar
+use Rattle.order.proofs.Agreement as of-order
+use Rattle.records.proofs.Agreement as of-records
+use Rattle.sheet.proofs.Agreement as of-sheet
+use Rattle.model.proofs.Agreement as of-model
+use Rattle.program.proofs.Agreement as of-program
+use Rattle.evaluator.proofs.Agreement as of-evaluator
+use Rattle.translator.proofs.Agreement as of-translator
+use Rattle.listing_text.proofs.Agreement as of-listing
+use Rattle.floesedge.proofs.Agreement as of-library
+use Rattle.tally.proofs.Agreement as of-tally
+use Rattle.promises.specs.Agreement.{Bits, Deck, Tokens, Drafts, Grammar, Order, Records, Sheet, Model, Program}
+use Rattle.promises.specs.Agreement.{Evaluator, Translator, Listing, Library, Counting}
 
--- ---- what a contract gives as an equation
-
--- of one thing
-one : {A : Type 0} (x r s : A) → r ≡ x → s ≡ x → r ≡ s
-one x r s p q = p ∙ sym q
-
--- of two
-two : {A B : Type 0} (x : A) (y : B) → Agree2 (λ (r : A) (o : B). (r ≡ x) × (o ≡ y))
-two x y r s a b p q = (p .0 ∙ sym (q .0), p .1 ∙ sym (q .1))
-
--- numbers as bytes, and reads: one equation each
 pub bits : Bits
 bits =
     record {
-      wide = λ b r s p q. p .0 ∙ sym (q .0);
-      index = λ x r s p q. p .0 ∙ sym (q .0);
-      byte-at = λ s i. one _;
-      short-at = λ t i r s p q. p .0 ∙ sym (q .0);
-      word-at = λ s i. one _;
-      least = λ a b. one _;
-      room = λ end at n. one _;
-      get-low = λ part n r s p q. p .0 ∙ sym (q .0);
-      put-low = λ buf at n v. one _;
-      put-eight = λ buf at v. one _;
-      float-of = λ b. one _;
-      bits-of = λ x. one _;
+      wide = of-bits.wide;
+      index = of-bits.index;
+      byte-at = of-bits.byte-at;
+      short-at = of-bits.short-at;
+      word-at = of-bits.word-at;
+      least = of-bits.least;
+      room = of-bits.room;
+      get-low = of-bits.get-low;
+      put-low = of-bits.put-low;
+      put-eight = of-bits.put-eight;
+      float-of = of-bits.float-of;
+      bits-of = of-bits.bits-of;
     }
 
--- lines and statements
 pub deck : Deck
 deck =
     record {
-      next-statement = λ text c r s p q. p .0 ∙ sym (q .0);
-      line-count = λ text. one _;
-      survey = λ text. one _;
-      size-code = λ cards closed long. one _;
-      join = λ text start cards out. two _ _;
+      next-statement = of-deck.next-statement;
+      line-count = of-deck.line-count;
+      survey = of-deck.survey;
+      size-code = of-deck.size-code;
+      join = of-deck.join;
     }
 
--- tokens
 pub tokens : Tokens
-tokens =
-    record {
-      take-cut = λ body from. one _;
-      row = λ body kinds args r s k l a b p q.
-          (p .answer ∙ sym (q .answer), p .kinds ∙ sym (q .kinds), p .args ∙ sym (q .args));
-    }
+tokens = record { take-cut = of-tokens.take-cut; row = of-tokens.row }
 
--- what the kind of a draft is for, and where a slot is defined
 pub drafts : Drafts
 drafts =
     record {
-      is-defining = λ k. one _;
-      is-asking = λ k. one _;
-      is-named = λ k. one _;
-      is-closing = λ k. one _;
-      records-of = λ k r s p q. p .0 ∙ sym (q .0);
-      home-of = λ places slot r s p q. p .0 ∙ sym (q .0);
+      is-defining = of-drafts.is-defining;
+      is-asking = of-drafts.is-asking;
+      is-named = of-drafts.is-named;
+      is-closing = of-drafts.is-closing;
+      records-of = of-drafts.records-of;
+      home-of = of-drafts.home-of;
     }
 
--- a row of tokens parsed
 pub grammar : Grammar
-grammar = record { parse-row = λ kinds args out-kinds out-args place r s k l a b p q. parts (p ∙ sym q) }
-  where
-    parts : {x y : ParseOutcome Parsed} → x ≡ y → (x .reply ≡ y .reply) × (x .kinds ≡ y .kinds) × (x .args ≡ y .args)
-    parts e = (cc, cc, cc)
+grammar = record { parse-row = of-grammar.parse-row }
 
--- the order of a table of uses
 pub order : Order
-order = record { sort = λ n starts used out r s a b p q. (p .answer ∙ sym (q .answer), p .content ∙ sym (q .content)) }
+order = record { sort = of-order.sort }
 
--- a record read and decoded
 pub records : Records
-records = record { read = λ program n. one _; decode = λ program n. one _ }
+records = record { read = of-records.read; decode = of-records.decode }
 
--- a fault listed
 pub sheet : Sheet
-sheet = record { put-fault = λ list count line code. one _ }
+sheet = record { put-fault = of-sheet.put-fault }
 
--- a sheet planned
 pub model : Model
-model = record { plan = λ lines bounds kinds args used faults l r s a b u v f g m n p q. parts (p ∙ sym q) }
-  where
-    parts : {x y : PlanOutcome} → x ≡ y
-        → (x .plan ≡ y .plan) × (x .args ≡ y .args) × (x .used ≡ y .used) × (x .faults ≡ y .faults)
-        × (x .arrays ≡ y .arrays)
-    parts e = (cc, cc, cc, cc, cc)
+model = record { plan = of-model.plan }
 
--- a program counted and written
 pub programs : Program
-programs =
-    record { count-records = λ kinds. one _; put-program = λ places equated lines bounds kinds slots order out. two _ _ }
+programs = record { count-records = of-program.count-records; put-program = of-program.put-program }
 
--- ---- the evaluator's three
-
--- an outcome is the answer and both buffers
-runs : (r s : Answer) (v w d e : List Float) → runOutcome r v d ≡ runOutcome s w e → (r ≡ s) × (v ≡ w) × (d ≡ e)
-runs r s v w d e h =
-    (ap (λ (o : RunOutcome). o .answer) h, ap (λ (o : RunOutcome). o .values) h, ap (λ (o : RunOutcome). o .derivs) h)
-
--- evaluate, start and step
 pub evaluator : Evaluator
-evaluator =
-    record {
-      evaluate = λ p v d r s a b c e x y. runs r s a b c e (x .meets ∙ sym (y .meets));
-      start = λ p v d r s a b c e x y. runs r s a b c e (x .meets ∙ sym (y .meets));
-      step = λ p h v d r s a b c e x y. runs r s a b c e (x .meets ∙ sym (y .meets));
-    }
+evaluator = record { evaluate = of-evaluator.evaluate; start = of-evaluator.start; step = of-evaluator.step }
 
--- ---- the translator: the answer itself and both buffers
 pub translator : Translator
-translator =
-    record {
-      translate = λ text f p r s a b c d x y.
-          let h = x ∙ sym y in
-          (ap (λ (z : Reply). z .answer) h, ap (λ (z : Reply). z .faults) h, ap (λ (z : Reply). z .program) h);
-    }
+translator = record { translate = of-translator.translate }
 
--- ---- the listing
 pub listing : Listing
-listing = record { list = λ text out r s a b x y. (x .needed ∙ sym (y .needed), x .held ∙ sym (y .held)) }
-
--- ---- the library: an answer is its two numbers
-library-runs : (r s : CAnswer) (a b c d : List Float)
-    → runOutcome (answer (r .number) (r .record)) a c ≡ runOutcome (answer (s .number) (s .record)) b d
-    → (r ≡ s) × (a ≡ b) × (c ≡ d)
-library-runs r s a b c d h =
-    let n : r .number ≡ s .number = ap (λ (o : RunOutcome). o .answer .number) h in
-    let p : r .record ≡ s .record = ap (λ (o : RunOutcome). o .answer .place) h in (
-      ap₂ (λ (x y : ℕ). record { number = x; «record» = y }) n p,
-      ap (λ (o : RunOutcome). o .values) h,
-      ap (λ (o : RunOutcome). o .derivs) h,
-    )
+listing = record { list = of-listing.list }
 
 pub library : Library
 library =
     record {
-      translate = λ text f p r s a b c d x y.
-          let h = x ∙ sym y in
-          let n : r .number ≡ s .number = ap (λ (o : Translation). o .number) h in
-          let k : r .count ≡ s .count = ap (λ (o : Translation). o .count) h in (
-            ap₂ (λ (i j : ℕ). record { number = i; count = j }) n k,
-            ap (λ (o : Translation). o .faults) h,
-            ap (λ (o : Translation). o .program) h,
-          );
-      evaluate = λ p v d r s a b c e x y. library-runs r s a b c e (x ∙ sym y);
-      start = λ p v d r s a b c e x y. library-runs r s a b c e (x ∙ sym y);
-      step = λ p h v d r s a b c e x y. library-runs r s a b c e (x ∙ sym y);
+      floesedge-translate = of-library.floesedge-translate;
+      floesedge-evaluate = of-library.floesedge-evaluate;
+      floesedge-start = of-library.floesedge-start;
+      floesedge-step = of-library.floesedge-step;
     }
 
--- ---- the tally: an answer is its two counts
 pub counting : Counting
 counting =
-    record {
-      none = λ r s x y. ap₂ (λ (i j : ℕ). record { tried = i; differ = j }) (x .0 ∙ sym (y .0)) (x .1 ∙ sym (y .1));
-      right = λ t same. one _;
-      number = λ t got wanted. one _;
-    }
+    record { none = of-tally.none; right = of-tally.right; number = of-tally.number; finish = of-tally.finish }

@@ -1,220 +1,164 @@
--- Demand 3 on byte texts: what a change of one run of lines leaves as it was.
+-- Demand 3: what a change of one run of lines leaves as it was, and what a statement fault means.
 use Prim.Native.Nat.{ℕ, _+_, _≤_}
-use mathlib.Core.Path.{_≡_, refl, sym, ap, _∙_}
-use mathlib.Core.List.{List, [], _∷_, _++_, map, append-assoc, map-append}
-use mathlib.Core.Logic.{inl, inr}
+use mathlib.Core.Path.{_≡_, refl, sym, ap, ap₂, _∙_}
+use mathlib.Core.List.{List, [], _∷_, _++_, append-assoc, append-nil}
 use native.Mathlib.Omega.{arith}
+use borrow.Author.Tests.{ltb-false}
 use lib.ListN.{length, length-append}
+use lib.Seq.{sets}
+use Rattle.limits.specs.Limits.{faultRoom, mostStatements}
 use Rattle.laws.specs.Text.{bytes}
-use Rattle.laws.proofs.Lists.{concat-append}
-use Rattle.laws.proofs.Concats.{none-left, map-concat, concat-mapped, concat-same}
-use Rattle.limits.specs.Limits.{faultRoom}
+use Rattle.laws.proofs.Concats.{none-left}
+use Rattle.laws.proofs.Sets.{sets-back}
 use Rattle.deck.specs.Lines.{Line, linesOf}
-use Rattle.deck.specs.Reading.{Statement, fresh, reading, closedIn, stateAfter}
-use Rattle.deck.specs.Reports.{Report, report}
-use Rattle.deck.specs.Later.{later, laterReport}
-use Rattle.deck.proofs.Local.{reading-append, state-append, fresh-behind, reading-later, map-later}
-use Rattle.deck.specs.Later.{Seam}
-use Rattle.deck.proofs.Seams.{lines-seam, lines-parts}
-use Rattle.sheet.specs.Sheet.{Told, says, faulty, Sheet, faultBy, statementFaults}
-use Rattle.sheet.specs.Reader.{told, sheetOf}
-use Rattle.translator.specs.Verdict.{verdictOf}
-use Rattle.promises.specs.Change.{textOf, Change, Admitted, linesIn, statementsOf, closedOf, FreshBehind}
-use Rattle.promises.specs.Change.{laterFault}
-use Rattle.promises.specs.Change.{Begin, Share, FrontKept, Afresh, TailKept, Undotted, Local}
-use Rattle.promises.proofs.Verdicts.{convicts}
+use Rattle.deck.proofs.Cutting.{lines-append, lines-lacking}
+use Rattle.sheet.specs.Sheet.{faultList}
+use Rattle.sheet.specs.Reader.{sheetOf, faultsOf, Faulted}
+use Rattle.sheet.specs.Numbers.{faultsFrom, closedOf}
+use Rattle.sheet.proofs.Entries.{list-length}
+use Rattle.sheet.proofs.Changes.{front-statements, front-sheets, front-faults, tail-statements, tail-sheets}
+use Rattle.sheet.proofs.Changes.{tail-faults, fresh-there}
+use Rattle.translator.specs.declared.Verdict.{Verdict}
+use Rattle.translator.specs.Contract.{numberIn, Reply, replyOf, Translates}
+use Rattle.translator.specs.Verdict.{Decision, verdictOf, numberOf, programAfter, Translation}
+use Rattle.translator.specs.Verdict.{translationOf, translation}
+use Rattle.translator.specs.Refusals.{Admitted}
+use Rattle.translator.proofs.Counted.{faults-few}
+use Rattle.translator.proofs.Verdicts.{by-number}
+use Rattle.translator.proofs.Given.{sizes, is-five, faulted-ind}
+use Rattle.promises.specs.Demand3.{Change, Afresh, TailKept, NoProgram, Convicts, Local, Unprogrammed}
+use Rattle.promises.specs.Demand3.{Answered}
 
--- ---- over lines: pre, and behind it x and q; reading is fresh before q, so what q says stands last, its numbers
--- raised
-reads-tail : (pre x q : List Line) → stateAfter fresh 1 (pre ++ x) ≡ fresh
-    → reading fresh 1 (pre ++ (x ++ q))
-    ≡ closedIn fresh 1 pre ++
-    (closedIn (stateAfter fresh 1 pre) (1 + length pre) x ++ map (later (length (pre ++ x))) (reading fresh 1 q))
-reads-tail pre x q e =
-    let s = stateAfter fresh 1 pre in
-    let n : (1 + length pre) + length x ≡ length (pre ++ x) + 1 = omega (arith, length-append pre x) in
-    let a : stateAfter s (1 + length pre) x ≡ fresh = sym (state-append fresh 1 pre x) ∙ e in
-    reading-append fresh 1 pre (x ++ q)
-    ∙ ap (λ r. closedIn fresh 1 pre ++ r)
-    (reading-append s (1 + length pre) x q ∙ rw (a, n, reading-later (length (pre ++ x)) fresh 1 q))
+-- A STATEMENT FAULT means verdict 5 with the list of them all, and the program as lent
+pub convicts : (text : List ℕ) → Convicts text
+unfolding translation
+convicts text f p room ok w = ap (λ (v : Decision). translationOf v f p) (is-five text (length f) (length p) room ok w)
 
--- ---- from bytes to lines
-
--- what stands behind a seam may be cut short
-seam-front : (x y z : List ℕ) → Seam x (y ++ z) → Seam x y
-seam-front x y z (inl w) = inl w
-seam-front x y z (inr e) = inr (none-left y z e .0)
-
--- what stands between what pre closed and what follows run and a
-between : List ℕ → List ℕ → List ℕ → List Statement
-between pre run a = closedIn (stateAfter fresh 1 (linesOf pre)) (1 + linesIn pre) (linesOf run ++ linesOf a)
-
--- a text of pre and run, with a and q behind them
-module _ (pre run a q : List ℕ) (s : Seam pre (run ++ (a ++ q))) (t : Seam run (a ++ q)) (u : Seam a q) where
-  -- its lines before q
-  lines-before : linesOf (pre ++ (run ++ a)) ≡ linesOf pre ++ (linesOf run ++ linesOf a)
-  lines-before =
-      let s′ : Seam pre (run ++ a) = seam-front pre (run ++ a) q (rw (append-assoc run a q) s) in
-      lines-seam pre (run ++ a) s′ ∙ ap (λ ls. linesOf pre ++ ls) (lines-seam run a (seam-front run a q t))
-
-  -- all its lines
-  lines-all : linesOf (textOf pre run (a ++ q)) ≡ linesOf pre ++ ((linesOf run ++ linesOf a) ++ linesOf q)
-  lines-all = lines-parts pre run a q s t u
-      ∙ ap (λ ls. linesOf pre ++ ls) (sym (append-assoc (linesOf run) (linesOf a) (linesOf q)))
-
-  -- its statements, where reading is fresh before q
-  statements-tail : FreshBehind (pre ++ (run ++ a))
-      → statementsOf (textOf pre run (a ++ q))
-      ≡ closedOf pre ++ (between pre run a ++ map (later (linesIn (pre ++ (run ++ a)))) (statementsOf q))
-  unfolding between
-  statements-tail e =
-      let x = linesOf run ++ linesOf a in
-      ap (reading fresh 1) lines-all
-      ∙ rw lines-before (reads-tail (linesOf pre) x (linesOf q) (sym (ap (stateAfter fresh 1) lines-before) ∙ e))
-
-  -- how many lines stand before q
-  count-before : linesIn (pre ++ (run ++ a)) ≡ linesIn pre + (linesIn run + linesIn a)
-  count-before = ap length lines-before ∙ length-append (linesOf pre) _
-      ∙ ap (λ n. linesIn pre + n) (length-append (linesOf run) (linesOf a))
-
-  -- behind a line of a without closing dots reading is fresh
-  fresh-there : Undotted a → FreshBehind (pre ++ (run ++ a))
-  fresh-there w =
-      let x = linesOf pre ++ (linesOf run ++ w .others) in
-      let e : linesOf (pre ++ (run ++ a)) ≡ x ++ (w .line ∷ []) = lines-before ∙ rw (w .lines) (simp append-assoc) in
-      ap (stateAfter fresh 1) e ∙ fresh-behind x (w .line) (w .plain)
-
--- the statements that pre closed stand first
-statements-front : (pre rest : List ℕ) → Seam pre rest
-    → statementsOf (pre ++ rest) ≡ closedOf pre ++ reading (stateAfter fresh 1 (linesOf pre)) (1 + linesIn pre)
-    (linesOf rest)
-statements-front pre rest s =
-    ap (reading fresh 1) (lines-seam pre rest s) ∙ reading-append fresh 1 (linesOf pre) (linesOf rest)
-
--- ---- from statements to the sheet and to the faults: H makes a list of a list, part by part
-module _ {A B : Type 0} (H : List A → List B) (append : (x y : List A) → H (x ++ y) ≡ H x ++ H y) where
-  -- what begins alike is made into what begins alike
-  begin-made : {front a b : List A} → Begin front a b → Begin (H front) (H a) (H b)
-  begin-made {front} {a} {b} w =
-      record {
-        rest-old = H (w .rest-old);
-        rest-new = H (w .rest-new);
-        old = ap H (w .old) ∙ append front (w .rest-old);
-        new = ap H (w .new) ∙ append front (w .rest-new);
-      }
-
-  module _ (raise : ℕ → A → A) (lift : ℕ → B → B)
-      (raised : (k : ℕ) (x : List A) → H (map (raise k) x) ≡ map (lift k) (H x)) where
-    -- the three parts of a list
-    parts : (x y z : List A) (k : ℕ) → H (x ++ (y ++ map (raise k) z)) ≡ H x ++ (H y ++ map (lift k) (H z))
-    parts x y z k = append x _ ∙ ap (λ r. H x ++ r) (append y _ ∙ ap (λ r. H y ++ r) (raised k z))
-
-    -- what is shared is made into what is shared
-    share-made : {front tail a b : List A} {m n : ℕ} → Share raise front tail m n a b
-        → Share lift (H front) (H tail) m n (H a) (H b)
-    share-made {front} {tail} {a} {b} {m} {n} w =
-        record {
-          between-old = H (w .between-old);
-          between-new = H (w .between-new);
-          old = ap H (w .old) ∙ parts front (w .between-old) tail m;
-          new = ap H (w .new) ∙ parts front (w .between-new) tail n;
-        }
-
--- faults of later reports are later faults
-fault-later : (k l : ℕ) (t : Told) → faultBy (k + l) t ≡ map (laterFault k) (faultBy l t)
-fault-later k l (says x) = refl
-fault-later k l (faulty c p) = refl
-
--- and so of a whole sheet
-faults-later : (k : ℕ) (rs : Sheet) → statementFaults (map (laterReport k) rs) ≡ map (laterFault k) (statementFaults rs)
-faults-later k rs =
-    concat-mapped _ (laterReport k) rs
-    ∙ concat-same _ _ (λ (r : Report Told). fault-later k (r .line) (r .what)) rs
-    ∙ sym (map-concat (laterFault k) _ rs)
-
--- the sheet of statements
-abbrev sheetMade : List Statement → Sheet
-sheetMade ss = map (report told) ss
-
--- faults of two parts of a sheet
-faults-append : (x y : Sheet) → statementFaults (x ++ y) ≡ statementFaults x ++ statementFaults y
-faults-append x y = concat-append _ x y
-
--- ---- the clauses
-module _ (pre old new post : List ℕ) (c : Change pre old new post) where
-  -- both readings begin with what pre closed
-  begins : Begin (closedOf pre) (statementsOf (textOf pre old post)) (statementsOf (textOf pre new post))
-  begins =
-      record {
-        rest-old = _;
-        rest-new = _;
-        old = statements-front pre (old ++ post) (c .before-old);
-        new = statements-front pre (new ++ post) (c .before-new);
-      }
-
-  -- the front is kept
-  front-kept : FrontKept pre old new post
-  unfolding sheetOf
-  front-kept =
-      let sheets = begin-made sheetMade (map-append (report told)) begins in
-      record { statements = begins; sheet = sheets; faults = begin-made statementFaults faults-append sheets }
-
-module _ (pre old new a q : List ℕ) (c : Change pre old new (a ++ q)) (u : Seam a q) where
-  -- from a place on where both readings are fresh
-  shares : Afresh pre old new a
-      → Share later (closedOf pre) (statementsOf q) (linesIn (pre ++ (old ++ a))) (linesIn (pre ++ (new ++ a)))
-      (statementsOf (textOf pre old (a ++ q))) (statementsOf (textOf pre new (a ++ q)))
-  shares w =
-      record {
-        between-old = between pre old a;
-        between-new = between pre new a;
-        old = statements-tail pre old a q (c .before-old) (c .behind-old) u (w .in-old);
-        new = statements-tail pre new a q (c .before-new) (c .behind-new) u (w .in-new);
-      }
-
-  -- the lines before it differ by those of the run
-  shifted : linesIn (pre ++ (old ++ a)) + linesIn new ≡ linesIn (pre ++ (new ++ a)) + linesIn old
-  shifted =
-      let m = count-before pre old a q (c .before-old) (c .behind-old) u in
-      let n = count-before pre new a q (c .before-new) (c .behind-new) u in
-      omega arith
-
-  -- the tail is kept
-  tail-kept : Afresh pre old new a → TailKept pre old new a q
-  unfolding sheetOf
-  tail-kept w =
-      let sheets = share-made sheetMade (map-append (report told)) later laterReport (map-later told) (shares w) in
-      let faults = share-made statementFaults faults-append laterReport laterFault faults-later sheets in
-      record { statements = shares w; sheet = sheets; faults = faults; shift = shifted }
-
-  -- behind a line without closing dots is such a place
-  place-there : Undotted a → Afresh pre old new a
-  place-there w =
-      record {
-        in-old = fresh-there pre old a q (c .before-old) (c .behind-old) u w;
-        in-new = fresh-there pre new a q (c .before-new) (c .behind-new) u w;
-      }
-
--- DEMAND 3. Two texts that differ in one run of lines, neither refused for its size, with room for the fault list
-pub local : (pre old new post f p : List ℕ) → Change pre old new post → faultRoom ≤ length f
-    → Admitted (verdictOf (textOf pre old post) (length f) (length p))
-    → Admitted (verdictOf (textOf pre new post) (length f) (length p))
-    → Local pre old new post f p
-local pre old new post f p c room ok ok′ =
+-- A STATEMENT FAULT means no program, whatever is lent and whatever the text's size
+pub no-program : (text f p : List ℕ) → Faulted text → NoProgram text f p
+unfolding translation
+no-program text f p w =
     record {
-      front = front-kept pre old new post c;
-      tail = λ a q e u. tail-kept pre old new a q (rw e at c) u;
-      place = λ a q e u. place-there pre old new a q (rw e at c) u;
-      verdict-old = convicts (textOf pre old post) f p room ok;
-      verdict-new = convicts (textOf pre new post) f p room ok′;
+      as-lent = faulted-ind (λ (v : Decision). programAfter v p ≡ p) (λ n _. refl) (λ n x xs _. refl) text (length f)
+          (length p) w;
+      not-zero = faulted-ind (λ (v : Decision). numberOf v ≡ 0 → ⊥) (λ n z e. omega arith) (λ n x xs z e. omega arith)
+          text (length f) (length p) w;
     }
 
--- such a change at the end of a text whose last line lacks its byte 10
-pub at-the-end : Change (bytes "A=1\n") (bytes "B=2") (bytes "B=3\nC=4") []
-at-the-end =
+-- from a later line on where both readings begin afresh
+same-from : {pre old new post : List Line} {a b : List ℕ} → Change pre old new post a b → (p q : List Line)
+    → post ≡ p ++ q → Afresh pre old new p → TailKept pre old new p q a b
+unfolding sheetOf
+same-from {pre} {old} {new} {post} c p q e w =
+    let cut : (run : List Line) → pre ++ (run ++ post) ≡ (pre ++ (run ++ p)) ++ q =
+    λ run. rw e (simp append-assoc) in
+    let lines-old = c .lines-old ∙ cut old in
+    let lines-new = c .lines-new ∙ cut new in
     record {
-      before-old = inl (inr (bytes "A=1", refl));
-      before-new = inl (inr (bytes "A=1", refl));
-      behind-old = inr refl;
-      behind-new = inr refl;
+      same =
+          record {
+            statements =
+                rw (lines-old, lines-new) (tail-statements pre (old ++ p) (new ++ p) q (w .in-old) (w .in-new));
+            sheet = rw (lines-old, lines-new) (tail-sheets pre (old ++ p) (new ++ p) q (w .in-old) (w .in-new));
+            faults = rw (lines-old, lines-new) (tail-faults pre (old ++ p) (new ++ p) q (w .in-old) (w .in-new));
+          };
+      shift = simp length-append (omega arith);
     }
+
+-- DEMAND 3. Two texts that differ in one run of lines
+pub local : (pre old new post : List Line) (a b : List ℕ) → Change pre old new post a b → Local pre old new post a b
+unfolding sheetOf
+local pre old new post a b c =
+    record {
+      front =
+          record {
+            statements = rw (c .lines-old, c .lines-new) (front-statements pre (old ++ post) (new ++ post));
+            sheet = rw (c .lines-old, c .lines-new) (front-sheets pre (old ++ post) (new ++ post));
+            faults = rw (c .lines-old, c .lines-new) (front-faults pre (old ++ post) (new ++ post));
+          };
+      tail = same-from c;
+      place = λ p l q e d. record { in-old = fresh-there pre old p l d; in-new = fresh-there pre new p l d };
+      no-program-old = λ w f p. no-program a f p w;
+      no-program-new = λ w f p. no-program b f p w;
+      verdict-old = convicts a;
+      verdict-new = convicts b;
+    }
+
+-- ---- as callers meet a statement fault
+
+-- WHAT A CALLER HAS of a text with a statement fault, whatever was lent: no program
+pub unprogrammed : (text f p f′ p′ : List ℕ) (r : Verdict) → Faulted text → Translates text f p r f′ p′
+    → Unprogrammed r p p′
+unprogrammed text f p f′ p′ r w t =
+    let o = by-number text f p t in
+    let none = no-program text f p w in
+    record {
+      untouched = ap (λ (z : Translation). z .program) o ∙ none .as-lent;
+      not-translated = λ k e. none .not-zero (sym (ap (λ (z : Translation). z .number) o) ∙ ap numberIn e);
+    }
+
+-- .. and with room, of a text that is not refused for size: 5 and the list in full
+pub answered : (text f p f′ p′ : List ℕ) (r : Verdict) → faultRoom ≤ length f
+    → Admitted (verdictOf text (length f) (length p)) → Faulted text → Translates text f p r f′ p′
+    → Answered (faultsOf text) r f′ p p′
+answered text f p f′ p′ r room ok w t =
+    let o = t ∙ ap (λ (v : Decision). replyOf v f p) (is-five text (length f) (length p) room ok w) in
+    let fs = faultsOf text in
+    let written : f′ ≡ sets f 0 (faultList fs) = ap (λ (z : Reply). z .faults) o in
+    let few = faults-few (sheetOf text) in
+    let most = ltb-false mostStatements (length (sheetOf text)) (sizes text (length f) (length p) room ok .2) in
+    let long = list-length fs in
+    let fits : 0 + length (faultList fs) ≤ length f = omega arith in
+    record {
+      answer = ap (λ (z : Reply). z .answer) o;
+      listed = rw (written, ← long) (sets-back f 0 (faultList fs) fits);
+      untouched = ap (λ (z : Reply). z .program) o;
+    }
+
+-- ---- both texts of a change
+module _ (pre old new post : List Line) (a b : List ℕ) (c : Change pre old new post a b)
+    (w : faultsFrom (closedOf pre) ≡ [] → ⊥) where
+  -- a fault that stands before the change stands in both texts
+  pub both-faulted : Faulted a × Faulted b
+  both-faulted =
+      let s = local pre old new post a b c .front .faults in
+      (λ e. w (none-left _ _ (sym (s .old) ∙ e) .0), λ e. w (none-left _ _ (sym (s .new) ∙ e) .0))
+
+  -- so it gives both verdict 5
+  pub both-convicted : (f p : List ℕ) → faultRoom ≤ length f → Admitted (verdictOf a (length f) (length p))
+      → Admitted (verdictOf b (length f) (length p))
+      → (translation a f p .number ≡ 5) × (translation b f p .number ≡ 5)
+  both-convicted f p room ok ok′ =
+      let l = local pre old new post a b c in (
+        ap (λ (z : Translation). z .number) (l .verdict-old f p room ok (both-faulted .0)),
+        ap (λ (z : Translation). z .number) (l .verdict-new f p room ok′ (both-faulted .1)),
+      )
+
+-- ---- such changes, in bytes
+
+-- a run of lines, each with its byte 10, behind lines that have theirs
+pub whole-lines : (pre old new post : List ℕ)
+    → Change (linesOf (pre ++ (10 ∷ []))) (linesOf (old ++ (10 ∷ []))) (linesOf (new ++ (10 ∷ []))) (linesOf post)
+    (pre ++ (10 ∷ (old ++ (10 ∷ post)))) (pre ++ (10 ∷ (new ++ (10 ∷ post))))
+whole-lines pre old new post = record { lines-old = cut old; lines-new = cut new }
+  where
+    cut : (run : List ℕ) → linesOf (pre ++ (10 ∷ (run ++ (10 ∷ post))))
+        ≡ linesOf (pre ++ (10 ∷ [])) ++ (linesOf (run ++ (10 ∷ [])) ++ linesOf post)
+    cut run =
+        lines-append pre (run ++ (10 ∷ post)) ∙ ap (λ ls. linesOf (pre ++ (10 ∷ [])) ++ ls) (lines-append run post)
+
+-- cards put behind a text whose last line lacks its byte 10
+pub append-a-card : (x : List ℕ) (last : ℕ) (cards : List ℕ) → (last ≡ 10 → ⊥)
+    → Change (linesOf (x ++ (last ∷ []))) [] (linesOf cards) [] (x ++ (last ∷ [])) ((x ++ (last ∷ [])) ++ (10 ∷ cards))
+append-a-card x last cards e =
+    let text = x ++ (last ∷ []) in
+    record {
+      lines-old = sym (append-nil (linesOf text));
+      lines-new = lines-append text cards ∙ ap₂ _++_ (lines-lacking x last e) (sym (append-nil (linesOf cards)));
+    }
+
+-- for instance the line C=3
+pub a-card-appended : Change (bytes "A=1" ∷ bytes "B=2" ∷ []) [] (bytes "C=3" ∷ []) [] (bytes "A=1\nB=2")
+    (bytes "A=1\nB=2\nC=3")
+unfolding linesOf
+a-card-appended = record { lines-old = refl; lines-new = refl }

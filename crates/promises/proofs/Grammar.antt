@@ -1,201 +1,24 @@
--- Faults 18 and 19 of a row of tokens and of a statement of a text: each exactly where the paper says, and one meaning
--- for each row.
-use Prim.Native.Nat.{ℕ, suc, _+_, _≤_}
-use mathlib.Core.Path.{_≡_, refl, sym, ap, subst, _∙_}
+-- The grammar: what a row of tokens means, and a statement of a text.
+use Prim.Native.Nat.{suc}
 use mathlib.Core.Bool.{Bool}
-use mathlib.Core.List.{List, [], _++_, append-assoc}
-use mathlib.Core.Logic.{_⊎_, inl, inr, ⊎-elim}
-use native.Mathlib.Omega.{arith}
-use lib.ListN.{length, take, drop, take-append-drop}
-use lib.Seq.{take-take}
-use Rattle.laws.proofs.Tests.{lt-or-ge}
+use mathlib.Core.List.{List}
 use Rattle.limits.specs.Limits.{levels}
 use Rattle.deck.specs.Lines.{Line}
-use Rattle.deck.specs.Faults.{Place}
 use Rattle.tokens.specs.Symbol.{Symbol}
-use Rattle.tokens.specs.Row.{Placed, symbols}
-use Rattle.drafts.specs.Tree.{Says}
-use Rattle.grammar.specs.Grammar.{Derives}
-use Rattle.grammar.specs.Parser.{got, calls, Read, read, fault, readRow}
-use Rattle.grammar.specs.Meaning.{Front, TooDeep, Wrong, Meaning, wrong, deep}
-use Rattle.grammar.proofs.Whole.{stated-le}
-use Rattle.grammar.proofs.Accepts.{entire-complete, accepts}
-use Rattle.grammar.proofs.Faults.{exactly}
-use Rattle.grammar.proofs.Tight.{deepest, loose, tight}
-use Rattle.sheet.specs.Sheet.{says, faulty}
-use Rattle.sheet.specs.Reader.{placeOf, parsed, sized, told}
-use Rattle.promises.specs.RowMeans.{Eighteen, Nineteen, Means, tokensOf, Scanned, StatementMeans}
+use Rattle.grammar.specs.Meaning.{Front, Means, deepest}
+use Rattle.grammar.proofs.Means as lower
+use Rattle.sheet.specs.StatementMeans.{StatementMeans}
+use Rattle.sheet.proofs.StatementMeans as sheets
 
--- ---- fronts
+-- WHAT A ROW MEANS
+pub means : (row : List Symbol) → Means row
+means = lower.means
 
--- a statement's front
-whole-front : {d : ℕ} {x : Says} (row : List Symbol) (i : ℕ) → Derives d row x → Front d (take i row)
-whole-front {d} {x} row i a = record { behind = drop i row; says = x; derived = rw (take-append-drop i row) a }
+-- WHAT A STATEMENT MEANS
+pub statement-means : (cards : List Line) (closed : Bool) → StatementMeans cards closed
+statement-means = sheets.statement-means
 
--- a front's front
-shorter : {d : ℕ} (row : List Symbol) (i j : ℕ) → i ≤ j → Front d (take j row) → Front d (take i row)
-shorter {d} row i j le a =
-    let r : List Symbol = drop i (take j row) in
-    let q : take j row ≡ take i row ++ r =
-    sym (take-append-drop i (take j row)) ∙ ap (λ (z : List Symbol). z ++ r) (take-take i j row le) in
-    let b : Derives d ((take i row ++ r) ++ a .behind) (a .says) =
-    subst (λ (z : List Symbol). Derives d (z ++ a .behind) (a .says)) q (a .derived) in
-    record { behind = r ++ a .behind; says = a .says; derived = rw append-assoc at b }
-
--- ---- a row
-module _ (row : List Symbol) where
-  -- what the parser's 18 means is what the paper's means
-  to-eighteen : (i : ℕ) → Meaning row 18 i → Eighteen row i
-  to-eighteen i m = go 18 m refl
-    where
-      go : (c : ℕ) → Meaning row c i → c ≡ 18 → Eighteen row i
-      go c (wrong W f) e =
-          record {
-            within = W .within;
-            depth = suc levels;
-            begun = W .before;
-            no-further = W .no-more;
-            none = λ _. W .not-whole;
-            earlier = f;
-          }
-      go c (deep T f) e = absurd (let z : ⊥ = omega arith in z)
-
-  -- the same of 19
-  to-nineteen : (i : ℕ) → Meaning row 19 i → Nineteen row i
-  to-nineteen i m = go 19 m refl
-    where
-      go : (c : ℕ) → Meaning row c i → c ≡ 19 → Nineteen row i
-      go c (wrong W f) e = absurd (let z : ⊥ = omega arith in z)
-      go c (deep T f) e = record { deep = T; earlier = f }
-
-  -- the parser stops there and nowhere else
-  same-place : (i j : ℕ) → Wrong row j → Eighteen row i → j ≡ i
-  same-place i j W E =
-      let h = E .within in
-      let k = W .within in
-      ⊎-elim (λ l. absurd (W .no-more (omega arith) (E .depth) (shorter row (j + 1) i (omega arith) (E .begun))))
-      (λ g.
-      ⊎-elim (λ l. absurd (E .no-further (omega arith) (suc levels) (shorter row (i + 1) j (omega arith) (W .before))))
-      (λ g′. omega arith)
-      (lt-or-ge i j))
-      (lt-or-ge j i)
-
-  -- no statement has such a place
-  no-statement : (i : ℕ) (x : Says) → Eighteen row i → Derives levels row x → ⊥
-  no-statement i x E a =
-      let h = E .within in
-      ⊎-elim (λ l. E .no-further l levels (whole-front row (i + 1) a)) (λ g. E .none (omega arith) levels x a)
-      (lt-or-ge i (length row))
-
-  -- and no opening is too deep there or behind
-  no-opening : (i j : ℕ) → Eighteen row i → TooDeep row j → ⊥
-  no-opening i j E T =
-      let h = T .within in
-      ⊎-elim (λ l. E .earlier j l T)
-      (λ g. E .no-further (omega arith) (suc levels) (shorter row (i + 1) (j + 1) (omega arith) (T .allowed)))
-      (lt-or-ge j i)
-
-  -- so that is what the parser answers
-  from-eighteen : (i : ℕ) → Eighteen row i → readRow row ≡ fault 18 i
-  from-eighteen i E = go (readRow row) refl
-    where
-      stopped : (c j : ℕ) → Meaning row c j → fault c j ≡ fault 18 i
-      stopped c j (wrong W f) = ap (fault 18) (same-place i j W E)
-      stopped c j (deep T f) = absurd (no-opening i j E T)
-
-      go : (r : Read) → readRow row ≡ r → r ≡ fault 18 i
-      go (read x) e = absurd (no-statement i x E (accepts row x .0 e))
-      go (fault c j) e = stopped c j (exactly row c j .0 e)
-
-  -- a meaning has one of the two codes
-  two-codes : (c i : ℕ) → Meaning row c i → (c ≡ 18) ⊎ (c ≡ 19)
-  two-codes c i (wrong W f) = inl refl
-  two-codes c i (deep T f) = inr refl
-
-  -- the parser's 18, with what it knows of the levels
-  wrong-of : (c i : ℕ) → Meaning row c i → c ≡ 18 → Wrong row i
-  wrong-of c i (wrong W f) e = W
-  wrong-of c i (deep T f) e = absurd (let z : ⊥ = omega arith in z)
-
-  -- the same of the paper's 18
-  known : (i : ℕ) → Eighteen row i → Wrong row i
-  known i E = wrong-of 18 i (exactly row 18 i .0 (from-eighteen i E)) refl
-
-  -- a row is one statement at most
-  one-statement : (d e : ℕ) (x y : Says) → Derives d row x → Derives e row y → x ≡ y
-  one-statement d e x y a b =
-      let p = entire-complete (stated-le a (d + e) (omega arith)) (calls row) (omega arith) in
-      let q = entire-complete (stated-le b (d + e) (omega arith)) (calls row) (omega arith) in
-      let z : got x [] ≡ got y [] = sym p ∙ q in
-      cc
-
-  -- WHAT A ROW MEANS
-  pub means : Means row
-  means =
-      record {
-        statement = accepts row;
-        eighteen = λ i. (λ e. to-eighteen i (exactly row 18 i .0 e), from-eighteen i);
-        nineteen =
-            λ i. (λ e. to-nineteen i (exactly row 19 i .0 e), λ n. exactly row 19 i .1 (deep (n .deep) (n .earlier)));
-        no-other = λ c i e. two-codes c i (exactly row c i .0 e);
-        seventeen = λ i E. known i E .before;
-        sixteen = λ i E. known i E .before-calm;
-        one = one-statement;
-      }
-
--- the exception stands: as many openings as levels and then a function's name begin a statement with 17 levels and none
+-- THE EXCEPTION stands: as many openings as levels and then a function's name begin a statement with 17 levels and none
 -- with 16
 pub exception : Front (suc levels) (deepest levels) × (Front levels (deepest levels) → ⊥)
-exception = (loose levels, tight levels)
-
--- ---- a statement of a text
-
--- what is said was read
-parsed-says : (ps : List Placed) (r : Read) (x : Says) → parsed ps r ≡ says x → r ≡ read x
-parsed-says ps (read y) x e = cc
-parsed-says ps (fault c i) x e = absurd (let z : _≡_ {A = ℕ} 0 1 = cc in omega arith)
-
--- a fault was found at a token
-parsed-faulty : (ps : List Placed) (r : Read) (c : ℕ) (p : Place) → parsed ps r ≡ faulty c p
-    → (i : ℕ) × (r ≡ fault c i) × (p ≡ placeOf ps i)
-parsed-faulty ps (read y) c p e = absurd (let z : _≡_ {A = ℕ} 0 1 = cc in omega arith)
-parsed-faulty ps (fault b i) c p e = let z : b ≡ c = cc in (i, ap (λ (k : ℕ). fault k i) z, (cc))
-
-module _ (cards : List Line) (closed : Bool) where
-  -- without an earlier fault the grammar decides
-  by-grammar : Scanned cards closed → told cards closed ≡ parsed (tokensOf cards) (readRow (symbols (tokensOf cards)))
-  unfolding told
-  by-grammar w = rw (w .sized, w .good)
-
-  -- the fault, with its code and token
-  found : Scanned cards closed → (c : ℕ) (p : Place) → told cards closed ≡ faulty c p
-      → (i : ℕ) × (p ≡ placeOf (tokensOf cards) i)
-      × (((c ≡ 18) × Eighteen (symbols (tokensOf cards)) i) ⊎ ((c ≡ 19) × Nineteen (symbols (tokensOf cards)) i))
-  found w c p e =
-      let m = means (symbols (tokensOf cards)) in
-      let f = parsed-faulty (tokensOf cards) (readRow (symbols (tokensOf cards))) c p (sym (by-grammar w) ∙ e) in
-      let with-code : (b : ℕ) → c ≡ b → readRow (symbols (tokensOf cards)) ≡ fault b (f .0) =
-      λ b z. f .1 ∙ ap (λ (k : ℕ). fault k (f .0)) z in (
-        f .0,
-        f .2,
-        ⊎-elim (λ z. inl (z, m .eighteen (f .0) .0 (with-code 18 z)))
-            (λ z. inr (z, m .nineteen (f .0) .0 (with-code 19 z))) (m .no-other c (f .0) (f .1)),
-      )
-
-  -- WHAT A STATEMENT MEANS
-  pub statement-means : StatementMeans cards closed
-  unfolding told
-  statement-means =
-      let ps = tokensOf cards in
-      let m = means (symbols ps) in
-      record {
-        for-size = λ c p e. rw e;
-        for-token = λ e c at b. rw (e, b);
-        for-grammar = λ w x. (
-          λ e. m .statement x .0 (parsed-says ps (readRow (symbols ps)) x (sym (by-grammar w) ∙ e)),
-          λ a. by-grammar w ∙ ap (parsed ps) (m .statement x .1 a),
-        );
-        for-eighteen = λ w i E. by-grammar w ∙ ap (parsed ps) (m .eighteen i .1 E);
-        for-nineteen = λ w i N. by-grammar w ∙ ap (parsed ps) (m .nineteen i .1 N);
-        no-other = found;
-      }
+exception = lower.exception

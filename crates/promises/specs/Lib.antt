@@ -1,11 +1,6 @@
 -- the paper
-pub mod Change
-pub mod Ordering
-pub mod RowMeans
-pub mod Depth
-pub mod Words
-pub mod Meaning
-pub mod Recorded
-pub mod Outcomes
+pub mod Table
+pub mod Demand2
+pub mod Demand3
 -- as code holds it
 pub mod Agreement

@@ -1,3 +1,4 @@
 pub mod FieldParts
 pub mod Decoding
 pub mod LeftRecords
+pub mod Agreement

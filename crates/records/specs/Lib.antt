@@ -4,3 +4,4 @@ pub mod Fields
 pub mod Record
 -- as code holds it
 pub mod Decode
+pub mod Contract

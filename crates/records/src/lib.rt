@@ -11,7 +11,8 @@ ghost use lib.Ieee.{binary64, ofBits};
 ghost use lib.ListN.{length};
 ghost use Rattle.records.specs.Fields.{byKind, instrOf};
 ghost use Rattle.records.specs.Record.{field};
-ghost use Rattle.records.specs.Decode.{readAt, decodedAt, withFields};
+ghost use Rattle.records.specs.Decode.{withFields};
+ghost use Rattle.records.specs.Contract.{ReadsRecord, Decodes};
 
 // What a record does, with its slot or value; or the refusal, where it is none.
 pub enum Instr {
@@ -85,7 +86,7 @@ fn by_kind(kind: u64, slot: u16, bits: u64) -> Instr
 // The instruction of record n as its kind has it. Its unused fields are not looked at: it is for records that are known
 // to be in order.
 pub fn read(program: &[u8], n: usize) -> Instr
-    ensures { λ r. ⌜ r ≡ readAt (now (program .entry)) n ⌝ }
+    ensures { λ r. ⌜ ReadsRecord (now (program .entry)) n r ⌝ }
 {
     if program.len() / RECORD_BYTES <= n {
         return Instr::Bad;
@@ -137,7 +138,7 @@ fn checked(kind: u64, slot: u64, bits: u64) -> Instr
 
 // The instruction of record n, or the refusal.
 pub fn decode(program: &[u8], n: usize) -> Instr
-    ensures { λ r. ⌜ r ≡ decodedAt (now (program .entry)) n ⌝ }
+    ensures { λ r. ⌜ Decodes (now (program .entry)) n r ⌝ }
 {
     if program.len() / RECORD_BYTES <= n {
         return Instr::Bad;

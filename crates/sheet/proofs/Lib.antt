@@ -1,1 +1,5 @@
 pub mod Entries
+pub mod StatementMeans
+pub mod Numbers
+pub mod Changes
+pub mod Agreement

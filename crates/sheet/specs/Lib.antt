@@ -1,5 +1,8 @@
 -- the paper
 pub mod Sheet
 pub mod Reader
+pub mod StatementMeans
+pub mod Numbers
 -- as code holds it
 pub mod Layout
+pub mod Contract

@@ -1,8 +1,9 @@
 -- The reader of 01: a statement's fault, at most one. Order: 11, 12, 13; then the first bad token from the left; then
 -- the grammar's.
 use Prim.Native.Nat.{ℕ}
+use mathlib.Core.Path.{_≡_}
 use mathlib.Core.Bool.{Bool, cond}
-use mathlib.Core.List.{List}
+use mathlib.Core.List.{List, []}
 use lib.Dec.{ltb}
 use lib.ListN.{length, getD}
 use Rattle.deck.specs.Lines.{Line, linesOf}
@@ -12,7 +13,7 @@ use Rattle.deck.specs.Faults.{Place, at-token, at-end, Flaw, none, flaw, sizeFl
 use Rattle.tokens.specs.Symbol.{mark}
 use Rattle.tokens.specs.Row.{Placed, Close, all-good, bad, Row, rowOf, symbols}
 use Rattle.grammar.specs.Parser.{Read, read, fault, readRow}
-use Rattle.sheet.specs.Sheet.{Told, says, faulty, Sheet}
+use Rattle.sheet.specs.Sheet.{Told, says, faulty, Sheet, Fault, statementFaults}
 
 abbrev pub noToken : Placed
 noToken = record { symbol = mark 0; at = 0 }
@@ -46,3 +47,11 @@ told cards closed = sized (sizeFlaw cards closed) (joined cards)
 -- the sheet of a text
 unfoldable pub sheetOf : List ℕ → Sheet
 sheetOf text = reports told (linesOf text)
+
+-- its statement faults
+abbrev pub faultsOf : List ℕ → List Fault
+faultsOf text = statementFaults (sheetOf text)
+
+-- a statement fault stands in the text
+abbrev pub Faulted : List ℕ → Type 0
+Faulted text = faultsOf text ≡ [] → ⊥

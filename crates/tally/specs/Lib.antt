@@ -1,2 +1,3 @@
 -- as code holds it
 pub mod Counted
+pub mod Contract

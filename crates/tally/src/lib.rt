@@ -1,7 +1,5 @@
 // Counting comparisons: how many were tried and how many differ, with a line printed for each that does.
-ghost use mathlib.Core.Path.{_≡_};
-ghost use lib.Dec.{eqb};
-ghost use Rattle.tally.specs.Counted.{counted};
+ghost use Rattle.tally.specs.Contract.{CountsNone, CountsOne, CountsNumber, Finishes};
 use libc::STDOUT_FILENO;
 
 // How many comparisons were tried, and how many of them differ.
@@ -12,7 +10,7 @@ pub struct Tally {
 
 // None so far.
 pub fn none() -> Tally
-    ensures { λ r. ⌜ (r .tried ≡ 0) × (r .differ ≡ 0) ⌝ }
+    ensures { λ r. ⌜ CountsNone r ⌝ }
 {
     Tally {
         tried: 0,
@@ -22,7 +20,7 @@ pub fn none() -> Tally
 
 // One comparison more. If it differs its number is printed.
 pub fn right(t: Tally, same: bool) -> Tally
-    ensures { λ r. ⌜ r ≡ counted t same ⌝ }
+    ensures { λ r. ⌜ CountsOne t same r ⌝ }
 {
     let tried = t.tried;
     let differ = t.differ;
@@ -49,13 +47,15 @@ pub fn right(t: Tally, same: bool) -> Tally
 
 // A number is as wanted.
 pub fn number(t: Tally, got: usize, wanted: usize) -> Tally
-    ensures { λ r. ⌜ r ≡ counted t (eqb got wanted) ⌝ }
+    ensures { λ r. ⌜ CountsNumber t got wanted r ⌝ }
 {
     right(t, got == wanted)
 }
 
 // Prints the summary.
-pub fn finish(t: Tally) {
+pub fn finish(t: Tally)
+    ensures { λ r. ⌜ Finishes t r ⌝ }
+{
     let tried = t.tried;
     let differ = t.differ;
     io::print_decimal(STDOUT_FILENO, tried as u64);

@@ -3,8 +3,8 @@
 // text gives.
 mod arrays;
 mod limits_met;
-mod table;
 mod slips;
+mod table;
 mod wanted;
 
 // All groups, and the summary.

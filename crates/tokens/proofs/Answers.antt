@@ -10,11 +10,11 @@ use lib.Seq.{sets}
 use Rattle.tokens.specs.declared.RowEnd.{RowEnd}
 use Rattle.tokens.specs.declared.RowEnd.the-variants.{Tokens, Fault}
 use Rattle.tokens.specs.Row.{Close, all-good, bad, Row, rowOf}
-use Rattle.tokens.specs.Written.{closeEnd, rowEnd, kindsOf, argsOf, roomy, Written}
+use Rattle.tokens.specs.Contract.{closeEnd, rowEnd, kindsOf, argsOf, roomy, WritesRow}
 
 -- with room the row is written
 pub written-room : (s ks us : List ℕ) (r : RowEnd) (ks′ us′ : List ℕ) → length s ≤ length ks → length s ≤ length us
-    → Written s ks us r ks′ us′
+    → WritesRow s ks us r ks′ us′
     → (r ≡ rowEnd (rowOf s)) × (ks′ ≡ sets ks 0 (kindsOf (rowOf s))) × (us′ ≡ sets us 0 (argsOf (rowOf s)))
 written-room s ks us r ks′ us′ h k w = (rw full at (w .answer), rw full at (w .kinds), rw full at (w .args))
   where

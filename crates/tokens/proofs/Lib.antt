@@ -10,3 +10,5 @@ pub mod Rows
 mod Steps
 pub mod Answers
 pub mod Holding
+pub mod Agreement
+pub mod TokenValues

@@ -21,20 +21,20 @@ use Rattle.tokens.specs.Held.{kindOf, argOf}
 use Rattle.tokens.specs.Token.{cutAt}
 use Rattle.tokens.specs.Row.{Close, all-good, bad, bare, onto, ahead, rowOf}
 use Rattle.tokens.specs.Steps.{heldAs, stepOf, stepAt}
-use Rattle.tokens.specs.Written.{closeEnd, rowEnd, kindsOf, argsOf, roomy, Written}
+use Rattle.tokens.specs.Contract.{closeEnd, rowEnd, kindsOf, argsOf, roomy, WritesRow}
 use Rattle.tokens.proofs.Sound.{Inside, Sound, cut-sound}
 use Rattle.tokens.proofs.Rows.{rest, rest-next}
 
 -- ---- a step from a cut
 module _ (s : List ℕ) (from : ℕ) (c : Cut) (read : c ≡ cutAt s from) (t : Token) (is : c .token ≡ t) where
   -- the cut's token is sound
-  pub told-sound : Sound s from t (c .next)
-  told-sound = subst (λ (x : Token). Sound s from x (c .next)) is
+  pub step-sound : Sound s from t (c .next)
+  step-sound = subst (λ (x : Token). Sound s from x (c .next)) is
       (subst (λ (x : Cut). Sound s from (x .token) (x .next)) (sym read) (cut-sound s from))
 
   -- and decides the step
-  pub told-step : stepOf s t (c .at) (c .next) ≡ stepAt s from
-  told-step = ap (λ (x : Token). stepOf s x (c .at) (c .next)) (sym is)
+  pub as-step : stepOf s t (c .at) (c .next) ≡ stepAt s from
+  as-step = ap (λ (x : Token). stepOf s x (c .at) (c .next)) (sym is)
       ∙ ap (λ (x : Cut). stepOf s (x .token) (x .at) (x .next)) read
 
 -- a name's part of the text
@@ -86,11 +86,11 @@ pub record Turn (s ks₀ us₀ ks us : List ℕ) (from n : ℕ) : Type 0 where
   pub args : sets us n (argsOf (rest s from)) ≡ sets us₀ 0 (argsOf (rowOf s))
 
 -- without room nothing is written
-pub no-kinds : (s ks us : List ℕ) → length ks < length s → Written s ks us NoRoom ks us
+pub no-kinds : (s ks us : List ℕ) → length ks < length s → WritesRow s ks us NoRoom ks us
 no-kinds s ks us h = let e = lt-leb (length s) (length ks) h in record { answer = rw e; kinds = rw e; args = rw e }
 
 -- nor without room for the arguments
-pub no-args : (s ks us : List ℕ) → length s ≤ length ks → length us < length s → Written s ks us NoRoom ks us
+pub no-args : (s ks us : List ℕ) → length s ≤ length ks → length us < length s → WritesRow s ks us NoRoom ks us
 no-args s ks us h k =
     let e = le-leb (length s) (length ks) h in
     let f = lt-leb (length s) (length us) k in
@@ -115,7 +115,7 @@ module _ (s ks₀ us₀ ks us : List ℕ) (from n : ℕ) (t : Turn s ks₀ us₀
   full = rw (le-leb (length s) (length ks₀) (t .room .0), le-leb (length s) (length us₀) (t .room .1))
 
   -- no token is left: all of the row is written
-  closing : (c : Close) → rest s from ≡ bare c → Written s ks₀ us₀ (closeEnd c n) ks us
+  closing : (c : Close) → rest s from ≡ bare c → WritesRow s ks₀ us₀ (closeEnd c n) ks us
   closing c e =
       let all : closeEnd c (n + 0) ≡ rowEnd (rowOf s) = rw e at (t .answer) in
       let ks-all : ks ≡ sets ks₀ 0 (kindsOf (rowOf s)) = rw e at (t .kinds) in
@@ -127,11 +127,11 @@ module _ (s ks₀ us₀ ks us : List ℕ) (from n : ℕ) (t : Turn s ks₀ us₀
       }
 
   -- at the end of the text
-  pub turn-over : Over ≡ stepAt s from → Written s ks₀ us₀ (Tokens n) ks us
+  pub turn-over : Over ≡ stepAt s from → WritesRow s ks₀ us₀ (Tokens n) ks us
   turn-over e = closing all-good (says s from Over e)
 
   -- at a bad token
-  pub turn-refused : (code at : ℕ) → Refused code at ≡ stepAt s from → Written s ks₀ us₀ (Fault code n at) ks us
+  pub turn-refused : (code at : ℕ) → Refused code at ≡ stepAt s from → WritesRow s ks₀ us₀ (Fault code n at) ks us
   turn-refused code at e = closing (bad code at) (says s from (Refused code at) e)
 
   -- one token more

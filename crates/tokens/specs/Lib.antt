@@ -1,6 +1,7 @@
 -- the paper
 pub mod Bytes
 pub mod Number
+pub mod Values
 pub mod Token
 pub mod Symbol
 pub mod Row
@@ -10,4 +11,4 @@ pub mod Held
 pub mod Names
 pub mod Capped
 pub mod Steps
-pub mod Written
+pub mod Contract

@@ -14,8 +14,8 @@ use number::read_number;
 use step::Step;
 use step::take_step;
 ghost use mathlib.Core.Path.{_≡_};
-ghost use Rattle.tokens.specs.Token.{badAt, cutAt};
-ghost use Rattle.tokens.specs.Written.{Written};
+ghost use Rattle.tokens.specs.Token.{badAt};
+ghost use Rattle.tokens.specs.Contract.{TakesCut, WritesRow};
 
 // A name's place and length, a mark's byte, a number's value; the end of the text; a bad token's code.
 pub enum Token {
@@ -46,7 +46,7 @@ fn bad(code: u8, at: usize) -> Cut
 
 // The next token from a place on.
 pub fn take_cut(body: &[u8], from: usize) -> Cut
-    ensures { λ r. ⌜ r ≡ cutAt (now (body .entry)) from ⌝ }
+    ensures { λ r. ⌜ TakesCut (now (body .entry)) from r ⌝ }
 {
     let at = past_spaces(body, from);
     if body.len() <= at {
@@ -105,7 +105,7 @@ pub enum RowEnd {
 // Writes the kind and the argument of each token of a text, up to the end or the first bad one. It takes room for a
 // token for each byte.
 pub fn row(body: &[u8], kinds: &mut [u8], args: &mut [u64]) -> RowEnd
-    ensures { λ r. ⌜ Written (now (body .entry)) (now (kinds .entry)) (now (args .entry)) r
+    ensures { λ r. ⌜ WritesRow (now (body .entry)) (now (kinds .entry)) (now (args .entry)) r
         (now (kinds .exit)) (now (args .exit)) ⌝ }
 {
     if kinds.len() < body.len() {

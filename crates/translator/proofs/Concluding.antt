@@ -142,7 +142,8 @@ module _ (ss : List Numbered) (kinds args lines bounds : List ℕ) (laid : Laid 
         go true t = fewer (loops (orderOf ds) equated lines) refl (ltb-true (length (orderOf ds)) (length equated) t)
         go false t =
             sound few
-            (model ∙ no-loops ds equated lines (omega (arith, ltb-false (length (orderOf ds)) (length equated) t, n)) n) refl
+            (model ∙ no-loops ds equated lines
+            (omega (arith, ltb-false (length (orderOf ds)) (length equated) t, n)) n) refl
 
     -- 22 and 23
     by-names : faults21 [] ss ≡ [] → Conclusion (linkedPlan places lines bounds kinds slots used faults placed)

@@ -26,7 +26,7 @@ use Rattle.records.specs.Record.{Rec}
 use Rattle.program.specs.Program.{program}
 use Rattle.drafts.specs.Kinds.{writes}
 use Rattle.program.specs.Written.{recordCount}
-use Rattle.translator.specs.Verdict.{Verdict, refused, ifFaults, fitted, modelled, judged, verdictOf, countOf}
+use Rattle.translator.specs.Verdict.{Decision, refused, ifFaults, fitted, modelled, judged, verdictOf, countOf}
 use Rattle.translator.specs.Verdict.{faulty as flawed, translated}
 
 -- at most one for each element
@@ -118,12 +118,12 @@ faults-few sheet = omega (arith, counts sheet)
 -- ---- the verdict
 
 -- faults are at most one for each statement, and records as many as there may be
-abbrev Few : Verdict → Type 0
+abbrev Few : Decision → Type 0
 Few (refused n) = Unit {0}
 Few (flawed n fs) = length fs ≤ mostStatements
 Few (translated rs ls) = length rs ≤ mostRecords
 
-few-if : (n : ℕ) (fs : List Fault) (next : Verdict) → length fs ≤ mostStatements → Few next → Few (ifFaults n fs next)
+few-if : (n : ℕ) (fs : List Fault) (next : Decision) → length fs ≤ mostStatements → Few next → Few (ifFaults n fs next)
 few-if n [] next h k = k
 few-if n (f ∷ fs) next h k = h
 
@@ -161,7 +161,7 @@ few text faults room =
     (λ _. few-judged room (sheetOf text))))
 
 -- the count is at most that of the most records
-pub count-few : (v : Verdict) → Few v → countOf v ≤ mostRecords
+pub count-few : (v : Decision) → Few v → countOf v ≤ mostRecords
 count-few (refused n) h = omega arith
 count-few (flawed n fs) h = omega arith
 count-few (translated rs ls) h = h

@@ -10,3 +10,6 @@ pub mod Counted
 mod Writing
 mod Rooms
 pub mod Verdicts
+pub mod Given
+pub mod Agreement
+pub mod Rules

@@ -15,7 +15,7 @@ use Rattle.deck.specs.Joined.{joined}
 use Rattle.tokens.specs.Symbol.{Symbol, mark, number, name, word}
 use Rattle.tokens.specs.Held.{kindOf, argOf, heldRow}
 use Rattle.tokens.specs.Row.{Placed, Close, all-good, bad, Row, rowOf, symbols}
-use Rattle.tokens.specs.Written.{closeEnd, rowEnd, kindsOf, argsOf}
+use Rattle.tokens.specs.Contract.{closeEnd, rowEnd, kindsOf, argsOf}
 use Rattle.tokens.specs.declared.RowEnd.the-variants.{NoRoom, Tokens, Fault}
 use Rattle.tokens.proofs.Holding.{Holds, AllHold, held-back}
 use Rattle.tokens.proofs.Rows.{row-short, Fine, symbols-fine, mark-above}

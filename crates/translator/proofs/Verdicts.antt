@@ -16,7 +16,7 @@ use Rattle.sheet.specs.Reader.{told, sheetOf}
 use Rattle.translator.specs.declared.Verdict.{Verdict}
 use Rattle.translator.specs.declared.Verdict.the-variants.{Refused}
 use Rattle.translator.specs.Contract.{Reply, byNumber, replyOf, Translates, Gives}
-use Rattle.translator.specs.Verdict.{Verdict as Decision, refused, faulty, translated, judged, verdictOf}
+use Rattle.translator.specs.Verdict.{Decision, refused, faulty, translated, judged, verdictOf}
 use Rattle.translator.specs.Verdict.{translationOf, translation}
 use Rattle.translator.specs.Working.{Taken, Judges}
 

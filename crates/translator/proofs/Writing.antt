@@ -17,7 +17,8 @@ use Rattle.sheet.specs.Layout.{Laid}
 use Rattle.model.specs.Definitions.{Def, definitions, equationCount}
 use Rattle.model.specs.Faults.{modelFaults, orderOf}
 use Rattle.model.specs.Places.{placesIn, equatedIn}
-use Rattle.model.specs.Plan.{lent, PlanOutcome, planOutcome, Plans, fit}
+use Rattle.model.specs.Plan.{lent, PlanOutcome, planOutcome, fit}
+use Rattle.model.specs.Contract.{Plans}
 use Rattle.model.specs.declared.answer.Plan.{Plan}
 use Rattle.model.proofs.NoModelFault.{no-faults}
 use Rattle.model.proofs.PlanStages.{equated-few}

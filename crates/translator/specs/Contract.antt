@@ -5,7 +5,7 @@ use mathlib.Core.List.{List}
 use lib.ListN.{length}
 use Rattle.translator.specs.declared.Verdict.{Verdict}
 use Rattle.translator.specs.declared.Verdict.the-variants.{Refused, Faulty, Translated}
-use Rattle.translator.specs.Verdict.{Verdict as Decision, refused, faulty, translated, faultsAfter, programAfter}
+use Rattle.translator.specs.Verdict.{Decision, refused, faulty, translated, faultsAfter, programAfter}
 use Rattle.translator.specs.Verdict.{verdictOf}
 use Rattle.translator.specs.Verdict.{Translation, translation}
 
@@ -39,7 +39,8 @@ reply r f p = record { answer = r; faults = f; program = p }
 abbrev pub replyOf : Decision → List ℕ → List ℕ → Reply
 replyOf v f p = reply (answerOf v) (faultsAfter v f) (programAfter v p)
 
--- from a text and the lent buffers f and p: the answer r and the buffers f′ and p′ are those of the text's verdict
+-- `translate`: from a text and the lent buffers f and p the answer r and the buffers f′ and p′ are those of the text's
+-- verdict
 abbrev pub Translates : List ℕ → List ℕ → List ℕ → Verdict → List ℕ → List ℕ → Type 0
 Translates text f p r f′ p′ = reply r f′ p′ ≡ replyOf (verdictOf text (length f) (length p)) f p
 

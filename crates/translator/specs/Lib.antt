@@ -1,5 +1,7 @@
 -- the paper
 pub mod Verdict
+pub mod Refusals
+pub mod Rules
 -- as code holds it
 pub mod Contract
 pub mod Working

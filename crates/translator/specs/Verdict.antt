@@ -17,41 +17,41 @@ use Rattle.program.specs.Program.{program}
 
 -- refused with a number, nothing written; faulty with 5 or 7, the fault list written; translated, 0, the program
 -- written. The last also names the first line of each ordered statement
-pub data Verdict : Type 0 where
-  refused : ℕ → Verdict
-  faulty : ℕ → List Fault → Verdict
-  translated : List Rec → List ℕ → Verdict
+pub data Decision : Type 0 where
+  refused : ℕ → Decision
+  faulty : ℕ → List Fault → Decision
+  translated : List Rec → List ℕ → Decision
 
 -- if some fault stands, this verdict, else the next
-abbrev pub ifFaults : ℕ → List Fault → Verdict → Verdict
+abbrev pub ifFaults : ℕ → List Fault → Decision → Decision
 ifFaults n [] next = next
 ifFaults n (f ∷ fs) next = faulty n (f ∷ fs)
 
 -- 8: records needed exceed mostRecords or the lent bytes divided by recordBytes, rounded down; 0 otherwise
-abbrev pub fitted : ℕ → List Rec → List ℕ → Verdict
+abbrev pub fitted : ℕ → List Rec → List ℕ → Decision
 fitted room rs ls =
     cond (ltb mostRecords (length rs) || ltb (room / recordBytes) (length rs)) (refused 8) (translated rs ls)
 
 -- the program of the definitions in their order, with the ordered statements' first lines
-abbrev pub programmed : ℕ → List Def → Verdict
+abbrev pub programmed : ℕ → List Def → Decision
 programmed room ds = fitted room (program ds (orderOf ds)) (map (λ (i : ℕ). equationAt ds i .line) (orderOf ds))
 
 -- 6: over mostDefinitions definitions, doubles counted; 7: a model fault stands
-abbrev pub modelled : ℕ → List Numbered → Verdict
+abbrev pub modelled : ℕ → List Numbered → Decision
 modelled room ss =
     let next = programmed room (definitions ss) in
     let faults = ifFaults 7 (modelFaults ss) next in
     cond (ltb mostDefinitions (length (definitions ss))) (refused 6) faults
 
 -- 4: over mostStatements statements; 5: a statement fault stands. By the sheet alone, whatever the reader was
-unfoldable pub judged : ℕ → Sheet → Verdict
+unfoldable pub judged : ℕ → Sheet → Decision
 judged room sheet =
     let next = modelled room (said sheet) in
     let faults = ifFaults 5 (statementFaults sheet) next in
     cond (ltb mostStatements (length sheet)) (refused 4) faults
 
 -- 1: lent fault list under faultRoom bytes; 2: text over textBytes bytes; 3: over textLines lines
-unfoldable pub verdictOf : List ℕ → ℕ → ℕ → Verdict
+unfoldable pub verdictOf : List ℕ → ℕ → ℕ → Decision
 verdictOf text faults room =
     let next = judged room (sheetOf text) in
     let long = cond (ltb textLines (length (linesOf text))) (refused 3) next in
@@ -59,12 +59,12 @@ verdictOf text faults room =
 
 -- ---- the number, and with it a count: records for 0, faults for 5 and 7, else 0
 
-abbrev pub numberOf : Verdict → ℕ
+abbrev pub numberOf : Decision → ℕ
 numberOf (refused n) = n
 numberOf (faulty n fs) = n
 numberOf (translated rs ls) = 0
 
-abbrev pub countOf : Verdict → ℕ
+abbrev pub countOf : Decision → ℕ
 countOf (refused n) = 0
 countOf (faulty n fs) = length fs
 countOf (translated rs ls) = length rs
@@ -72,12 +72,12 @@ countOf (translated rs ls) = length rs
 -- ---- what is written
 
 -- bytes past the written part, and the other buffer, stay as lent
-abbrev pub faultsAfter : Verdict → List ℕ → List ℕ
+abbrev pub faultsAfter : Decision → List ℕ → List ℕ
 faultsAfter (refused n) lent = lent
 faultsAfter (faulty n fs) lent = sets lent 0 (faultList fs)
 faultsAfter (translated rs ls) lent = lent
 
-abbrev pub programAfter : Verdict → List ℕ → List ℕ
+abbrev pub programAfter : Decision → List ℕ → List ℕ
 programAfter (refused n) lent = lent
 programAfter (faulty n fs) lent = lent
 programAfter (translated rs ls) lent = sets lent 0 (programBytes rs)
@@ -89,7 +89,7 @@ pub record Translation : Type 0 where
   pub faults : List ℕ
   pub program : List ℕ
 
-abbrev pub translationOf : Verdict → List ℕ → List ℕ → Translation
+abbrev pub translationOf : Decision → List ℕ → List ℕ → Translation
 translationOf v f p =
     record { number = numberOf v; count = countOf v; faults = faultsAfter v f; program = programAfter v p }
 

@@ -16,10 +16,10 @@ run-requires c κs =
     let test = c .before .before .before .before .before .before in
     let k = test .before in
     let a = S k .args in
-    let told = sym (k .fits2 .ensures) ∙ test .if1 .taken in
+    let fitting = sym (k .fits2 .ensures) ∙ test .if1 .taken in
     fit-sound (a .lines .now) (a .bounds .now) (a .kinds .now) (a .used .now) (a .equated .now) (a .order .now)
     (length (a .args .now)) (length (a .faults .now))
-    (length (a .places .now)) told
+    (length (a .places .now)) fitting
 
 returns : tie.Need-returns
 returns c =
@@ -27,9 +27,9 @@ returns c =
     let test = done .before .before .before .before .before .before .before in
     let k = test .before in
     let a = S k .args in
-    let told = sym (k .fits2 .ensures) ∙ test .if1 .taken in
+    let fitting = sym (k .fits2 .ensures) ∙ test .if1 .taken in
     planned-fit (a .lines .now) (a .bounds .now) (a .kinds .now) (a .args .now) (a .used .now) (a .faults .now)
-    (lent (a .places .now) (a .equated .now) (a .order .now)) told (done .run .ensures)
+    (lent (a .places .now) (a .equated .now) (a .order .now)) fitting (done .run .ensures)
 
 returns-2 : tie.Need-returns-2
 returns-2 c =

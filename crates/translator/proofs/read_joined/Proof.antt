@@ -8,7 +8,7 @@ use lib.ListN.{length, take}
 use lib.Seq.{sets, length-take-le}
 use Rattle.tokens.specs.Held.{heldRow}
 use Rattle.tokens.specs.Row.{rowOf, symbols}
-use Rattle.tokens.specs.Written.{rowEnd, kindsOf, argsOf}
+use Rattle.tokens.specs.Contract.{rowEnd, kindsOf, argsOf}
 use Rattle.tokens.specs.declared.RowEnd.the-variants.{Tokens}
 use Rattle.tokens.proofs.Rows.{row-short}
 use Rattle.tokens.proofs.Answers.{written-room, ends-well}

@@ -9,10 +9,10 @@ use Rattle.deck.proofs.joining.part_len.Statement.{statement}
 use Rattle.deck.proofs.joining.part_len.Tie as tie
 
 -- what the test says of the line
-told : {b : Bool} (c : tie.After-dots-at) → c .dots-at .result ≡ b
+test-is : {b : Bool} (c : tie.After-dots-at) → c .dots-at .result ≡ b
     → dotted (c .before .before .before .args .line .now) ≡ b
 unfolding dotted
-told c t = ap (dotsAt (c .before .before .before .args .line .now)) (sym (c .before .trim .ensures .0))
+test-is c t = ap (dotsAt (c .before .before .before .args .line .now)) (sym (c .before .trim .ensures .0))
     ∙ sym (c .dots-at .ensures) ∙ t
 
 sub-result : tie.Need-sub-result
@@ -27,10 +27,10 @@ sub-result c =
 returns : tie.Need-returns
 returns c =
     let l = c .before .before .before .before .args .line .now in
-    omega (arith, part-dotted l (told (c .before) (c .if1 .taken)), c .before .before .trim .ensures .0)
+    omega (arith, part-dotted l (test-is (c .before) (c .if1 .taken)), c .before .before .trim .ensures .0)
 
 returns-2 : tie.Need-returns-2
-returns-2 c = sym (part-plain (c .before .before .before .before .args .line .now) (told (c .before) (c .if1 .left)))
+returns-2 c = sym (part-plain (c .before .before .before .before .args .line .now) (test-is (c .before) (c .if1 .left)))
 
 pub part-len-spec : {M : Type 1} → statement M
 part-len-spec = tie.close (tie.spec (λ c κs. search needs) (λ c κs. search needs) sub-result returns returns-2)

@@ -8,7 +8,8 @@ use Rattle.model.proofs.equations.collect_equated.Statement.{statement}
 use Rattle.model.proofs.equations.collect_equated.Tie as tie
 
 abbrev Inv-loop : tie.InvT-loop
-Inv-loop n bounds kinds equated₀ count₀ j₀ equated count j = Listing (isEquation bounds kinds) n j count equated₀ equated
+Inv-loop n bounds kinds equated₀ count₀ j₀ equated count j = Listing
+    (isEquation bounds kinds) n j count equated₀ equated
 
 abbrev μ-loop : tie.MeasureT-loop
 μ-loop n bounds kinds equated₀ count₀ j₀ equated count j = n - j

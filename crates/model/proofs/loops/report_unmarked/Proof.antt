@@ -19,7 +19,8 @@ abbrev μ-loop : tie.MeasureT-loop
 loop-holds : tie.Need-loop-holds Inv-loop μ-loop
 loop-holds c =
     let s = c .before .before .before .before .args in
-    reports-first (unmarkedAt (s .marks .now) (s .equated .now) (s .lines .now)) (length (s .equated .now)) (s .faults .now)
+    reports-first (unmarkedAt (s .marks .now) (s .equated .now) (s .lines .now)) (length (s .equated .now))
+    (s .faults .now)
     (unmarked-single (s .marks .now) (s .equated .now) (s .lines .now))
 
 put-fault-requires : tie.Need-put-fault-requires Inv-loop μ-loop

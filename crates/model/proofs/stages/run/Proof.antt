@@ -49,7 +49,8 @@ returns : tie.Need-returns
 returns c =
     let k = c .before .before .before .before .before in
     let a = start k .args in
-    sheeted-many (k .collect .ensures) (a .lines .now) (a .bounds .now) (a .used .now) (a .faults .now) (a .equated .now)
+    sheeted-many (k .collect .ensures) (a .lines .now) (a .bounds .now) (a .used .now) (a .faults .now)
+    (a .equated .now)
     (a .placed .now)
     (c .before .if1 .taken) (c .refusal .ensures)
 

@@ -30,9 +30,9 @@ abbrev N : tie.At-loop Inv-loop μ-loop → ℕ
 N c = c .loop .n
 
 -- what the test says of the byte in the text
-told : {b : Bool} (c : tie.After-is-word Inv-loop μ-loop) → c .is-word .result ≡ b
+test-is : {b : Bool} (c : tie.After-is-word Inv-loop μ-loop) → c .is-word .result ≡ b
     → let a = c .before .before .before in isWord (getD (S a) (A a + N a) 0) ≡ b
-told c t = ap isWord (sym (c .before .byte-at .ensures)) ∙ sym (c .is-word .ensures) ∙ t
+test-is c t = ap isWord (sym (c .before .byte-at .ensures)) ∙ sym (c .is-word .ensures) ∙ t
 
 -- one more
 more : (s : List ℕ) (at n : ℕ) → isWord (getD s (at + n) 0) ≡ true
@@ -49,14 +49,14 @@ loop-holds c =
 loop-again : tie.Need-loop-again Inv-loop μ-loop
 loop-again c =
     let a = c .before .before .before .before in
-    let w = told (c .before) (c .if1 .taken) in
+    let w = test-is (c .before) (c .if1 .taken) in
     let i = inside isWord (S a) (A a + N a) refl w in
     (omega arith, omega (arith, i), more (S a) (A a) (N a) w ∙ a .loop .inv .2)
 
 returns : tie.Need-returns Inv-loop μ-loop
 returns c =
     let a = c .before .before .before .before in
-    let e = run-stop isWord (S a) (A a + N a) (told (c .before) (c .if1 .left)) in
+    let e = run-stop isWord (S a) (A a + N a) (test-is (c .before) (c .if1 .left)) in
     omega (arith, a .loop .inv, ap length e)
 
 returns-2 : tie.Need-returns-2 Inv-loop μ-loop

@@ -32,12 +32,12 @@ abbrev I : tie.At-loop Inv-loop μ-loop → ℕ
 I c = c .loop .i
 
 -- what the test says of the byte in the text
-told : {b : Bool} (c : tie.After-is-digit Inv-loop μ-loop) → c .is-digit .result ≡ b
+test-is : {b : Bool} (c : tie.After-is-digit Inv-loop μ-loop) → c .is-digit .result ≡ b
     → isDigit (getD (S (c .before)) (I (c .before)) 0) ≡ b
-told c t = ap isDigit (sym (c .before .loop .inv .3)) ∙ sym (c .is-digit .ensures) ∙ t
+test-is c t = ap isDigit (sym (c .before .loop .inv .3)) ∙ sym (c .is-digit .ensures) ∙ t
 
 within : (c : tie.Then1 Inv-loop μ-loop) → I (c .before .before) < length (S (c .before .before))
-within c = inside isDigit (S (c .before .before)) _ refl (told (c .before) (c .if1 .taken))
+within c = inside isDigit (S (c .before .before)) _ refl (test-is (c .before) (c .if1 .taken))
 
 loop-holds : tie.Need-loop-holds Inv-loop μ-loop
 loop-holds c = (refl, refl, c .before .before .pre, c .byte-at .ensures)
@@ -52,7 +52,7 @@ loop-again : tie.Need-loop-again Inv-loop μ-loop
 loop-again c =
     let w = c .before in
     let a = w .before .before .before in
-    let d = told (w .before .before) (w .before .if1 .taken) in
+    let d = test-is (w .before .before) (w .before .if1 .taken) in
     let more =
     run-more isDigit (S a) (I a) refl d ∙ ap (λ (x : ℕ). x ∷ digitsAt (S a) (I a + 1)) (sym (a .loop .inv .3)) in (
       sym (run-len isDigit (S a) _ refl d) ∙ a .loop .inv .0,
@@ -66,7 +66,7 @@ loop-again c =
 returns : tie.Need-returns Inv-loop μ-loop
 returns c =
     let a = c .before .before in
-    let d = told (c .before) (c .if1 .left) in
+    let d = test-is (c .before) (c .if1 .left) in
     let value = decimal-stop (a .loop .v) (digitsAt (S a) (I a)) (a .loop .inv .2) (run-stop isDigit (S a) (I a) d)
     ∙ a .loop .inv .1 in
     let end = sym (run-end isDigit (S a) (I a) d) ∙ a .loop .inv .0 in

@@ -55,9 +55,9 @@ tail-of k = k .e .given .0 .1 .1 .1 .0
 abbrev K : tie.After-is-tail → tie.After-e
 K w = w .before .before
 
-told : {b : Bool} (w : tie.After-is-tail) → w .is-tail .result ≡ b
+tail-is : {b : Bool} (w : tie.After-is-tail) → w .is-tail .result ≡ b
     → (isWord (tail-of (K w)) || isPoint (tail-of (K w))) ≡ b
-told w t = sym (w .is-tail .ensures) ∙ t
+tail-is w t = sym (w .is-tail .ensures) ∙ t
 
 returns : tie.Need-returns
 returns c =
@@ -74,7 +74,7 @@ returns-2 c =
     let m = M (X k) in
     c .bad3 .ensures
     ∙ tail-after (S m) (A m) (D m) (m .read-mantissa .ensures) (up-of k) (down-of k) (stop-of k) (tail-of k)
-    (told w (c .before .if2 .taken))
+    (tail-is w (c .before .if2 .taken))
     ∙ found (X k) _ (k .e .given .1)
 
 add-scaled : tie.Need-add-scaled
@@ -99,7 +99,7 @@ returns-4 c =
     let k = K w in
     let m = M (X k) in
     no-tail (S m) (A m) (D m) (m .read-mantissa .ensures) (up-of k) (down-of k) (stop-of k) (tail-of k)
-    (told w (c .before .before .if2 .left))
+    (tail-is w (c .before .before .if2 .left))
     (c .scaled .result) (c .scaled .ensures)
     ∙ found (X k) _ (k .e .given .1)
 

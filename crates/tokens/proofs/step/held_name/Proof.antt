@@ -5,15 +5,15 @@ use Rattle.tokens.proofs.step.held_name.Tie as tie
 
 returns : tie.Need-returns
 returns c =
-    let told = c .before .before in
-    let start = told .before .before in
-    held-name (start .args .name .now) (told .kind-of .result) (c .key-of .result) (start .pre) (told .kind-of .ensures)
+    let kinded = c .before .before in
+    let start = kinded .before .before in
+    held-name (start .args .name .now) (kinded .kind-of .result) (c .key-of .result) (start .pre) (kinded .kind-of .ensures)
     (c .before .if1 .taken) (c .key-of .ensures)
 
 returns-2 : tie.Need-returns-2
 returns-2 c =
-    let told = c .before in
-    held-word (told .before .before .args .name .now) (told .kind-of .result) (told .kind-of .ensures) (c .if1 .left)
+    let kinded = c .before in
+    held-word (kinded .before .before .args .name .now) (kinded .kind-of .result) (kinded .kind-of .ensures) (c .if1 .left)
 
 pub held-name-spec : {M : Type 1} → statement M
 held-name-spec = tie.close (tie.spec (λ c κs. search needs) (λ c κs. search needs) returns returns-2)

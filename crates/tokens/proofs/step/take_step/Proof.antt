@@ -10,7 +10,7 @@ use Rattle.tokens.specs.declared.step.Held.{Held}
 use Rattle.tokens.specs.declared.step.Step.the-variants.{Good}
 use Rattle.tokens.specs.Steps.{stepOf, stepAt}
 use Rattle.tokens.proofs.Sound.{Sound}
-use Rattle.tokens.proofs.Steps.{told-sound, told-step, part-bytes}
+use Rattle.tokens.proofs.Steps.{step-sound, as-step, part-bytes}
 use Rattle.tokens.proofs.step.take_step.Statement.{statement}
 use Rattle.tokens.proofs.step.take_step.Tie as tie
 
@@ -24,7 +24,7 @@ F k = k .before .before .args .from
 -- the step that the token decides
 gives : (k : tie.After-take-cut) (t : Token) → k .take-cut .result .token ≡ t
     → stepOf (S k) t (k .take-cut .result .at) (k .take-cut .result .next) ≡ stepAt (S k) (F k)
-gives k t e = told-step (S k) (F k) (k .take-cut .result) (k .take-cut .ensures) t e
+gives k t e = as-step (S k) (F k) (k .take-cut .result) (k .take-cut .ensures) t e
 
 -- a name's place and length, and what is known of them
 abbrev P : tie.After-t → ℕ
@@ -37,7 +37,7 @@ named-in : (k : tie.After-t) → Sound (S (k .before .before)) (F (k .before .be
     (k .before .before .take-cut .result .next)
 named-in k =
     let c = k .before .before in
-    told-sound (S c) (F c) (c .take-cut .result) (c .take-cut .ensures) (Name (P k) (N k)) (k .t .given .1)
+    step-sound (S c) (F c) (c .take-cut .result) (c .take-cut .ensures) (Name (P k) (N k)) (k .t .given .1)
 
 add-e : tie.Need-add-e
 add-e c = let x = named-in (c .before) in omega (arith, x .0, x .1)

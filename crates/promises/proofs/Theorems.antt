@@ -1,0 +1,270 @@
+-- Every headline, by one citation, in the order of docs/THEOREMS.md. What each states is written out in the definitions
+-- that its type names.
+use Prim.Native.Nat.{ℕ, suc, _+_, _-_, _*_, _^_, _≤_, _<_}
+use mathlib.Core.Path.{_≡_}
+use mathlib.Core.Bool.{Bool, true, false}
+use mathlib.Core.Logic.{_↔_}
+use mathlib.Core.List.{List, [], _∷_, _++_, map, List·Memᴰ}
+use lib.ListN.{length}
+use lib.Ieee.{Float, nan, lt, le}
+use Rattle.limits.specs.Limits.{levels, stackPlaces, faultRoom, programRoom, nameBytes}
+use Rattle.laws.specs.Text.{bytes}
+use Rattle.deck.specs.Lines.{Line, linesOf}
+use Rattle.tokens.specs.Number.{inRange}
+use Rattle.tokens.specs.Symbol.{Symbol, number, name, keyOf, symbolNamed}
+use Rattle.tokens.specs.Row.{rowOf}
+use Rattle.tokens.specs.Values.{RoundedOnce, NumberAt, Name}
+use Rattle.drafts.specs.Tree.{Tree}
+use Rattle.drafts.specs.Items.{postfix, peak}
+use Rattle.grammar.specs.Grammar.{expr, Der}
+use Rattle.grammar.specs.Meaning.{Front, Means, deepest}
+use Rattle.sheet.specs.Reader.{faultsOf, Faulted}
+use Rattle.sheet.specs.Numbers.{faultsFrom, closedOf}
+use Rattle.sheet.specs.StatementMeans.{StatementMeans}
+use Rattle.model.specs.Text.{textDefinitions}
+use Rattle.records.specs.Record.{Rec, programBytes, decoded}
+use Rattle.program.specs.Program.{instrItem}
+use Rattle.translator.specs.declared.Verdict.{Verdict}
+use Rattle.translator.specs.declared.Verdict.the-variants.{Translated}
+use Rattle.translator.specs.Verdict.{translated, verdictOf, numberOf, translation}
+use Rattle.translator.specs.Refusals.{Admitted, Unrefused}
+use Rattle.translator.specs.Rules.{Exactly, Writes}
+use Rattle.translator.specs.Contract.{Translates}
+use Rattle.translator.proofs.Given as given
+use Rattle.evaluator.specs.Judge.{answer, judge}
+use Rattle.evaluator.specs.Evaluate.{refusal, runOutcome, evaluated, started, stepped, RefusedUnwritten}
+use Rattle.floesedge.specs.declared.CVerdict.{CVerdict}
+use Rattle.floesedge.specs.Contract.{TranslatesFixed}
+use Rattle.meaning.specs.Statements.{Solution}
+use Rattle.meaning.specs.Faithful.{saidIn, handedOn, HasSlots, Faithful}
+use Rattle.meaning.specs.ReadSlots.{shapes, SameRead, SameWritten, ReadsStates}
+use Rattle.meaning.specs.Depth.{highest, heightOf}
+use Rattle.meaning.proofs.Acceptance as acceptance
+use Rattle.meaning.proofs.Compares as compares
+use Rattle.meaning.proofs.ReadSlots as slots
+use Rattle.promises.specs.Table.{Trial, trials, shown, wanted, tank, deck as full-deck, loop, Plain}
+use Rattle.promises.specs.Table.{numberFor}
+use Rattle.promises.specs.Demand2.{Decided, DecidedFor}
+use Rattle.promises.specs.Demand3.{Change, NoProgram, Convicts, Local, Unprogrammed, Answered}
+use Rattle.promises.specs.Agreement as agree
+use Rattle.promises.proofs.Table as table
+use Rattle.promises.proofs.Demand1 as demand-one
+use Rattle.promises.proofs.Demand2 as demand-two
+use Rattle.promises.proofs.Demand3 as demand-three
+use Rattle.promises.proofs.Grammar as rows
+use Rattle.promises.proofs.Words as words
+use Rattle.promises.proofs.WallLoss as wall
+use Rattle.promises.proofs.Stack as stack
+use Rattle.promises.proofs.Agreement as agreement
+
+-- ---- the table of tried texts
+
+pub tried : map shown trials ≡ map wanted trials
+tried = table.tried
+
+pub each-trial : (t : Trial) → List·Memᴰ t trials → shown t ≡ wanted t
+each-trial = table.each-trial
+
+pub computed : (heightOf (verdictOf full-deck faultRoom programRoom) ≡ stackPlaces)
+    × (numberFor (bytes tank) ≡ 0) × Plain (bytes tank) × (numberFor loop ≡ 7) × Plain loop
+computed = table.computed
+
+-- ---- demand 1: refusals
+
+pub exactly : (text : List ℕ) (f p : ℕ) → Exactly text f p
+exactly = demand-one.exactly
+
+pub writes : (text f p : List ℕ) → Writes text f p
+writes = demand-one.writes
+
+pub unwritten : (p : List ℕ) (h : Float) (v d : List Float)
+    → RefusedUnwritten v d (evaluated p v d) × RefusedUnwritten v d (started p v d)
+    × RefusedUnwritten v d (stepped p h v d)
+unwritten = demand-one.unwritten
+
+-- ---- demand 2: sorting
+
+pub decided : (text : List ℕ) (f p : ℕ) → Unrefused text f p → Decided text f p
+decided = demand-two.decided
+
+pub decided-for : (text f p f′ p′ : List ℕ) (r : Verdict) → Translates text f p r f′ p′
+    → Unrefused text (length f) (length p) → DecidedFor (textDefinitions text) r f′ p p′
+decided-for = demand-two.decided-for
+
+pub tank-unrefused : Unrefused (bytes tank) faultRoom programRoom
+tank-unrefused = demand-two.tank-unrefused
+
+pub loop-unrefused : Unrefused loop faultRoom programRoom
+loop-unrefused = demand-two.loop-unrefused
+
+-- ---- demand 3: a change stays local
+
+pub local : (pre old new post : List Line) (a b : List ℕ) → Change pre old new post a b → Local pre old new post a b
+local = demand-three.local
+
+pub no-program : (text f p : List ℕ) → Faulted text → NoProgram text f p
+no-program = demand-three.no-program
+
+pub convicts : (text : List ℕ) → Convicts text
+convicts = demand-three.convicts
+
+pub five-exactly : (text : List ℕ) (f p : ℕ) → faultRoom ≤ f → Admitted (verdictOf text f p)
+    → (numberOf (verdictOf text f p) ≡ 5) ↔ Faulted text
+five-exactly = given.five-exactly
+
+pub unprogrammed : (text f p f′ p′ : List ℕ) (r : Verdict) → Faulted text → Translates text f p r f′ p′
+    → Unprogrammed r p p′
+unprogrammed = demand-three.unprogrammed
+
+pub answered : (text f p f′ p′ : List ℕ) (r : Verdict) → faultRoom ≤ length f
+    → Admitted (verdictOf text (length f) (length p)) → Faulted text → Translates text f p r f′ p′
+    → Answered (faultsOf text) r f′ p p′
+answered = demand-three.answered
+
+pub both-faulted : (pre old new post : List Line) (a b : List ℕ) → Change pre old new post a b
+    → (faultsFrom (closedOf pre) ≡ [] → ⊥) → Faulted a × Faulted b
+both-faulted = demand-three.both-faulted
+
+pub both-convicted : (pre old new post : List Line) (a b : List ℕ) → Change pre old new post a b
+    → (faultsFrom (closedOf pre) ≡ [] → ⊥) → (f p : List ℕ) → faultRoom ≤ length f
+    → Admitted (verdictOf a (length f) (length p)) → Admitted (verdictOf b (length f) (length p))
+    → (translation a f p .number ≡ 5) × (translation b f p .number ≡ 5)
+both-convicted = demand-three.both-convicted
+
+pub whole-lines : (pre old new post : List ℕ)
+    → Change (linesOf (pre ++ (10 ∷ []))) (linesOf (old ++ (10 ∷ []))) (linesOf (new ++ (10 ∷ []))) (linesOf post)
+    (pre ++ (10 ∷ (old ++ (10 ∷ post)))) (pre ++ (10 ∷ (new ++ (10 ∷ post))))
+whole-lines = demand-three.whole-lines
+
+pub append-a-card : (x : List ℕ) (last : ℕ) (cards : List ℕ) → (last ≡ 10 → ⊥)
+    → Change (linesOf (x ++ (last ∷ []))) [] (linesOf cards) [] (x ++ (last ∷ [])) ((x ++ (last ∷ [])) ++ (10 ∷ cards))
+append-a-card = demand-three.append-a-card
+
+pub a-card-appended : Change (bytes "A=1" ∷ bytes "B=2" ∷ []) [] (bytes "C=3" ∷ []) [] (bytes "A=1\nB=2")
+    (bytes "A=1\nB=2\nC=3")
+a-card-appended = demand-three.a-card-appended
+
+-- ---- the grammar
+
+pub means : (row : List Symbol) → Means row
+means = rows.means
+
+pub statement-means : (cards : List Line) (closed : Bool) → StatementMeans cards closed
+statement-means = rows.statement-means
+
+pub exception : Front (suc levels) (deepest levels) × (Front levels (deepest levels) → ⊥)
+exception = rows.exception
+
+-- ---- numbers and names
+
+pub rounded-once : (m up down : ℕ) → inRange m up down ≡ true → RoundedOnce m up down
+rounded-once = words.rounded-once
+
+pub row-values : (s : List ℕ) (at : ℕ) (x : Float) → List·Memᴰ (record { symbol = number x; at = at }) (rowOf s .tokens)
+    → NumberAt s at x
+row-values = words.row-values
+
+pub key-iff : (x y : List ℕ) → Name x → Name y → (keyOf x ≡ keyOf y) ↔ (x ≡ y)
+key-iff = words.key-iff
+
+pub name-iff : (x y : List ℕ) (j k : ℕ) → Name x → Name y → symbolNamed x ≡ name j → symbolNamed y ≡ name k
+    → (j ≡ k) ↔ (x ≡ y)
+name-iff = words.name-iff
+
+pub key-small : (x : List ℕ) → Name x → keyOf x < 256 ^ nameBytes
+key-small = words.key-small
+
+-- ---- the wall loss
+
+pub wall-loss : (text : List ℕ) (faults room : ℕ) (rs : List Rec) (ls : List ℕ)
+    → verdictOf text faults room ≡ translated rs ls → Faithful text (programBytes rs)
+wall-loss = wall.wall-loss
+
+pub translated-text : (text f p : List ℕ) (k : ℕ) (f′ p′ : List ℕ) → Translates text f p (Translated k) f′ p′
+    → Faithful text (handedOn k p′)
+translated-text = wall.translated-text
+
+pub linked-text : (text f p : List ℕ) (r : CVerdict) (f′ p′ : List ℕ) → TranslatesFixed text f p r f′ p′ → r .number ≡ 0
+    → Faithful text (handedOn (r .count) p′)
+linked-text = wall.linked-text
+
+pub solutions-alike : (text program : List ℕ) → Faithful text program
+    → (v d w e : List Float) → HasSlots v d → HasSlots w e → SameRead (shapes program) v w
+    → (v₁ d₁ w₁ e₁ : List Float) → Solution (saidIn text) v d v₁ d₁ → Solution (saidIn text) w e w₁ e₁
+    → SameWritten (shapes program) (runOutcome (answer 0 0) v₁ d₁) (runOutcome (answer 0 0) w₁ e₁)
+solutions-alike = wall.solutions-alike
+
+pub reads-states : (p : List ℕ) (v d w e : List Float) → refusal p v d ≡ answer 0 0 → refusal p w e ≡ answer 0 0
+    → SameRead (shapes p) v w → ReadsStates p v d w e
+reads-states = slots.reads-states
+
+pub nan-compares : (x : Float) → (lt nan x ≡ false) × (lt x nan ≡ false) × (le nan x ≡ false) × (le x nan ≡ false)
+nan-compares = compares.nan-compares
+
+-- ---- acceptance
+
+pub accepted : (text : List ℕ) (faults room : ℕ) (rs : List Rec) (ls : List ℕ)
+    → verdictOf text faults room ≡ translated rs ls → judge (decoded (programBytes rs)) ≡ answer 0 0
+accepted = acceptance.accepted
+
+-- ---- the stack
+
+pub depth : (d : ℕ) (w : List Symbol) (e : Tree) → Der expr (levels - d) w e → peak e ≤ 3 + 4 * (levels - d)
+depth = stack.depth
+
+pub depth-height : (d : ℕ) (w : List Symbol) (e : Tree) (slot : ℕ → ℕ) → Der expr (levels - d) w e
+    → highest 0 (map (instrItem slot) (postfix e)) ≤ 3 + 4 * (levels - d)
+depth-height = stack.depth-height
+
+pub enough : (text : List ℕ) (f p : ℕ) → heightOf (verdictOf text f p) ≤ stackPlaces
+enough = stack.enough
+
+pub filled : heightOf (verdictOf full-deck faultRoom programRoom) ≡ stackPlaces
+filled = stack.filled
+
+-- ---- agreement, crate by crate
+
+pub bits : agree.Bits
+bits = agreement.bits
+
+pub deck : agree.Deck
+deck = agreement.deck
+
+pub tokens : agree.Tokens
+tokens = agreement.tokens
+
+pub drafts : agree.Drafts
+drafts = agreement.drafts
+
+pub grammar : agree.Grammar
+grammar = agreement.grammar
+
+pub order : agree.Order
+order = agreement.order
+
+pub records : agree.Records
+records = agreement.records
+
+pub sheet : agree.Sheet
+sheet = agreement.sheet
+
+pub model : agree.Model
+model = agreement.model
+
+pub programs : agree.Program
+programs = agreement.programs
+
+pub evaluator : agree.Evaluator
+evaluator = agreement.evaluator
+
+pub translator : agree.Translator
+translator = agreement.translator
+
+pub listing : agree.Listing
+listing = agreement.listing
+
+pub library : agree.Library
+library = agreement.library
+
+pub counting : agree.Counting
+counting = agreement.counting

@@ -1,0 +1,125 @@
+-- The texts of the paper's table that are marked P, with their verdicts and listings; and the texts that are computed
+-- for the stack and for demand 2.
+use Prim.Native.Nat.{ℕ}
+use Prim.Native.String.{String}
+use mathlib.Core.Path.{_≡_}
+use mathlib.Core.List.{List, [], _∷_, _++_}
+use lib.Ieee.{Float, binary64, ofBits}
+use Rattle.laws.specs.Text.{bytes}
+use Rattle.limits.specs.Limits.{faultRoom, programRoom}
+use Rattle.deck.specs.Faults.{Place, at-start, at-token, at-end}
+use Rattle.sheet.specs.Sheet.{Fault, said}
+use Rattle.sheet.specs.Reader.{sheetOf}
+use Rattle.model.specs.Faults.{faults21, nameFaults}
+use Rattle.model.specs.Text.{textDefinitions}
+use Rattle.records.specs.declared.Instr.the-variants.{Constant, Initial, Value, Slot, Sub, Mul, Neg, Limit, Store}
+use Rattle.records.specs.declared.Instr.the-variants.{Deriv}
+use Rattle.records.specs.Record.{Rec, rec}
+use Rattle.translator.specs.Verdict.{Decision, faulty, translated, verdictOf, numberOf}
+use Rattle.listing_text.specs.Listing.{listing}
+
+-- the numbers that the texts have, by their bits
+abbrev zero64 : Float
+zero64 = ofBits binary64 0
+
+abbrev one64 : Float
+one64 = ofBits binary64 0x3ff0_0000_0000_0000
+
+abbrev two64 : Float
+two64 = ofBits binary64 0x4000_0000_0000_0000
+
+abbrev three64 : Float
+three64 = ofBits binary64 0x4008_0000_0000_0000
+
+abbrev fault : ℕ → ℕ → Place → Fault
+fault l c p = record { line = l; code = c; place = p }
+
+-- a trial: a text, its verdict with the fault list or the records and the first lines of the ordered statements, and
+-- its listing
+pub record Trial : Type 0 where
+  pub text : String
+  pub verdict : Decision
+  pub listing : String
+
+abbrev trial : String → Decision → String → Trial
+trial t v l = record { text = t; verdict = v; listing = l }
+
+-- the tank
+abbrev pub tank : String
+tank = "* TANK\nPARAM K=2\nQ=K*H\nH=INTGRL(1,F-Q)\nF=LIMIT(0,3,TIME)\n"
+
+-- its 15 records: the constant, the initial, then Q (line 3), F (line 5) and H (line 4). The slots are 1 K, 2 Q, 3 H, 4
+-- F
+abbrev tankRecords : List Rec
+tankRecords =
+    rec 2 (Constant 1 two64)
+    ∷ rec 4 (Initial 3 one64)
+    ∷ rec 3 (Slot 1)
+    ∷ rec 3 (Slot 3)
+    ∷ rec 3 Mul
+    ∷ rec 3 (Store 2)
+    ∷ rec 5 (Value zero64)
+    ∷ rec 5 (Value three64)
+    ∷ rec 5 (Slot 0)
+    ∷ rec 5 Limit
+    ∷ rec 5 (Store 4)
+    ∷ rec 4 (Slot 4)
+    ∷ rec 4 (Slot 2)
+    ∷ rec 4 Sub
+    ∷ rec 4 (Deriv 3)
+    ∷ []
+
+-- the texts marked P, and the listing's second text
+unfoldable pub trials : List Trial
+trials =
+    trial "" (translated [] []) "OK 0\n"
+    ∷ trial tank (translated tankRecords (3 ∷ 5 ∷ 4 ∷ [])) "OK 15\n3\n5\n4\n"
+    ∷ trial "* TANK\nPARAM K=2\nQ=K*\nH=INTGRL(1,F-Q)\nF=LIMIT(0,3,TIME)\n"
+    (faulty 5 (fault 3 18 at-end ∷ [])) "NO 5\n3 18\n"
+    ∷ trial "X=INTGRL(1,-X)"
+    (translated (rec 1 (Initial 1 one64) ∷ rec 1 (Slot 1) ∷ rec 1 Neg ∷ rec 1 (Deriv 1) ∷ []) (1 ∷ [])) "OK 4\n1\n"
+    ∷ trial "A=A+1" (faulty 7 (fault 1 24 at-start ∷ [])) "NO 7\n1 24\n"
+    ∷ trial "A=B\nB=A\nC=1" (faulty 7 (fault 1 24 at-start ∷ fault 2 24 at-start ∷ [])) "NO 7\n1 24\n2 24\n"
+    ∷ trial "A=B\nB=A\nD=A" (faulty 7 (fault 1 24 at-start ∷ fault 2 24 at-start ∷ fault 3 24 at-start ∷ []))
+    "NO 7\n1 24\n2 24\n3 24\n"
+    ∷ trial "CONST A=1,A=2" (faulty 7 (fault 1 21 at-start ∷ [])) "NO 7\n1 21\n"
+    ∷ trial "X=INTGRL(Y,1)\nY=2" (faulty 7 (fault 1 23 at-start ∷ [])) "NO 7\n1 23\n"
+    ∷ trial "A=1..." (faulty 5 (fault 1 11 at-end ∷ [])) "NO 5\n1 11\n"
+    ∷ trial "A=3...\n*2"
+    (translated (rec 1 (Value three64) ∷ rec 1 (Value two64) ∷ rec 1 Mul ∷ rec 1 (Store 1) ∷ []) (1 ∷ [])) "OK 4\n1\n"
+    ∷ trial "ABCDEFG=1" (faulty 5 (fault 1 15 (at-token 0) ∷ [])) "NO 5\n1 15\n"
+    ∷ trial "ABCDEF=1" (translated (rec 1 (Value one64) ∷ rec 1 (Store 1) ∷ []) (1 ∷ [])) "OK 2\n1\n"
+    ∷ []
+
+-- a text's verdict, with the room that the listing program lends, and its listing
+pub record Shown : Type 0 where
+  pub verdict : Decision
+  pub listing : List ℕ
+
+abbrev pub shown : Trial → Shown
+shown r = record { verdict = verdictOf (bytes (r .text)) faultRoom programRoom; listing = listing (bytes (r .text)) }
+
+abbrev pub wanted : Trial → Shown
+wanted r = record { verdict = r .verdict; listing = bytes (r .listing) }
+
+-- ---- further texts
+
+-- 0+0*INSW(0,0, sixteen times inside one another, and 0+0*0 in the last: a statement of four lines
+abbrev pub deck : List ℕ
+deck =
+    bytes "A=0+0*INSW(0,0,0+0*INSW(0,0,0+0*INSW(0,0,0+0*INSW(0,0,0+0*INSW(0,0,...\n"
+    ++ bytes "0+0*INSW(0,0,0+0*INSW(0,0,0+0*INSW(0,0,0+0*INSW(0,0,0+0*INSW(0,0,...\n"
+    ++ bytes "0+0*INSW(0,0,0+0*INSW(0,0,0+0*INSW(0,0,0+0*INSW(0,0,0+0*INSW(0,0,...\n"
+    ++ bytes "0+0*INSW(0,0,0+0*0))))))))))))))))\n"
+
+-- a loop, and a statement that hangs behind it
+abbrev pub loop : List ℕ
+loop = bytes "A=B\nB=A\nD=A\n"
+
+-- no fault 21, and none of 22 and 23
+abbrev pub Plain : List ℕ → Type 0
+Plain text = (faults21 [] (said (sheetOf text)) ≡ []) × (nameFaults (textDefinitions text) (textDefinitions text) ≡ [])
+
+-- the number of a text's verdict, with the room that the listing program lends
+abbrev pub numberFor : List ℕ → ℕ
+numberFor text = numberOf (verdictOf text faultRoom programRoom)
