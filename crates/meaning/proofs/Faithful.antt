@@ -56,8 +56,8 @@ module _ {text : List ℕ} {room : ℕ} {rs : List Rec} (c : Clear text room rs)
   -- its statements have one solution
   one : (v d v₁ d₁ v₂ d₂ : List Float) → Solution ss v d v₁ d₁ → Solution ss v d v₂ d₂ → (v₁ ≡ v₂) × (d₁ ≡ d₂)
   one v d v₁ d₁ v₂ d₂ a b =
-      only-one ds (once c) v d v₁ d₁ v₂ d₂ (solved-of ss (once c) v d v₁ d₁ a) (solved-of ss (once c) v d v₂ d₂ b)
-      (orderOf ds) (ordered c)
+      only-one ds (once c) (orderOf ds) (ordered c) (programBytes rs) (read-back c ∙ ap instrs (c .written))
+      (not-refused c) v d v₁ d₁ v₂ d₂ (solved-of ss (once c) v d v₁ d₁ a) (solved-of ss (once c) v d v₂ d₂ b)
 
   -- ---- with two buffers that are long enough
   module _ (v d : List Float) (roomy : HasSlots v d) where

@@ -112,12 +112,12 @@ begun-marked q u =
 
 module _ (p : List ℕ) (v d : List Float) (accepted : refusal p v d ≡ answer 0 0) where
   -- evaluating is the run
-  evaluated-ran : evaluated p v d ≡ runOutcome (answer 0 0) (ran p v d .values) (ran p v d .derivs)
+  pub evaluated-ran : evaluated p v d ≡ runOutcome (answer 0 0) (ran p v d .values) (ran p v d .derivs)
   unfolding evaluated
   evaluated-ran = rw accepted
 
   -- what is read is not set
-  read-apart : (s : ℕ) → (s ≡ 0) ⊎ StateSlot (shapes p) s → SetSlot (shapes p) s → ⊥
+  pub read-apart : (s : ℕ) → (s ≡ 0) ⊎ StateSlot (shapes p) s → SetSlot (shapes p) s → ⊥
   read-apart s r z =
       let a = refusal-judge p v d (ap (λ (x : Answer). x .number) accepted) in
       let g = granted {r = answer 0 0} (sym accepted) refl in

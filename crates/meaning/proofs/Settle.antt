@@ -1,11 +1,11 @@
 -- Equations worked out one after the other: what holds then. `slot` gives each name its slot.
 use Prim.Native.Nat.{ℕ, _<_}
-use mathlib.Core.Path.{_≡_, refl, sym, _∙_}
+use mathlib.Core.Path.{_≡_, refl, sym, ap, ap₂, _∙_}
 use mathlib.Core.Bool.{Bool, true, false}
 use mathlib.Core.List.{List, [], _∷_, _++_, append-assoc}
 use native.Mathlib.Omega.{arith}
 use lib.ListN.{length, getD, set, length-set}
-use lib.Seq.{getD-set-same, getD-set-other}
+use lib.Seq.{getD-set-same, getD-set-other, set-getD}
 use lib.Ieee.{Float, nan}
 use Rattle.laws.specs.Every.{Every}
 use Rattle.laws.proofs.Every.{every-map}
@@ -198,3 +198,27 @@ module _ (slot : ℕ → ℕ) where
         settled es _ _ (f .1)
             (every-map _ _ es (λ (g : Equation) a. (rw lv (a .0), rw ld (a .1))) (w .1)),
       )
+
+  -- ---- what is at rest
+
+  -- a value that stands there already changes nothing
+  stored-rests : (b : Bool) (s : ℕ) (x : Float) (v d : List Float) → Meets v d b s x → stored b s x v ≡ v
+  stored-rests false s x v d h = ap (set v s) (sym h) ∙ set-getD v s nan
+  stored-rests true s x v d h = refl
+
+  -- nor does a derivative
+  derived-rests : (b : Bool) (s : ℕ) (x : Float) (v d : List Float) → Meets v d b s x → derived b s x d ≡ d
+  derived-rests false s x v d h = refl
+  derived-rests true s x v d h = ap (set d s) (sym h) ∙ set-getD d s nan
+
+  -- AT REST: equations that hold, worked out again in any order, change nothing
+  pub at-rest : (es : List Equation) (v d : List Float) → Every (Met v d) es
+      → (valuesAfter es v ≡ v) × (derivsAfter es v d ≡ d)
+  unfolding valuesAfter derivsAfter
+  at-rest [] v d h = (refl, refl)
+  at-rest (e ∷ es) v d h =
+      let x = valueOf slot v (e .tree) in
+      let same-v = stored-rests (e .held) (slot (e .key)) x v d (h .0) in
+      let same-d = derived-rests (e .held) (slot (e .key)) x v d (h .0) in
+      let rest = at-rest es v d (h .1) in
+      (ap (valuesAfter es) same-v ∙ rest .0, ap₂ (derivsAfter es) same-v same-d ∙ rest .1)

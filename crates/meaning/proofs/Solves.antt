@@ -71,7 +71,7 @@ module _ (ds : List Def) where
       ⊎-elim (λ (e : i ≡ m). rw e (a .0)) (λ e. every-eqn P q (a .1) i (omega (arith, once-other i m e))) (eq-or-ne i m)
 
   -- what holds of each place in q
-  to-eqn : (P : Equation → Type 0) (q : List ℕ) → ((i : ℕ) → i ∈ q → P (eqn i)) → Every P (map eqn q)
+  pub to-eqn : (P : Equation → Type 0) (q : List ℕ) → ((i : ℕ) → i ∈ q → P (eqn i)) → Every P (map eqn q)
   unfolding count
   to-eqn P [] f = tt
   to-eqn P (i ∷ q) f = (f i (omega (arith, once-same i)), to-eqn P q (λ m h. f m (omega arith)))

@@ -140,7 +140,8 @@ module _ {m : ℕ} {starts used array out : List ℕ} {r : Sorted} (v : Sorts m 
       let reported : Reported (loops inOrder (take m equated) lines) 0 c faults faults′ = rw front at u in
       let count : c ≡ length (loops inOrder (take m equated) lines) = omega (arith, reported .behind) in
       rw (lt-ltb (length inOrder) (length (take m equated)) (omega (arith, q .long, sorts-count e)))
-      (outcome-same slots filled (z ∙ ap (refused 7) count) (reported .written) (ap (lent places equated) sorts-content))
+      (outcome-same slots filled (z ∙ ap (refused 7) count) (reported .written)
+      (ap (lent places equated) sorts-content))
 
   -- all are placed
   pub sorts-whole : {equated : List ℕ} {k : ℕ} (n : ℕ) (lines faults : List ℕ) → r ≡ Placed k → m ≤ k

@@ -1,69 +1,27 @@
 -- Demand 3: what a change of one run of lines leaves as it was, and what a statement fault means.
-use Prim.Native.Nat.{ℕ, _+_, _≤_}
+use Prim.Native.Nat.{ℕ, _+_, _*_, _≤_}
 use mathlib.Core.Path.{_≡_, refl, sym, ap, ap₂, _∙_}
-use mathlib.Core.List.{List, [], _∷_, _++_, append-assoc, append-nil}
+use mathlib.Core.List.{List, [], _∷_, _++_, map, append-assoc, append-nil}
 use native.Mathlib.Omega.{arith}
-use borrow.Author.Tests.{ltb-false}
-use lib.ListN.{length, length-append}
-use lib.Seq.{sets}
-use Rattle.limits.specs.Limits.{faultRoom, mostStatements}
+use lib.ListN.{length, take, length-append, length-map}
+use Rattle.limits.specs.Limits.{faultBytes, faultRoom}
 use Rattle.laws.specs.Text.{bytes}
 use Rattle.laws.proofs.Concats.{none-left}
-use Rattle.laws.proofs.Sets.{sets-back}
 use Rattle.deck.specs.Lines.{Line, linesOf}
+use Rattle.deck.specs.Later.{Ends}
 use Rattle.deck.proofs.Cutting.{lines-append, lines-lacking}
-use Rattle.sheet.specs.Sheet.{faultList}
+use Rattle.sheet.specs.Sheet.{Fault, faultList}
 use Rattle.sheet.specs.Reader.{sheetOf, faultsOf, Faulted}
-use Rattle.sheet.specs.Numbers.{faultsFrom, closedOf}
-use Rattle.sheet.proofs.Entries.{list-length}
+use Rattle.sheet.specs.Numbers.{statementsIn, faultsFrom, closedOf, faultLine, laterFault}
+use Rattle.sheet.proofs.Entries.{list-front, list-tail}
 use Rattle.sheet.proofs.Changes.{front-statements, front-sheets, front-faults, tail-statements, tail-sheets}
 use Rattle.sheet.proofs.Changes.{tail-faults, fresh-there}
 use Rattle.translator.specs.declared.Verdict.{Verdict}
-use Rattle.translator.specs.Contract.{numberIn, Reply, replyOf, Translates}
-use Rattle.translator.specs.Verdict.{Decision, verdictOf, numberOf, programAfter, Translation}
-use Rattle.translator.specs.Verdict.{translationOf, translation}
+use Rattle.translator.specs.Contract.{Translates}
+use Rattle.translator.specs.Verdict.{verdictOf, Translation, translation}
 use Rattle.translator.specs.Refusals.{Admitted}
-use Rattle.translator.proofs.Counted.{faults-few}
-use Rattle.translator.proofs.Verdicts.{by-number}
-use Rattle.translator.proofs.Given.{sizes, is-five, faulted-ind}
-use Rattle.promises.specs.Demand3.{Change, Afresh, TailKept, NoProgram, Convicts, Local, Unprogrammed}
-use Rattle.promises.specs.Demand3.{Answered}
-
--- A STATEMENT FAULT means verdict 5 with the list of them all, and the program as lent
-pub convicts : (text : List ℕ) → Convicts text
-unfolding translation
-convicts text f p room ok w = ap (λ (v : Decision). translationOf v f p) (is-five text (length f) (length p) room ok w)
-
--- A STATEMENT FAULT means no program, whatever is lent and whatever the text's size
-pub no-program : (text f p : List ℕ) → Faulted text → NoProgram text f p
-unfolding translation
-no-program text f p w =
-    record {
-      as-lent = faulted-ind (λ (v : Decision). programAfter v p ≡ p) (λ n _. refl) (λ n x xs _. refl) text (length f)
-          (length p) w;
-      not-zero = faulted-ind (λ (v : Decision). numberOf v ≡ 0 → ⊥) (λ n z e. omega arith) (λ n x xs z e. omega arith)
-          text (length f) (length p) w;
-    }
-
--- from a later line on where both readings begin afresh
-same-from : {pre old new post : List Line} {a b : List ℕ} → Change pre old new post a b → (p q : List Line)
-    → post ≡ p ++ q → Afresh pre old new p → TailKept pre old new p q a b
-unfolding sheetOf
-same-from {pre} {old} {new} {post} c p q e w =
-    let cut : (run : List Line) → pre ++ (run ++ post) ≡ (pre ++ (run ++ p)) ++ q =
-    λ run. rw e (simp append-assoc) in
-    let lines-old = c .lines-old ∙ cut old in
-    let lines-new = c .lines-new ∙ cut new in
-    record {
-      same =
-          record {
-            statements =
-                rw (lines-old, lines-new) (tail-statements pre (old ++ p) (new ++ p) q (w .in-old) (w .in-new));
-            sheet = rw (lines-old, lines-new) (tail-sheets pre (old ++ p) (new ++ p) q (w .in-old) (w .in-new));
-            faults = rw (lines-old, lines-new) (tail-faults pre (old ++ p) (new ++ p) q (w .in-old) (w .in-new));
-          };
-      shift = simp length-append (omega arith);
-    }
+use Rattle.translator.proofs.Replies.{no-program, convicts, answered}
+use Rattle.promises.specs.Demand3.{Change, Afresh, TailKept, Local, ListEnds, LocalFor}
 
 -- DEMAND 3. Two texts that differ in one run of lines
 pub local : (pre old new post : List Line) (a b : List ℕ) → Change pre old new post a b → Local pre old new post a b
@@ -76,44 +34,72 @@ local pre old new post a b c =
             sheet = rw (c .lines-old, c .lines-new) (front-sheets pre (old ++ post) (new ++ post));
             faults = rw (c .lines-old, c .lines-new) (front-faults pre (old ++ post) (new ++ post));
           };
-      tail = same-from c;
+      tail = same-from;
       place = λ p l q e d. record { in-old = fresh-there pre old p l d; in-new = fresh-there pre new p l d };
       no-program-old = λ w f p. no-program a f p w;
       no-program-new = λ w f p. no-program b f p w;
       verdict-old = convicts a;
       verdict-new = convicts b;
     }
+  where
+    -- from a later line on where both readings begin afresh
+    same-from : (p q : List Line) → post ≡ p ++ q → Afresh pre old new p → TailKept pre old new p q a b
+    same-from p q e w =
+        let cut : (run : List Line) → pre ++ (run ++ post) ≡ (pre ++ (run ++ p)) ++ q =
+        λ run. rw e (simp append-assoc) in
+        let lines-old = c .lines-old ∙ cut old in
+        let lines-new = c .lines-new ∙ cut new in
+        record {
+          same =
+              record {
+                statements =
+                    rw (lines-old, lines-new) (tail-statements pre (old ++ p) (new ++ p) q (w .in-old) (w .in-new));
+                sheet = rw (lines-old, lines-new) (tail-sheets pre (old ++ p) (new ++ p) q (w .in-old) (w .in-new));
+                faults = rw (lines-old, lines-new) (tail-faults pre (old ++ p) (new ++ p) q (w .in-old) (w .in-new));
+              };
+          shift = simp length-append (omega arith);
+        }
 
--- ---- as callers meet a statement fault
-
--- WHAT A CALLER HAS of a text with a statement fault, whatever was lent: no program
-pub unprogrammed : (text f p f′ p′ : List ℕ) (r : Verdict) → Faulted text → Translates text f p r f′ p′
-    → Unprogrammed r p p′
-unprogrammed text f p f′ p′ r w t =
-    let o = by-number text f p t in
-    let none = no-program text f p w in
+-- DEMAND 3, FROM THE ENTRY: the lists that the callers of two such texts find
+pub local-for : (pre old new post : List Line) (a b : List ℕ) → Change pre old new post a b
+    → (f p g s : List ℕ) → faultRoom ≤ length f → faultRoom ≤ length g
+    → Admitted (verdictOf a (length f) (length p)) → Admitted (verdictOf b (length g) (length s))
+    → Faulted a → Faulted b
+    → (r t : Verdict) (f′ p′ g′ s′ : List ℕ) → Translates a f p r f′ p′ → Translates b g s t g′ s′
+    → LocalFor pre old new post a b r f′ p p′ t g′ s s′
+local-for pre old new post a b c f p g s room-old room-new ok-old ok-new w-old w-new r t f′ p′ g′ s′ m n =
+    let both = local pre old new post a b c in
+    let first = answered a f p f′ p′ r room-old ok-old w-old m in
+    let second = answered b g s g′ s′ t room-new ok-new w-new n in
+    let begins = both .front .faults in
     record {
-      untouched = ap (λ (z : Translation). z .program) o ∙ none .as-lent;
-      not-translated = λ k e. none .not-zero (sym (ap (λ (z : Translation). z .number) o) ∙ ap numberIn e);
+      answer-old = first;
+      answer-new = second;
+      front = (
+        list-front (faultsOf a) _ (begins .rest-old) f′ (begins .old) (first .listed),
+        list-front (faultsOf b) _ (begins .rest-new) g′ (begins .new) (second .listed),
+      );
+      tail = λ l q e fresh. let faults = both .tail l q e fresh .same .faults in (
+        ends (faultsOf a) _ q _ f′ (faults .old) (first .listed),
+        ends (faultsOf b) _ q _ g′ (faults .new) (second .listed),
+      );
     }
-
--- .. and with room, of a text that is not refused for size: 5 and the list in full
-pub answered : (text f p f′ p′ : List ℕ) (r : Verdict) → faultRoom ≤ length f
-    → Admitted (verdictOf text (length f) (length p)) → Faulted text → Translates text f p r f′ p′
-    → Answered (faultsOf text) r f′ p p′
-answered text f p f′ p′ r room ok w t =
-    let o = t ∙ ap (λ (v : Decision). replyOf v f p) (is-five text (length f) (length p) room ok w) in
-    let fs = faultsOf text in
-    let written : f′ ≡ sets f 0 (faultList fs) = ap (λ (z : Reply). z .faults) o in
-    let few = faults-few (sheetOf text) in
-    let most = ltb-false mostStatements (length (sheetOf text)) (sizes text (length f) (length p) room ok .2) in
-    let long = list-length fs in
-    let fits : 0 + length (faultList fs) ≤ length f = omega arith in
-    record {
-      answer = ap (λ (z : Reply). z .answer) o;
-      listed = rw (written, ← long) (sets-back f 0 (faultList fs) fits);
-      untouched = ap (λ (z : Reply). z .program) o;
-    }
+  where
+    -- a list of faults that ends with the tail, as it stands in a buffer
+    ends : (fs front : List Fault) (q : List Line) (k : ℕ) (buffer : List ℕ)
+        → Ends faultLine laterFault front (faultsFrom (statementsIn q)) k fs
+        → take (faultBytes * length fs) buffer ≡ faultList fs
+        → ListEnds fs (faultsFrom (statementsIn q)) k buffer
+    ends fs front q k buffer e listed =
+        let tail = faultsFrom (statementsIn q) in
+        let raised = map (laterFault k) tail in
+        let before = front ++ e .between in
+        let long : length raised ≡ length tail = length-map tail (laterFault k) in
+        record {
+          before = before;
+          many = ap length (e .parts) ∙ length-append before raised ∙ ap (λ n. length before + n) long;
+          entries = rw long at (list-tail fs before raised buffer (e .parts) listed);
+        }
 
 -- ---- both texts of a change
 module _ (pre old new post : List Line) (a b : List ℕ) (c : Change pre old new post a b)

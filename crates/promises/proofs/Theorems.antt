@@ -30,7 +30,9 @@ use Rattle.translator.specs.Verdict.{translated, verdictOf, numberOf, translati
 use Rattle.translator.specs.Refusals.{Admitted, Unrefused}
 use Rattle.translator.specs.Rules.{Exactly, Writes}
 use Rattle.translator.specs.Contract.{Translates}
+use Rattle.translator.specs.Replies.{Answered, Unprogrammed, NoProgram, Convicts}
 use Rattle.translator.proofs.Given as given
+use Rattle.translator.proofs.Replies as replies
 use Rattle.evaluator.specs.Judge.{answer, judge}
 use Rattle.evaluator.specs.Evaluate.{refusal, runOutcome, evaluated, started, stepped, RefusedUnwritten}
 use Rattle.floesedge.specs.declared.CVerdict.{CVerdict}
@@ -45,7 +47,7 @@ use Rattle.meaning.proofs.ReadSlots as slots
 use Rattle.promises.specs.Table.{Trial, trials, shown, wanted, tank, deck as full-deck, loop, Plain}
 use Rattle.promises.specs.Table.{numberFor}
 use Rattle.promises.specs.Demand2.{Decided, DecidedFor}
-use Rattle.promises.specs.Demand3.{Change, NoProgram, Convicts, Local, Unprogrammed, Answered}
+use Rattle.promises.specs.Demand3.{Change, Local, LocalFor}
 use Rattle.promises.specs.Agreement as agree
 use Rattle.promises.proofs.Table as table
 use Rattle.promises.proofs.Demand1 as demand-one
@@ -102,11 +104,19 @@ loop-unrefused = demand-two.loop-unrefused
 pub local : (pre old new post : List Line) (a b : List ℕ) → Change pre old new post a b → Local pre old new post a b
 local = demand-three.local
 
+pub local-for : (pre old new post : List Line) (a b : List ℕ) → Change pre old new post a b
+    → (f p g s : List ℕ) → faultRoom ≤ length f → faultRoom ≤ length g
+    → Admitted (verdictOf a (length f) (length p)) → Admitted (verdictOf b (length g) (length s))
+    → Faulted a → Faulted b
+    → (r t : Verdict) (f′ p′ g′ s′ : List ℕ) → Translates a f p r f′ p′ → Translates b g s t g′ s′
+    → LocalFor pre old new post a b r f′ p p′ t g′ s s′
+local-for = demand-three.local-for
+
 pub no-program : (text f p : List ℕ) → Faulted text → NoProgram text f p
-no-program = demand-three.no-program
+no-program = replies.no-program
 
 pub convicts : (text : List ℕ) → Convicts text
-convicts = demand-three.convicts
+convicts = replies.convicts
 
 pub five-exactly : (text : List ℕ) (f p : ℕ) → faultRoom ≤ f → Admitted (verdictOf text f p)
     → (numberOf (verdictOf text f p) ≡ 5) ↔ Faulted text
@@ -114,12 +124,12 @@ five-exactly = given.five-exactly
 
 pub unprogrammed : (text f p f′ p′ : List ℕ) (r : Verdict) → Faulted text → Translates text f p r f′ p′
     → Unprogrammed r p p′
-unprogrammed = demand-three.unprogrammed
+unprogrammed = replies.unprogrammed
 
 pub answered : (text f p f′ p′ : List ℕ) (r : Verdict) → faultRoom ≤ length f
     → Admitted (verdictOf text (length f) (length p)) → Faulted text → Translates text f p r f′ p′
-    → Answered (faultsOf text) r f′ p p′
-answered = demand-three.answered
+    → Answered 5 (faultsOf text) r f′ p p′
+answered = replies.answered
 
 pub both-faulted : (pre old new post : List Line) (a b : List ℕ) → Change pre old new post a b
     → (faultsFrom (closedOf pre) ≡ [] → ⊥) → Faulted a × Faulted b

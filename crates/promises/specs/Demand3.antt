@@ -1,22 +1,19 @@
 -- Demand 3: of a text's lines one run is changed. What the reading, the sheet and the statement faults keep, and what a
 -- statement fault means.
-use Prim.Native.Nat.{ℕ, _+_, _*_, _≤_}
+use Prim.Native.Nat.{ℕ, _+_, _*_}
 use mathlib.Core.Path.{_≡_}
 use mathlib.Core.Bool.{false}
-use mathlib.Core.List.{List, [], _∷_, _++_}
-use lib.ListN.{length, take}
-use lib.Seq.{sets}
-use Rattle.limits.specs.Limits.{faultBytes, faultRoom}
+use mathlib.Core.List.{List, [], _∷_, _++_, map}
+use lib.ListN.{length, take, drop}
+use Rattle.limits.specs.Limits.{faultBytes}
 use Rattle.deck.specs.Lines.{Line, linesOf, dotted}
 use Rattle.deck.specs.Later.{later, laterReport, Begin, Share}
 use Rattle.sheet.specs.Sheet.{Fault, faultList}
 use Rattle.sheet.specs.Reader.{sheetOf, faultsOf, Faulted}
 use Rattle.sheet.specs.Numbers.{statementsIn, sheetFrom, faultsFrom, closedOf, statementsOf, FreshBehind}
 use Rattle.sheet.specs.Numbers.{statementLine, reportLine, faultLine, laterFault}
-use Rattle.translator.specs.Refusals.{Admitted}
 use Rattle.translator.specs.declared.Verdict.{Verdict}
-use Rattle.translator.specs.declared.Verdict.the-variants.{Faulty, Translated}
-use Rattle.translator.specs.Verdict.{verdictOf, translation}
+use Rattle.translator.specs.Replies.{Answered, NoProgram, Convicts}
 
 -- ---- the two texts
 
@@ -53,22 +50,6 @@ pub record TailKept (pre old new p q : List Line) (a b : List ℕ) : Type 0 wher
   -- so all numbers are shifted alike: by the lines that the run gained or lost
   pub shift : length (pre ++ (old ++ p)) + length new ≡ length (pre ++ (new ++ p)) + length old
 
--- no program is written, and the verdict is not 0
-pub record NoProgram (text f p : List ℕ) : Type 0 where
-  pub as-lent : translation text f p .program ≡ p
-  pub not-zero : translation text f p .number ≡ 0 → ⊥
-
--- a statement fault means verdict 5 with the list of them all, of a text that is not refused for size and with room
-abbrev pub Convicts : List ℕ → Type 0
-Convicts text = (f p : List ℕ) → faultRoom ≤ length f → Admitted (verdictOf text (length f) (length p)) → Faulted text
-    → translation text f p
-    ≡ record {
-      number = 5;
-      count = length (faultsOf text);
-      faults = sets f 0 (faultList (faultsOf text));
-      program = p;
-    }
-
 -- DEMAND 3, of two texts that differ in one run of lines
 pub record Local (pre old new post : List Line) (a b : List ℕ) : Type 0 where
   pub front : FrontKept pre a b
@@ -83,15 +64,29 @@ pub record Local (pre old new post : List Line) (a b : List ℕ) : Type 0 where
   pub verdict-old : Convicts a
   pub verdict-new : Convicts b
 
--- ---- what a caller of the translator has of a text with a statement fault, who lent p and finds p′
+-- ---- as the callers of both texts meet it, who find the lists f′ and g′ in their buffers
 
--- whatever was lent: the program as lent, and no answer that names one
-pub record Unprogrammed (r : Verdict) (p p′ : List ℕ) : Type 0 where
-  pub untouched : p′ ≡ p
-  pub not-translated : (k : ℕ) → r ≡ Translated k → ⊥
+-- a list in a buffer, of the faults fs, begins with the entries of the faults `front`
+abbrev pub ListBegins : List Fault → List ℕ → Type 0
+ListBegins front f′ = take (faultBytes * length front) f′ ≡ faultList front
 
--- with room and not refused for size: 5 and the count, the list in full at the front of f′, the program as lent
-pub record Answered (fs : List Fault) (r : Verdict) (f′ p p′ : List ℕ) : Type 0 where
-  pub answer : r ≡ Faulty 5 (length fs)
-  pub listed : take (faultBytes * length fs) f′ ≡ faultList fs
-  pub untouched : p′ ≡ p
+-- .. and ends with those of the faults `tail`, line numbers raised by n
+pub record ListEnds (fs tail : List Fault) (n : ℕ) (f′ : List ℕ) : Type 0 where
+  pub before : List Fault
+  pub many : length fs ≡ length before + length tail
+  pub entries : take (faultBytes * length tail) (drop (faultBytes * length before) f′)
+      ≡ faultList (map (laterFault n) tail)
+
+-- DEMAND 3, FROM THE ENTRY: both texts have a statement fault; p and s were lent for their programs
+pub record LocalFor (pre old new post : List Line) (a b : List ℕ) (r : Verdict) (f′ p p′ : List ℕ) (t : Verdict)
+    (g′ s s′ : List ℕ) : Type 0 where
+  -- both answers are 5 with the count, the list in full, the program as lent
+  pub answer-old : Answered 5 (faultsOf a) r f′ p p′
+  pub answer-new : Answered 5 (faultsOf b) t g′ s s′
+  -- both lists begin with the same bytes: those of the statements closed before the change
+  pub front : ListBegins (faultsFrom (closedOf pre)) f′ × ListBegins (faultsFrom (closedOf pre)) g′
+  -- from every later line on where both readings begin afresh they end with the same but that line numbers are raised,
+  -- in each by the count of lines before that one
+  pub tail : (l q : List Line) → post ≡ l ++ q → Afresh pre old new l
+      → ListEnds (faultsOf a) (faultsFrom (statementsIn q)) (length (pre ++ (old ++ l))) f′
+      × ListEnds (faultsOf b) (faultsFrom (statementsIn q)) (length (pre ++ (new ++ l))) g′

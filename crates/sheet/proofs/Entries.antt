@@ -1,10 +1,10 @@
 -- The bytes of a fault, and of a list of faults.
-use Prim.Native.Nat.{ℕ, _+_, _*_, _/_, _%_, _<_}
-use mathlib.Core.Path.{_≡_, refl, sym, ap, ap₂, _≡⟨_⟩_, _∎}
+use Prim.Native.Nat.{ℕ, _+_, _*_, _/_, _%_, _≤_, _<_}
+use mathlib.Core.Path.{_≡_, refl, sym, ap, ap₂, _∙_, _≡⟨_⟩_, _∎}
 use mathlib.Core.List.{List, [], _∷_, _++_}
 use native.Mathlib.Omega.{arith}
-use lib.ListN.{length, length-append}
-use lib.Seq.{sets}
+use lib.ListN.{length, take, drop, length-append}
+use lib.Seq.{sets, take-take, take-at, take-add, drop-append-seam}
 use Rattle.limits.specs.Limits.{faultBytes}
 use Rattle.laws.specs.Lists.{concat-map}
 use Rattle.laws.proofs.Lists.{concat-append}
@@ -49,3 +49,35 @@ list-length (f ∷ fs) =
 pub list-append : (x y : List Fault) → faultList (x ++ y) ≡ faultList x ++ faultList y
 unfolding faultList
 list-append x y = concat-append faultEntry x y
+
+-- ---- a list at the front of a buffer
+
+-- it begins with the entries of its first faults
+pub list-front : (fs x y : List Fault) (b : List ℕ) → fs ≡ x ++ y → take (faultBytes * length fs) b ≡ faultList fs
+    → take (faultBytes * length x) b ≡ faultList x
+list-front fs x y b e h =
+    let long = ap length e ∙ length-append x y in
+    let few : faultBytes * length x ≤ faultBytes * length fs = omega arith in
+    take (faultBytes * length x) b ≡⟨ sym (take-take (faultBytes * length x) (faultBytes * length fs) b few) ⟩
+    take (faultBytes * length x) (take (faultBytes * length fs) b) ≡⟨
+    ap (take (faultBytes * length x)) (h ∙ ap faultList e ∙ list-append x y) ⟩
+    take (faultBytes * length x) (faultList x ++ faultList y) ≡⟨
+    take-at (faultList x) (faultList y) (faultBytes * length x) (list-length x) ⟩
+    faultList x ∎
+
+-- it ends with those of its last faults
+pub list-tail : (fs x y : List Fault) (b : List ℕ) → fs ≡ x ++ y → take (faultBytes * length fs) b ≡ faultList fs
+    → take (faultBytes * length y) (drop (faultBytes * length x) b) ≡ faultList y
+list-tail fs x y b e h =
+    let n = faultBytes * length x in
+    let m = faultBytes * length y in
+    let long = ap length e ∙ length-append x y in
+    let sum : faultBytes * length fs ≡ n + m = omega arith in
+    let parts : take n b ++ take m (drop n b) ≡ faultList x ++ faultList y =
+    sym (take-add n m b) ∙ ap (λ k. take k b) (sym sum) ∙ h ∙ ap faultList e ∙ list-append x y in
+    let front : take n b ≡ faultList x = list-front fs x y b e h in
+    let same : faultList x ++ take m (drop n b) ≡ faultList x ++ faultList y = rw front at parts in
+    take m (drop n b) ≡⟨ sym (drop-append-seam (faultList x) (take m (drop n b))) ⟩
+    drop (length (faultList x)) (faultList x ++ take m (drop n b)) ≡⟨ ap (drop (length (faultList x))) same ⟩
+    drop (length (faultList x)) (faultList x ++ faultList y) ≡⟨ drop-append-seam (faultList x) (faultList y) ⟩
+    faultList y ∎

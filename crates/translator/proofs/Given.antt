@@ -15,15 +15,15 @@ use Rattle.deck.specs.Lines.{linesOf}
 use Rattle.sheet.specs.Sheet.{Numbered, Fault, said}
 use Rattle.sheet.specs.Reader.{sheetOf, faultsOf, Faulted}
 use Rattle.model.specs.Definitions.{definitions}
-use Rattle.model.specs.Faults.{faults24, modelFaults, GoodOrder, orderOf}
+use Rattle.model.specs.Faults.{faults21, nameFaults, faults24, modelFaults, GoodOrder, orderOf}
 use Rattle.model.specs.Text.{textDefinitions, lineAt}
 use Rattle.model.specs.Orders.{NoOrder}
 use Rattle.model.proofs.NoModelFault.{order-good}
 use Rattle.model.proofs.Orders.{no-loops}
 use Rattle.records.specs.Record.{Rec}
 use Rattle.program.specs.Program.{program}
-use Rattle.translator.specs.Verdict.{Decision, refused, faulty, translated, ifFaults, fitted, programmed, modelled}
-use Rattle.translator.specs.Verdict.{judged, verdictOf, numberOf}
+use Rattle.translator.specs.Verdict.{Decision, refused, faulty, translated, ifFaults, fitted, programmed}
+use Rattle.translator.specs.Verdict.{modelled, judged, verdictOf, numberOf}
 use Rattle.translator.specs.Refusals.{Admitted, Unrefused}
 
 -- a test that would give another number fails
@@ -158,11 +158,33 @@ module _ (text : List ℕ) (f p : ℕ) (w : Unrefused text f p) where
 -- a program's verdict is 0 or 8
 pub fitted-number : (room : ℕ) (rs : List Rec) (ls : List ℕ) → numberOf (fitted room rs ls) ≡ 7 → ⊥
 fitted-number room rs ls =
-    cond-ind (λ (v : Decision). numberOf v ≡ 7 → ⊥) (ltb mostRecords (length rs) || ltb (room / recordBytes) (length rs))
-    (refused 8) (translated rs ls)
+    cond-ind (λ (v : Decision). numberOf v ≡ 7 → ⊥)
+    (ltb mostRecords (length rs) || ltb (room / recordBytes) (length rs)) (refused 8) (translated rs ls)
     (λ _ e. omega arith) (λ _ e. omega arith)
 
 -- ---- with an order or without
+
+-- no earlier refusal where the number is 0 or 7 and there is no fault 21, 22 or 23
+pub unrefused : (text : List ℕ) (f p : ℕ) → faultRoom ≤ f
+    → (numberOf (verdictOf text f p) ≡ 0) ⊎ (numberOf (verdictOf text f p) ≡ 7)
+    → faults21 [] (said (sheetOf text)) ≡ [] → nameFaults (textDefinitions text) (textDefinitions text) ≡ []
+    → Unrefused text f p
+unrefused text f p room c doubles nameless =
+    let other : (k : ℕ) → 0 < k → k < 7 → numberOf (verdictOf text f p) ≡ k → ⊥ =
+    λ k a b h. ⊎-elim (λ z. omega arith) (λ z. omega arith) c in
+    record {
+      room = room;
+      size =
+          record {
+            not-two = other 2 (omega arith) (omega arith);
+            not-three = other 3 (omega arith) (omega arith);
+            not-four = other 4 (omega arith) (omega arith);
+          };
+      not-five = other 5 (omega arith) (omega arith);
+      not-six = other 6 (omega arith) (omega arith);
+      no-double = doubles;
+      no-nameless = nameless;
+    }
 
 -- faults stand, or none do
 some-or-none : (fs : List Fault) → ((n : ℕ) (v : Decision) → ifFaults n fs v ≡ faulty n fs) ⊎ (fs ≡ [])

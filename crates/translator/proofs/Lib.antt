@@ -11,5 +11,6 @@ mod Writing
 mod Rooms
 pub mod Verdicts
 pub mod Given
+pub mod Replies
 pub mod Agreement
 pub mod Rules

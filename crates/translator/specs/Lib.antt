@@ -5,3 +5,4 @@ pub mod Rules
 -- as code holds it
 pub mod Contract
 pub mod Working
+pub mod Replies
