@@ -8,8 +8,7 @@ use borrow.Author.Tests.{eqb-true}
 use lib.Dec.{eqb}
 use lib.Ieee.{Float}
 use Rattle.laws.proofs.Tests.{cond-ind}
-use Rattle.tokens.specs.Symbol.{CONST, PARAM, INCON, INTGRL, TIME, INSW, LIMIT, COMPAR, Symbol, mark, number, name}
-use Rattle.tokens.specs.Symbol.{word}
+use Rattle.tokens.specs.Symbol.{CONSTANTS, INTGRL, TIME, INSW, LIMIT, COMPAR, Symbol, mark, number, name, word}
 use Rattle.drafts.specs.Tree.{Two, plus, minus, times, over, compar, Three, Tree, value, named, time}
 use Rattle.drafts.specs.Drafts.{Draft, drafted}
 use Rattle.grammar.specs.Look.{next, rest, byteOf, Op, none, op, addOp, mulOp, signed}
@@ -100,9 +99,7 @@ unfolding shapeOf
 shaped (mark b) = cond-ind (λ h. Shaped h (mark b)) (eqb b 40) Paren NoFactor (λ e. ap mark (eqb-true b 40 e)) λ e. tt
 shaped (number x) = bare-value
 shaped (name k) = bare-name
-shaped (word CONST) = tt
-shaped (word PARAM) = tt
-shaped (word INCON) = tt
+shaped (word CONSTANTS) = tt
 shaped (word INTGRL) = tt
 shaped (word TIME) = bare-time
 shaped (word INSW) = new-triple
@@ -129,9 +126,7 @@ unfolding startOf
 known (mark b) = tt
 known (number x) = refl
 known (name k) = refl
-known (word CONST) = tt
-known (word PARAM) = tt
-known (word INCON) = tt
+known (word CONSTANTS) = tt
 known (word INTGRL) = refl
 known (word TIME) = tt
 known (word INSW) = tt

@@ -11,6 +11,7 @@ use lib.ListN.{length, getD, set, drop, length-drop, length-append, length-map}
 use lib.Seq.{sets}
 use Rattle.laws.proofs.Sets.{sets-append}
 use Rattle.tokens.specs.Symbol.{Symbol}
+use Rattle.tokens.specs.Kinds.{lastKind}
 use Rattle.tokens.specs.Held.{heldRow}
 use Rattle.tokens.proofs.Holding.{held-length}
 use Rattle.grammar.specs.declared.expressions.Part.{Part}
@@ -89,7 +90,7 @@ pub place-is : (ks us : List ℕ) (i : ℕ) → length us ≡ length ks → i �
 place-is ks us i q le = let a = length-drop i (heldRow ks us) in let b = held-length ks us q in omega arith
 
 -- a test of the mark that stands there
-mark-at : (ks us : List ℕ) (i b : ℕ) → length us ≡ length ks → 10 < b
+mark-at : (ks us : List ℕ) (i b : ℕ) → length us ≡ length ks → lastKind < b
     → eqb (byteOf (next (drop i (heldRow ks us)))) b ≡ eqb (getD ks i 0) b
 mark-at ks us i b even h =
     ap (λ (t : Symbol). eqb (byteOf t) b) (token-at ks us i even) ∙ mark-test (getD ks i 0) (getD us i 0) b h
@@ -214,7 +215,7 @@ module _ {ks us : List ℕ} where
   -- at a mark, or else
   pub meets-mark : {A : Type 0} {i p : ℕ} {l u : List ℕ} {r : Part} {l₁ u₁ : List ℕ} {x : List Symbol → Res A}
       (y : List Symbol → Res A) (b : ℕ)
-      → length us ≡ length ks → 10 < b → getD ks i 0 ≡ b → Meets ks us x i p l u r l₁ u₁
+      → length us ≡ length ks → lastKind < b → getD ks i 0 ≡ b → Meets ks us x i p l u r l₁ u₁
       → Meets ks us (λ s. when (eqb (byteOf (next s)) b) (λ _. x s) (λ _. y s)) i p l u r l₁ u₁
   meets-mark {i = i} {x = x} y b even h e g =
       meets-by (λ s. when (eqb (byteOf (next s)) b) (λ _. x s) (λ _. y s))
@@ -222,7 +223,7 @@ module _ {ks us : List ℕ} where
 
   pub meets-else : {A : Type 0} {i p : ℕ} {l u : List ℕ} {r : Part} {l₁ u₁ : List ℕ} {y : List Symbol → Res A}
       (x : List Symbol → Res A) (b : ℕ)
-      → length us ≡ length ks → 10 < b → (getD ks i 0 ≡ b → ⊥) → Meets ks us y i p l u r l₁ u₁
+      → length us ≡ length ks → lastKind < b → (getD ks i 0 ≡ b → ⊥) → Meets ks us y i p l u r l₁ u₁
       → Meets ks us (λ s. when (eqb (byteOf (next s)) b) (λ _. x s) (λ _. y s)) i p l u r l₁ u₁
   meets-else {i = i} {y = y} x b even h e g =
       meets-by (λ s. when (eqb (byteOf (next s)) b) (λ _. x s) (λ _. y s))
@@ -230,11 +231,11 @@ module _ {ks us : List ℕ} where
 
   -- behind a mark that must stand next, or a stop
   pub meets-need : {A : Type 0} {i p : ℕ} {l u : List ℕ} {r : Part} {l₁ u₁ : List ℕ} {k : List Symbol → Res A} (b : ℕ)
-      → length us ≡ length ks → 10 < b → getD ks i 0 ≡ b → Meets ks us k (i + 1) p l u r l₁ u₁
+      → length us ≡ length ks → lastKind < b → getD ks i 0 ≡ b → Meets ks us k (i + 1) p l u r l₁ u₁
       → Meets ks us (λ s. need b s k) i p l u r l₁ u₁
   meets-need b even h e g = meets-mark (stop 18) b even h e (meets-rest g)
 
   pub meets-shut : {A : Type 0} {i p : ℕ} {l u : List ℕ} (k : List Symbol → Res A) (b : ℕ) → length us ≡ length ks
-      → i ≤ length ks → 10 < b
+      → i ≤ length ks → lastKind < b
       → (getD ks i 0 ≡ b → ⊥) → Meets ks us (λ s. need b s k) i p l u (stopped 18 i) l u
   meets-shut k b even le h e = meets-else (λ s. k (rest s)) b even h e (meets-stop even le 18)

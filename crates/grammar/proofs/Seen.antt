@@ -10,7 +10,8 @@ use lib.Dec.{eqb}
 use lib.Ieee.{Float, binary64, ofBits}
 use lib.ListN.{length, getD, drop, List·getD-eq-default}
 use Rattle.laws.proofs.Tests.{lt-or-ge}
-use Rattle.tokens.specs.Symbol.{mark}
+use Rattle.tokens.specs.Symbol.{CONSTANTS, INTGRL, TIME, INSW, LIMIT, COMPAR, mark}
+use Rattle.tokens.specs.Kinds.{wordKind, lastKind}
 use Rattle.tokens.specs.Held.{symbolOf, heldRow}
 use Rattle.tokens.proofs.Holding.{held-at}
 use Rattle.grammar.specs.declared.faces.Face.{Face}
@@ -32,38 +33,34 @@ token-at ks us i h = next-at (heldRow ks us) i ∙ held-at ks us i h
 pub stands : (ks : List ℕ) (i : ℕ) → (getD ks i 0 ≡ 0 → ⊥) → i < length ks
 stands ks i h = ⊎-elim (λ l. l) (λ g. absurd (h (List·getD-eq-default ks 0 g))) (lt-or-ge i (length ks))
 
--- what holds of the eleven low kinds, and of those above, holds of each
-pub by-kind : (P : ℕ → Type 0) → P 0 → P 1 → P 2 → P 3 → P 4 → P 5 → P 6 → P 7 → P 8 → P 9 → P 10
-    → ((k : ℕ) → 10 < k → P k) → (k : ℕ) → P k
-by-kind P a b c d e f g h i j l m zero = a
-by-kind P a b c d e f g h i j l m (suc zero) = b
-by-kind P a b c d e f g h i j l m (suc (suc zero)) = c
-by-kind P a b c d e f g h i j l m (suc (suc (suc zero))) = d
-by-kind P a b c d e f g h i j l m (suc (suc (suc (suc zero)))) = e
-by-kind P a b c d e f g h i j l m (suc (suc (suc (suc (suc zero))))) = f
-by-kind P a b c d e f g h i j l m (suc (suc (suc (suc (suc (suc zero)))))) = g
-by-kind P a b c d e f g h i j l m (suc (suc (suc (suc (suc (suc (suc zero))))))) = h
-by-kind P a b c d e f g h i j l m (suc (suc (suc (suc (suc (suc (suc (suc zero)))))))) = i
-by-kind P a b c d e f g h i j l m (suc (suc (suc (suc (suc (suc (suc (suc (suc zero))))))))) = j
-by-kind P a b c d e f g h i j l m (suc (suc (suc (suc (suc (suc (suc (suc (suc (suc zero)))))))))) = l
-by-kind P a b c d e f g h i j l m (suc (suc (suc (suc (suc (suc (suc (suc (suc (suc (suc k))))))))))) =
-    m _ (omega arith)
+-- what holds of the nine low kinds, and of those above, holds of each
+pub by-kind : (P : ℕ → Type 0) → P 0 → P 1 → P 2 → P 3 → P 4 → P 5 → P 6 → P 7 → P 8
+    → ((k : ℕ) → lastKind < k → P k) → (k : ℕ) → P k
+by-kind P a b c d e f g h i j zero = a
+by-kind P a b c d e f g h i j (suc zero) = b
+by-kind P a b c d e f g h i j (suc (suc zero)) = c
+by-kind P a b c d e f g h i j (suc (suc (suc zero))) = d
+by-kind P a b c d e f g h i j (suc (suc (suc (suc zero)))) = e
+by-kind P a b c d e f g h i j (suc (suc (suc (suc (suc zero))))) = f
+by-kind P a b c d e f g h i j (suc (suc (suc (suc (suc (suc zero)))))) = g
+by-kind P a b c d e f g h i j (suc (suc (suc (suc (suc (suc (suc zero))))))) = h
+by-kind P a b c d e f g h i j (suc (suc (suc (suc (suc (suc (suc (suc zero)))))))) = i
+by-kind P a b c d e f g h i j (suc (suc (suc (suc (suc (suc (suc (suc (suc k))))))))) = j _ (omega arith)
 
 -- above them stands the mark
-high : (k a : ℕ) → 10 < k → symbolOf k a ≡ mark k
-high k a h = rw (lt-ltb 10 k h)
+high : (k a : ℕ) → lastKind < k → symbolOf k a ≡ mark k
+high k a h = rw (lt-ltb lastKind k h)
 
 -- a test of a mark is a test of its kind
-pub mark-test : (k a b : ℕ) → 10 < b → eqb (byteOf (symbolOf k a)) b ≡ eqb k b
+pub mark-test : (k a b : ℕ) → lastKind < b → eqb (byteOf (symbolOf k a)) b ≡ eqb k b
 unfolding byteOf
 mark-test k a b lt =
     by-kind (λ k. eqb (byteOf (symbolOf k a)) b ≡ eqb k b) refl (low 1 (omega arith)) (low 2 (omega arith))
     (low 3 (omega arith))
     (low 4 (omega arith)) (low 5 (omega arith)) (low 6 (omega arith)) (low 7 (omega arith)) (low 8 (omega arith))
-    (low 9 (omega arith))
-    (low 10 (omega arith)) (λ k h. rw (high k a h)) k
+    (λ k h. rw (high k a h)) k
   where
-    low : (n : ℕ) → n ≤ 10 → eqb 0 b ≡ eqb n b
+    low : (n : ℕ) → n ≤ lastKind → eqb 0 b ≡ eqb n b
     low n h = ne-eqb 0 b (λ z. omega arith) ∙ sym (ne-eqb n b (λ z. omega arith))
 
 -- operators
@@ -84,7 +81,7 @@ Noted a NoFactor = Unit {0}
 
 noted : (k a : ℕ) → Noted a (shapeOf (symbolOf k a))
 unfolding shapeOf drafted
-noted k a = by-kind (λ k. Noted a (shapeOf (symbolOf k a))) tt refl refl tt tt tt tt refl tt tt tt
+noted k a = by-kind (λ k. Noted a (shapeOf (symbolOf k a))) tt refl refl tt tt refl tt tt tt
     (λ k h. rw (high k a h) (go (eqb k 40))) k
   where
     go : (t : Bool) → Noted a (cond t Paren NoFactor)
@@ -106,8 +103,8 @@ Faced k Nothing = Unit {0}
 faced : (k a : ℕ) → Faced k (faceOf (shapeOf (symbolOf k a)))
 unfolding shapeOf
 faced k a =
-    by-kind (λ k. Faced k (faceOf (shapeOf (symbolOf k a)))) tt (some 0) (some 1) tt tt tt tt (some 6) (some 7) (some 8)
-    (some 9)
+    by-kind (λ k. Faced k (faceOf (shapeOf (symbolOf k a)))) tt (some 0) (some 1) tt tt (some 4) (some 5) (some 6)
+    (some 7)
     (λ k h. rw (high k a h) (go k (eqb k 40) refl)) k
   where
     some : (n : ℕ) → suc n ≡ 0 → ⊥
@@ -122,24 +119,23 @@ pub face-noted : (k a : ℕ) {f : Face} → f ≡ faceOf (shapeOf (symbolOf k a)
 face-noted k a q = subst (λ (f : Face). Faced k f) (sym q) (faced k a)
 
 -- and every other kind begins none
-pub no-face : (k a : ℕ) → (k ≡ 1 → ⊥) → (k ≡ 2 → ⊥) → (k ≡ 7 → ⊥) → (k ≡ 40 → ⊥) → (k ≡ 8 → ⊥) → (k ≡ 9 → ⊥)
-    → (k ≡ 10 → ⊥) → Nothing ≡ faceOf (shapeOf (symbolOf k a))
+pub no-face : (k a : ℕ) → (k ≡ 1 → ⊥) → (k ≡ 2 → ⊥) → (k ≡ wordKind TIME → ⊥) → (k ≡ 40 → ⊥) → (k ≡ wordKind INSW → ⊥)
+    → (k ≡ wordKind LIMIT → ⊥) → (k ≡ wordKind COMPAR → ⊥) → Nothing ≡ faceOf (shapeOf (symbolOf k a))
 unfolding shapeOf
 no-face k a =
     by-kind
-    (λ k. (k ≡ 1 → ⊥) → (k ≡ 2 → ⊥) → (k ≡ 7 → ⊥) → (k ≡ 40 → ⊥) → (k ≡ 8 → ⊥) → (k ≡ 9 → ⊥) → (k ≡ 10 → ⊥)
+    (λ k. (k ≡ 1 → ⊥) → (k ≡ 2 → ⊥) → (k ≡ 5 → ⊥) → (k ≡ 40 → ⊥) → (k ≡ 6 → ⊥) → (k ≡ 7 → ⊥) → (k ≡ 8 → ⊥)
     → Nothing ≡ faceOf (shapeOf (symbolOf k a)))
-    (λ m₁ m₂ m₇ m₀ m₈ m₉ m. refl) (λ m₁ m₂ m₇ m₀ m₈ m₉ m. absurd (m₁ refl)) (λ m₁ m₂ m₇ m₀ m₈ m₉ m. absurd (m₂ refl))
-    (λ m₁ m₂ m₇ m₀ m₈ m₉ m. refl) (λ m₁ m₂ m₇ m₀ m₈ m₉ m. refl) (λ m₁ m₂ m₇ m₀ m₈ m₉ m. refl)
-    (λ m₁ m₂ m₇ m₀ m₈ m₉ m. refl)
-    (λ m₁ m₂ m₇ m₀ m₈ m₉ m. absurd (m₇ refl)) (λ m₁ m₂ m₇ m₀ m₈ m₉ m. absurd (m₈ refl))
-    (λ m₁ m₂ m₇ m₀ m₈ m₉ m. absurd (m₉ refl))
-    (λ m₁ m₂ m₇ m₀ m₈ m₉ m. absurd (m refl)) (λ k h m₁ m₂ m₇ m₀ m₈ m₉ m. rw (high k a h, ne-eqb k 40 m₀)) k
+    (λ m₁ m₂ m₅ m₀ m₆ m₇ m₈. refl) (λ m₁ m₂ m₅ m₀ m₆ m₇ m₈. absurd (m₁ refl)) (λ m₁ m₂ m₅ m₀ m₆ m₇ m₈. absurd (m₂ refl))
+    (λ m₁ m₂ m₅ m₀ m₆ m₇ m₈. refl) (λ m₁ m₂ m₅ m₀ m₆ m₇ m₈. refl)
+    (λ m₁ m₂ m₅ m₀ m₆ m₇ m₈. absurd (m₅ refl)) (λ m₁ m₂ m₅ m₀ m₆ m₇ m₈. absurd (m₆ refl))
+    (λ m₁ m₂ m₅ m₀ m₆ m₇ m₈. absurd (m₇ refl)) (λ m₁ m₂ m₅ m₀ m₆ m₇ m₈. absurd (m₈ refl))
+    (λ k h m₁ m₂ m₅ m₀ m₆ m₇ m₈. rw (high k a h, ne-eqb k 40 m₀)) k
 
 -- what a start tells of the two numbers
 abbrev Started : ℕ → ℕ → Start → Type 0
-Started k a Constants = (3 ≤ k) × (k ≤ 5)
-Started k a Integral = k ≡ 6
+Started k a Constants = k ≡ wordKind CONSTANTS
+Started k a Integral = k ≡ wordKind INTGRL
 Started k a (Named n) = (k ≡ 2) × (n ≡ a)
 Started k a (Valued x) = (k ≡ 1) × (x ≡ ofBits binary64 a)
 Started k a Other = Unit {0}
@@ -147,9 +143,8 @@ Started k a Other = Unit {0}
 started : (k a : ℕ) → Started k a (startOf (symbolOf k a))
 unfolding startOf
 started k a =
-    by-kind (λ k. Started k a (startOf (symbolOf k a))) tt (refl, refl) (refl, refl) (omega arith, omega arith)
-    (omega arith, omega arith)
-    (omega arith, omega arith) refl tt tt tt tt (λ k h. rw (high k a h) tt) k
+    by-kind (λ k. Started k a (startOf (symbolOf k a))) tt (refl, refl) (refl, refl) refl refl tt tt tt tt
+    (λ k h. rw (high k a h) tt) k
 
 -- a name, a number and INTGRL are known by their kinds
 module _ {A : Type 0} (k a : ℕ) where
@@ -183,11 +178,12 @@ module _ {A : Type 0} (k a : ℕ) where
       go (Valued v) h = absurd (n (h .0))
       go Other h = refl
 
-  pub is-integral : (x y : Unit {0} → Res A) → k ≡ 6 → byIntegral (startOf (symbolOf k a)) x y ≡ x tt
+  pub is-integral : (x y : Unit {0} → Res A) → k ≡ wordKind INTGRL → byIntegral (startOf (symbolOf k a)) x y ≡ x tt
   unfolding startOf
   is-integral x y e = rw e
 
-  pub no-integral : (x y : Unit {0} → Res A) → (k ≡ 6 → ⊥) → byIntegral (startOf (symbolOf k a)) x y ≡ y tt
+  pub no-integral : (x y : Unit {0} → Res A) → (k ≡ wordKind INTGRL → ⊥)
+      → byIntegral (startOf (symbolOf k a)) x y ≡ y tt
   no-integral x y n = go (startOf (symbolOf k a)) (started k a)
     where
       go : (p : Start) → Started k a p → byIntegral p x y ≡ y tt
@@ -197,28 +193,22 @@ module _ {A : Type 0} (k a : ℕ) where
       go (Valued v) h = refl
       go Other h = refl
 
--- what begins a statement: a name, one of the three words before constants, or nothing
+-- what begins a statement: a name, a word before constants, or nothing
 pub start-name : (k a : ℕ) → k ≡ 2 → startOf (symbolOf k a) ≡ Named a
 unfolding startOf
 start-name k a e = rw e
 
-pub start-words : (k a : ℕ) → 3 ≤ k → k ≤ 5 → startOf (symbolOf k a) ≡ Constants
+pub start-words : (k a : ℕ) → k ≡ wordKind CONSTANTS → startOf (symbolOf k a) ≡ Constants
 unfolding startOf
-start-words k a =
-    by-kind (λ k. 3 ≤ k → k ≤ 5 → startOf (symbolOf k a) ≡ Constants) (λ p q. absurd (omega arith))
-    (λ p q. absurd (omega arith))
-    (λ p q. absurd (omega arith)) (λ p q. refl) (λ p q. refl) (λ p q. refl) (λ p q. absurd (omega arith))
-    (λ p q. absurd (omega arith))
-    (λ p q. absurd (omega arith)) (λ p q. absurd (omega arith)) (λ p q. absurd (omega arith))
-    (λ k h p q. absurd (omega arith)) k
+start-words k a e = rw e
 
 pub start-none : {A : Type 0} (k a : ℕ) (c : Unit {0} → Res A) (n : ℕ → Res A) (z : Res A) → (k ≡ 2 → ⊥)
-    → (3 ≤ k → k ≤ 5 → ⊥)
+    → (k ≡ wordKind CONSTANTS → ⊥)
     → byStart (startOf (symbolOf k a)) c (λ _. z) n (λ _. z) (λ _. z) ≡ z
 start-none k a c n z p q = go (startOf (symbolOf k a)) (started k a)
   where
     go : (s : Start) → Started k a s → byStart s c (λ _. z) n (λ _. z) (λ _. z) ≡ z
-    go Constants h = absurd (q (h .0) (h .1))
+    go Constants h = absurd (q h)
     go Integral h = refl
     go (Named m) h = absurd (p (h .0))
     go (Valued v) h = refl

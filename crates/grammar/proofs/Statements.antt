@@ -8,7 +8,8 @@ use lib.Ieee.{binary64, toBits}
 use lib.ListN.{length, getD, set, length-set, drop, length-drop}
 use Rattle.laws.proofs.Tests.{for-suc}
 use Rattle.limits.specs.Limits.{levels}
-use Rattle.tokens.specs.Symbol.{Symbol}
+use Rattle.tokens.specs.Symbol.{CONSTANTS, INTGRL, Symbol}
+use Rattle.tokens.specs.Kinds.{wordKind}
 use Rattle.tokens.specs.Held.{heldRow}
 use Rattle.tokens.proofs.Holding.{held-length}
 use Rattle.grammar.specs.declared.expressions.Part.{Part}
@@ -352,17 +353,17 @@ module _ {ks us : List ℕ} {i p m : ℕ} {l u : List ℕ} (key : ℕ) (w : Read
 
 module _ {ks us : List ℕ} {p k : ℕ} {l u : List ℕ} (w : Ready ks us 0 p l u) (ek : k ≡ getD ks 0 0) where
   -- neither a name nor a word before constants
-  pub begins-none : (k ≡ 2 → ⊥) → (3 ≤ k → k ≤ 5 → ⊥)
+  pub begins-none : (k ≡ 2 → ⊥) → (k ≡ wordKind CONSTANTS → ⊥)
       → Meets ks us (statement (calls (heldRow ks us)) levels) 0 p l u (stopped 18 0) l u
   unfolding statement
   begins-none n m =
       meets-by (statement (calls (heldRow ks us)) levels)
       (rw (token-at ks us 0 (w .even))
-      (start-none (getD ks 0 0) (getD us 0 0) _ _ _ (λ z. n (ek ∙ z)) λ x y. m (rw ek x) (rw ek y)))
+      (start-none (getD ks 0 0) (getD us 0 0) _ _ _ (λ z. n (ek ∙ z)) λ z. m (ek ∙ z)))
       (meets-stop (w .even) (w .within) 18)
 
   -- constants
-  pub words-enter : 3 ≤ k → Ready ks us 1 p l u
+  pub words-enter : k ≡ wordKind CONSTANTS → Ready ks us 1 p l u
   words-enter h =
       let a = stands ks 0 (λ z. let y : k ≡ 0 = ek ∙ z in omega arith) in
       record {
@@ -372,14 +373,14 @@ module _ {ks us : List ℕ} {p k : ℕ} {l u : List ℕ} (w : Ready ks us 0 p l 
         room-args = omega (arith, w .room-args);
       }
 
-  pub begins-words : {r : Part} {l₁ u₁ : List ℕ} → 3 ≤ k → k ≤ 5 → ParsesMany ks us 1 p l u r l₁ u₁
+  pub begins-words : {r : Part} {l₁ u₁ : List ℕ} → k ≡ wordKind CONSTANTS → ParsesMany ks us 1 p l u r l₁ u₁
       → Meets ks us (statement (calls (heldRow ks us)) levels) 0 p l u r l₁ u₁
   unfolding statement
-  begins-words a b g =
+  begins-words h g =
       let f = calls (heldRow ks us) in
       let n = held-length ks us (w .even) in
       meets-by {i = 0} (statement f levels)
-      (rw (token-at ks us 0 (w .even), start-words (getD ks 0 0) (getD us 0 0) (rw ek at a) (rw ek at b)))
+      (rw (token-at ks us 0 (w .even), start-words (getD ks 0 0) (getD us 0 0) (sym ek ∙ h)))
       (meets-rest (meets-map constants (g .meets f (omega arith))))
 
   module _ (named : k ≡ 2) where
@@ -414,10 +415,10 @@ module _ {ks us : List ℕ} {p k : ℕ} {l u : List ℕ} (w : Ready ks us 0 p l 
 
         module _ {c : ℕ} (ec : c ≡ getD ks 2 0) where
           -- a state
-          pub third-inside : c ≡ 6 → 2 < length ks
+          pub third-inside : c ≡ wordKind INTGRL → 2 < length ks
           third-inside z = stands ks 2 λ v. let y : c ≡ 0 = ec ∙ v in omega arith
 
-          pub state-enter : c ≡ 6 → Ready ks us 3 p l u
+          pub state-enter : c ≡ wordKind INTGRL → Ready ks us 3 p l u
           state-enter z =
               let a = third-inside z in
               record {
@@ -427,7 +428,7 @@ module _ {ks us : List ℕ} {p k : ℕ} {l u : List ℕ} (w : Ready ks us 0 p l 
                 room-args = omega (arith, w .room-args);
               }
 
-          pub begins-state : {r : Part} {l₁ u₁ : List ℕ} → c ≡ 6
+          pub begins-state : {r : Part} {l₁ u₁ : List ℕ} → c ≡ wordKind INTGRL
               → Meets ks us (integrated (calls (heldRow ks us)) levels (getD us 0 0)) 3 p l u r l₁ u₁
               → Meets ks us (statement (calls (heldRow ks us)) levels) 0 p l u r l₁ u₁
           begins-state z g =
@@ -446,7 +447,7 @@ module _ {ks us : List ℕ} {p k : ℕ} {l u : List ℕ} (w : Ready ks us 0 p l 
                 room-args = omega (arith, w .room-args);
               }
 
-          pub begins-assignment : {r : Part} {l₁ u₁ : List ℕ} → (c ≡ 6 → ⊥)
+          pub begins-assignment : {r : Part} {l₁ u₁ : List ℕ} → (c ≡ wordKind INTGRL → ⊥)
               → Meets ks us (assigned (calls (heldRow ks us)) levels (getD us 0 0)) 2 p l u r l₁ u₁
               → Meets ks us (statement (calls (heldRow ks us)) levels) 0 p l u r l₁ u₁
           begins-assignment z g =

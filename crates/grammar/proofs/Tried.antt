@@ -7,7 +7,7 @@ use lib.Ieee.{Float, fin, neg}
 use lib.IntN.{pos}
 use lib.ListN.{replicate}
 use Rattle.limits.specs.Limits.{levels}
-use Rattle.tokens.specs.Symbol.{CONST, INTGRL, TIME, INSW, COMPAR, Symbol, mark, number, name, word}
+use Rattle.tokens.specs.Symbol.{CONSTANTS, INTGRL, TIME, INSW, COMPAR, Symbol, mark, number, name, word}
 use Rattle.drafts.specs.Tree.{times, insw, value, named, time, negated, two, three, constantOf, from, constants}
 use Rattle.drafts.specs.Tree.{assignment, state}
 use Rattle.grammar.specs.Look.{next, rest, byteOf, give-to, shapeOf, startOf}
@@ -22,7 +22,7 @@ seven = fin false 7 (pos 0)
 rows : List (List Symbol)
 rows =
     -- CONST A=7,B=-7
-    (word CONST ∷ name 1 ∷ mark 61 ∷ number seven ∷ mark 44 ∷ name 2 ∷ mark 61 ∷ mark 45 ∷ number seven ∷ [])
+    (word CONSTANTS ∷ name 1 ∷ mark 61 ∷ number seven ∷ mark 44 ∷ name 2 ∷ mark 61 ∷ mark 45 ∷ number seven ∷ [])
     -- A=-B*C
     ∷ (name 1 ∷ mark 61 ∷ mark 45 ∷ name 2 ∷ mark 42 ∷ name 3 ∷ [])
     -- A=INTGRL(B,-A)

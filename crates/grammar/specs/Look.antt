@@ -5,8 +5,7 @@ use mathlib.Core.Bool.{Bool, true, false, cond}
 use mathlib.Core.List.{List, [], _∷_}
 use lib.Dec.{eqb}
 use lib.Ieee.{Float}
-use Rattle.tokens.specs.Symbol.{CONST, PARAM, INCON, INTGRL, TIME, INSW, LIMIT, COMPAR, Symbol, mark, number, name}
-use Rattle.tokens.specs.Symbol.{word}
+use Rattle.tokens.specs.Symbol.{CONSTANTS, INTGRL, TIME, INSW, LIMIT, COMPAR, Symbol, mark, number, name, word}
 use Rattle.drafts.specs.Tree.{Two, plus, minus, times, over, compar, Three, insw, limit, Tree, value, named, time}
 use Rattle.drafts.specs.Tree.{negated, two, three}
 
@@ -88,9 +87,7 @@ unfoldable pub shapeOf : Symbol → Shape
 shapeOf (mark b) = cond (eqb b 40) Paren NoFactor
 shapeOf (number x) = Leaf (value x)
 shapeOf (name k) = Leaf (named k)
-shapeOf (word CONST) = NoFactor
-shapeOf (word PARAM) = NoFactor
-shapeOf (word INCON) = NoFactor
+shapeOf (word CONSTANTS) = NoFactor
 shapeOf (word INTGRL) = NoFactor
 shapeOf (word TIME) = Leaf time
 shapeOf (word INSW) = Call (triple insw)
@@ -110,9 +107,7 @@ unfoldable pub startOf : Symbol → Start
 startOf (mark b) = Other
 startOf (number x) = Valued x
 startOf (name k) = Named k
-startOf (word CONST) = Constants
-startOf (word PARAM) = Constants
-startOf (word INCON) = Constants
+startOf (word CONSTANTS) = Constants
 startOf (word INTGRL) = Integral
 startOf (word TIME) = Other
 startOf (word INSW) = Other

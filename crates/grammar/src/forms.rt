@@ -243,14 +243,7 @@ pub(crate) fn any_statement(
         }
         return assignment(kinds, args, 2, args[0], drafts, values, place);
     }
-    if k < tokens::CONST {
-        return Part {
-            code: 18,
-            next: 0,
-            place: 0,
-        };
-    }
-    if tokens::INCON < k {
+    if k != tokens::CONSTANTS {
         return Part {
             code: 18,
             next: 0,

@@ -8,8 +8,7 @@ use lib.Ieee.Fits.{cond-fits, neg-fits}
 use Rattle.laws.specs.Every.{Every}
 use Rattle.laws.proofs.Every.{every-left, every-right}
 use Rattle.laws.proofs.Tests.{cond-ind}
-use Rattle.tokens.specs.Symbol.{CONST, PARAM, INCON, INTGRL, TIME, INSW, LIMIT, COMPAR, Symbol, mark, number, name}
-use Rattle.tokens.specs.Symbol.{word}
+use Rattle.tokens.specs.Symbol.{CONSTANTS, INTGRL, TIME, INSW, LIMIT, COMPAR, Symbol, mark, number, name, word}
 use Rattle.drafts.specs.Tree.{Two, plus, minus, times, over, compar, Tree, value, named, time, negated, two, three}
 use Rattle.drafts.specs.Tree.{Constant, Initial, plain, from}
 use Rattle.drafts.specs.Tree.{Says, constants, assignment, state}
@@ -112,9 +111,7 @@ unfolding shapeOf
 double-shape (mark b) h = cond-ind DoubleShape (eqb b 40) Paren NoFactor (λ _. tt) (λ _. tt)
 double-shape (number x) h = h
 double-shape (name k) h = tt
-double-shape (word CONST) h = tt
-double-shape (word PARAM) h = tt
-double-shape (word INCON) h = tt
+double-shape (word CONSTANTS) h = tt
 double-shape (word INTGRL) h = tt
 double-shape (word TIME) h = tt
 double-shape (word INSW) h = tt

@@ -11,7 +11,7 @@ use Rattle.laws.proofs.Tests.{cond-ind}
 use Rattle.limits.specs.Limits.{nameBytes}
 use Rattle.bits.specs.Low.{lowWord}
 use Rattle.tokens.specs.declared.step.Held.{Held}
-use Rattle.tokens.specs.Symbol.{Word, CONST, PARAM, INCON, INTGRL, TIME, INSW, LIMIT, COMPAR, Reserved, reserved}
+use Rattle.tokens.specs.Symbol.{Role, CONSTANTS, INTGRL, TIME, INSW, LIMIT, COMPAR, Reserved, reserved}
 use Rattle.tokens.specs.Symbol.{lookUp, Symbol, name, word, keyOf, symbolNamed}
 use Rattle.tokens.specs.Kinds.{nameKind, wordKind}
 use Rattle.tokens.specs.Held.{kindOf, argOf, threeOf, kindNamed, symbolOf}
@@ -19,39 +19,37 @@ use Rattle.tokens.specs.Steps.{heldAs}
 
 -- ---- a list of words
 
--- what holds of each word and of the other holds of what is found
-lookup-ind : {A : Type 0} (P : A → Type 0) (f : Word → A) (other : A) → ((w : Word) → P (f w)) → P other
+-- what holds of each role and of the other holds of what is found
+lookup-ind : {A : Type 0} (P : A → Type 0) (f : Role → A) (other : A) → ((w : Role) → P (f w)) → P other
     → (ws : List Reserved) (n : List ℕ) → P (lookUp f other ws n)
 unfolding lookUp
 lookup-ind P f other each g [] n = g
 lookup-ind P f other each g (r ∷ ws) n =
-    cond-ind P (sameBytes n (r .spelling)) (f (r .means)) (lookUp f other ws n) (λ _. each (r .means))
+    cond-ind P (sameBytes n (r .spelling)) (f (r .role)) (lookUp f other ws n) (λ _. each (r .role))
     (λ _. lookup-ind P f other each g ws n)
 
 -- a function of what is found
-lookup-map : {A B : Type 0} (g : A → B) (f : Word → A) (other : A) (ws : List Reserved) (n : List ℕ)
+lookup-map : {A B : Type 0} (g : A → B) (f : Role → A) (other : A) (ws : List Reserved) (n : List ℕ)
     → g (lookUp f other ws n) ≡ lookUp (λ w. g (f w)) (g other) ws n
 unfolding lookUp
 lookup-map g f other [] n = refl
 lookup-map {A} {B} g f other (r ∷ ws) n = go (sameBytes n (r .spelling)) (lookup-map g f other ws n)
   where
-    go : (b : Bool) {x : A} {y : B} → g x ≡ y → g (cond b (f (r .means)) x) ≡ cond b (g (f (r .means))) y
+    go : (b : Bool) {x : A} {y : B} → g x ≡ y → g (cond b (f (r .role)) x) ≡ cond b (g (f (r .role))) y
     go true e = refl
     go false e = e
 
 -- one word more in front: k is found behind it
-pub lookup-more : {A : Type 0} (f : Word → A) (other : A) (ws : List Reserved) (n : List ℕ) (r : Reserved) (k x : A)
-    → x ≡ cond (sameBytes n (r .spelling)) (f (r .means)) k → k ≡ lookUp f other ws n → x ≡ lookUp f other (r ∷ ws) n
+pub lookup-more : {A : Type 0} (f : Role → A) (other : A) (ws : List Reserved) (n : List ℕ) (r : Reserved) (k x : A)
+    → x ≡ cond (sameBytes n (r .spelling)) (f (r .role)) k → k ≡ lookUp f other ws n → x ≡ lookUp f other (r ∷ ws) n
 unfolding lookUp
-lookup-more f other ws n r k x e h = e ∙ ap (cond (sameBytes n (r .spelling)) (f (r .means))) h
+lookup-more f other ws n r k x e h = e ∙ ap (cond (sameBytes n (r .spelling)) (f (r .role))) h
 
 -- ---- the kinds of words
 
--- a word's kind is its own
-pub symbol-word : (w : Word) (a : ℕ) → symbolOf (wordKind w) a ≡ word w
-symbol-word CONST a = refl
-symbol-word PARAM a = refl
-symbol-word INCON a = refl
+-- a role's kind is its own
+pub symbol-word : (w : Role) (a : ℕ) → symbolOf (wordKind w) a ≡ word w
+symbol-word CONSTANTS a = refl
 symbol-word INTGRL a = refl
 symbol-word TIME a = refl
 symbol-word INSW a = refl
@@ -59,7 +57,7 @@ symbol-word LIMIT a = refl
 symbol-word COMPAR a = refl
 
 -- and not a name's
-no-name : (w : Word) → wordKind w ≡ nameKind → ⊥
+no-name : (w : Role) → wordKind w ≡ nameKind → ⊥
 no-name w e =
     let same : name 0 ≡ word w = sym (ap (λ (k : ℕ). symbolOf k 0) e) ∙ symbol-word w 0 in
     let z : _≡_ {A = ℕ} 0 1 = cc in
@@ -78,8 +76,8 @@ key-threes (a ∷ b ∷ c ∷ d ∷ e ∷ f ∷ n) = omega arith
 
 -- ---- the bytes of a name
 module _ (n : List ℕ) where
-  -- what holds of each word and of the name holds of what the bytes are
-  pub symbol-ind : (P : Symbol → Type 0) → ((w : Word) → P (word w)) → P (name (keyOf n)) → P (symbolNamed n)
+  -- what holds of each role and of the name holds of what the bytes are
+  pub symbol-ind : (P : Symbol → Type 0) → ((w : Role) → P (word w)) → P (name (keyOf n)) → P (symbolNamed n)
   unfolding symbolNamed
   symbol-ind P f g = lookup-ind P word (name (keyOf n)) f g reserved n
 

@@ -5,8 +5,8 @@ use mathlib.Core.List.{List, [], _∷_, map}
 use lib.Dec.{ltb}
 use lib.ListN.{getD}
 use lib.Ieee.{binary64, toBits, ofBits}
-use Rattle.tokens.specs.Symbol.{Reserved, reserved, lookUp, Symbol, mark, number, name, word}
-use Rattle.tokens.specs.Kinds.{numberKind, nameKind, wordKind, lastKind}
+use Rattle.tokens.specs.Symbol.{reserved, lookUp, Symbol, mark, number, name, word}
+use Rattle.tokens.specs.Kinds.{numberKind, nameKind, roles, wordKind, lastKind}
 
 -- a mark's kind is its byte
 abbrev pub kindOf : Symbol → ℕ
@@ -32,9 +32,9 @@ kindNamed n = lookUp wordKind nameKind reserved n
 
 -- ---- and back: the token of a kind and an argument. Every two numbers are one
 
--- the kinds up to the last word's, by the argument
+-- the kinds up to the last role's, by the argument
 abbrev pub lowSymbols : ℕ → List Symbol
-lowSymbols a = mark 0 ∷ number (ofBits binary64 a) ∷ name a ∷ map (λ (r : Reserved). word (r .means)) reserved
+lowSymbols a = mark 0 ∷ number (ofBits binary64 a) ∷ name a ∷ map word roles
 
 abbrev pub symbolOf : ℕ → ℕ → Symbol
 symbolOf k a = cond (ltb lastKind k) (mark k) (getD (lowSymbols a) k (mark 0))

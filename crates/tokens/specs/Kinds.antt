@@ -1,8 +1,9 @@
--- The kinds by which code holds tokens: of a number, of a name, of each reserved word. A mark's kind is its byte, which
--- is above those.
+-- The kinds by which code holds tokens: of a number, of a name, of each role of reserved words. A mark's kind is its byte,
+-- which is above those.
 use Prim.Native.Nat.{ℕ, _+_}
+use mathlib.Core.List.{List, [], _∷_}
 use lib.ListN.{length}
-use Rattle.tokens.specs.Symbol.{Word, CONST, PARAM, INCON, INTGRL, TIME, INSW, LIMIT, COMPAR, reserved}
+use Rattle.tokens.specs.Symbol.{Role, CONSTANTS, INTGRL, TIME, INSW, LIMIT, COMPAR}
 
 abbrev pub numberKind : ℕ
 numberKind = 1
@@ -10,17 +11,19 @@ numberKind = 1
 abbrev pub nameKind : ℕ
 nameKind = 2
 
--- behind a name's kind, in the paper's order
-abbrev pub wordKind : Word → ℕ
-wordKind CONST = 3
-wordKind PARAM = 4
-wordKind INCON = 5
-wordKind INTGRL = 6
-wordKind TIME = 7
-wordKind INSW = 8
-wordKind LIMIT = 9
-wordKind COMPAR = 10
+-- the roles in the order of their kinds, which stand behind a name's
+abbrev pub roles : List Role
+roles = CONSTANTS ∷ INTGRL ∷ TIME ∷ INSW ∷ LIMIT ∷ COMPAR ∷ []
 
--- the last word's
+-- the kind of a word by its role
+abbrev pub wordKind : Role → ℕ
+wordKind CONSTANTS = 3
+wordKind INTGRL = 4
+wordKind TIME = 5
+wordKind INSW = 6
+wordKind LIMIT = 7
+wordKind COMPAR = 8
+
+-- the last role's
 abbrev pub lastKind : ℕ
-lastKind = nameKind + length reserved
+lastKind = nameKind + length roles

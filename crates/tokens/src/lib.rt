@@ -73,26 +73,22 @@ pub fn take_cut(body: &[u8], from: usize) -> Cut
     bad(14, at)
 }
 
-// The kinds; a mark's is its byte.
+// The kinds: of a number, of a name, of each role of reserved words. A mark's is its byte.
 pub const NUMBER: u8 = 1;
 
 pub const NAME: u8 = 2;
 
-pub const CONST: u8 = 3;
+pub const CONSTANTS: u8 = 3;
 
-pub const PARAM: u8 = 4;
+pub const INTGRL: u8 = 4;
 
-pub const INCON: u8 = 5;
+pub const TIME: u8 = 5;
 
-pub const INTGRL: u8 = 6;
+pub const INSW: u8 = 6;
 
-pub const TIME: u8 = 7;
+pub const LIMIT: u8 = 7;
 
-pub const INSW: u8 = 8;
-
-pub const LIMIT: u8 = 9;
-
-pub const COMPAR: u8 = 10;
+pub const COMPAR: u8 = 8;
 
 // How a row ends: no room for it; the count of its tokens; or the first bad token's code and place, behind so many good
 // ones.

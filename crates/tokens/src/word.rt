@@ -29,7 +29,7 @@ fn kind_or(name: &[u8], word: &[u8], kind: u8, other: u8) -> u8
 }
 
 // The kind of a name: that of the reserved word that it spells, or a name's. The words stand from the last to the
-// first.
+// first, each with its kind.
 pub fn kind_of(name: &[u8]) -> u8
     ensures { λ r. ⌜ r ≡ kindNamed (now (name .entry)) ⌝ }
 {
@@ -39,8 +39,8 @@ pub fn kind_of(name: &[u8]) -> u8
     k = kind_or(name, b"INSW", crate::INSW, k);
     k = kind_or(name, b"TIME", crate::TIME, k);
     k = kind_or(name, b"INTGRL", crate::INTGRL, k);
-    k = kind_or(name, b"INCON", crate::INCON, k);
-    k = kind_or(name, b"PARAM", crate::PARAM, k);
-    k = kind_or(name, b"CONST", crate::CONST, k);
+    k = kind_or(name, b"INCON", crate::CONSTANTS, k);
+    k = kind_or(name, b"PARAM", crate::CONSTANTS, k);
+    k = kind_or(name, b"CONST", crate::CONSTANTS, k);
     k
 }

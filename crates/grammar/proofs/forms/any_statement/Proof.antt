@@ -88,31 +88,22 @@ returns-4 c =
     let at-if1 = c .before in
     let at-byte-at = at-if1 .before in
     let start = at-byte-at .before .before .before .before .before in
-    begins-none (start .pre) (at-byte-at .byte-at .ensures) (at-if1 .if1 .left) λ a b. omega (arith, c .if4 .taken)
-
-returns-5 : tie.Need-returns-5
-returns-5 c =
-    let at-if1 = c .before .before in
-    let at-byte-at = at-if1 .before in
-    let start = at-byte-at .before .before .before .before .before in
-    begins-none (start .pre) (at-byte-at .byte-at .ensures) (at-if1 .if1 .left) λ a b. omega (arith, c .if5 .taken)
+    begins-none (start .pre) (at-byte-at .byte-at .ensures) (at-if1 .if1 .left) (c .if4 .taken)
 
 constants-requires : tie.Need-constants-requires
 constants-requires c κs =
-    let at-if4 = c .before .before .before in
+    let at-if4 = c .before .before in
     let at-byte-at = at-if4 .before .before in
     let start = at-byte-at .before .before .before .before .before in
     words-enter (start .pre) (at-byte-at .byte-at .ensures) (at-if4 .if4 .left)
 
-returns-6 : tie.Need-returns-6
-returns-6 c =
+returns-5 : tie.Need-returns-5
+returns-5 c =
     let at-constants = c .before .before .before .before in
-    let at-if5 = at-constants .before .before .before in
-    let at-if4 = at-if5 .before in
+    let at-if4 = at-constants .before .before .before in
     let at-byte-at = at-if4 .before .before in
     let start = at-byte-at .before .before .before .before .before in
-    begins-words (start .pre) (at-byte-at .byte-at .ensures) (at-if4 .if4 .left) (at-if5 .if5 .left)
-    (at-constants .constants .ensures)
+    begins-words (start .pre) (at-byte-at .byte-at .ensures) (at-if4 .if4 .left) (at-constants .constants .ensures)
 
 pub any-statement-spec : {M : Type 1} → statement M
 any-statement-spec =
@@ -121,4 +112,4 @@ any-statement-spec =
     (λ c κs. search needs) shared-slice-read-state state-requires
     (λ c. search needs) (λ c. search needs) returns-2 shared-slice-read-assignment assignment-requires
     (λ c. search needs) (λ c. search needs)
-    returns-3 returns-4 returns-5 constants-requires (λ c. search needs) (λ c. search needs) returns-6)
+    returns-3 returns-4 constants-requires (λ c. search needs) (λ c. search needs) returns-5)

@@ -1,4 +1,4 @@
--- A pair of answers for each word.
+-- One search each for the needs and for the list, however many words it has.
 use borrow.Author.Needs.{needs}
 use Rattle.tokens.specs.Symbol.{lookUp}
 use Rattle.tokens.specs.Held.{kindNamed}
@@ -8,18 +8,7 @@ use Rattle.tokens.proofs.word.kind_of.Tie as tie
 
 returns : tie.Need-returns
 unfolding lookUp kindNamed
-returns c = search lookup-more depth 30
+returns c = search lookup-more depth 50
 
 pub kind-of-spec : {M : Type 1} → statement M
-kind-of-spec =
-    tie.close
-    (tie.spec
-    (λ c. search needs) (λ c κs. search needs)
-    (λ c. search needs) (λ c κs. search needs)
-    (λ c. search needs) (λ c κs. search needs)
-    (λ c. search needs) (λ c κs. search needs)
-    (λ c. search needs) (λ c κs. search needs)
-    (λ c. search needs) (λ c κs. search needs)
-    (λ c. search needs) (λ c κs. search needs)
-    (λ c. search needs) (λ c κs. search needs)
-    returns)
+kind-of-spec = tie.close (search (tie.spec, needs, returns))
