@@ -53,7 +53,7 @@ kindStore = 13
 abbrev pub kindRate : ℕ
 kindRate = 14
 
--- ---- roles
+-- ---- what a kind is for
 
 -- those that define their name: constant, initial, store
 abbrev pub defines : ℕ → Bool

@@ -1,5 +1,5 @@
--- The kinds by which code holds tokens: of a number, of a name, of each role of reserved words. A mark's kind is its byte,
--- which is above those.
+-- The kinds by which code holds tokens: of a number, of a name, of each role of reserved words. A mark's kind is its
+-- byte, which is above those.
 use Prim.Native.Nat.{ℕ, _+_}
 use mathlib.Core.List.{List, [], _∷_}
 use lib.ListN.{length}

@@ -1,4 +1,5 @@
--- One search each for the needs and for the list, however many words it has.
+-- One search answers the needs of all words, one goes through the list. The second reads up to ten words; of more, `rw`
+-- with the `.ensures` of each call does it.
 use borrow.Author.Needs.{needs}
 use Rattle.tokens.specs.Symbol.{lookUp}
 use Rattle.tokens.specs.Held.{kindNamed}
