@@ -1,5 +1,5 @@
--- There is one solution. A solution is at rest: evaluating the program from it leaves it as it is. Two solutions from one
--- start agree in all that evaluating reads, so by `reads-states` in all that it writes.
+-- There is one solution. A solution is at rest: evaluating the program from it leaves it as it is. Two solutions from
+-- one start agree in all that evaluating reads, so by `reads-states` in all that it writes.
 use Prim.Native.Nat.{ℕ, zero, suc, _+_, _≤_, _<_}
 use mathlib.Core.Path.{_≡_, refl, sym, ap, _∙_}
 use mathlib.Core.Bool.{false}
@@ -37,6 +37,7 @@ use Rattle.meaning.proofs.Settle.{Met, at-rest}
 use Rattle.meaning.proofs.Owned.{locate, slot-at}
 use Rattle.meaning.proofs.Runs.{asEquation, fixed, constantPart, initialPart, orderedPart, program-parts}
 use Rattle.meaning.proofs.Runs.{ordered-first, run-program}
+use Rattle.meaning.proofs.Statements.{every-places}
 use Rattle.meaning.proofs.Solves.{to-eqn}
 use Rattle.meaning.proofs.ReadSlots.{evaluated-ran, read-apart, reads-states}
 
@@ -52,11 +53,6 @@ mapped : {A B : Type 0} {x : A} (f : A → B) (xs : List A) → List·Memᴰ x x
 mapped f [] m = absurd (List·Memᴰ·not-nil m)
 mapped f (a ∷ xs) m = ⊎-elim (λ e. List·Memᴰ·head (ap f e)) (λ t. List·Memᴰ·tail (mapped f xs t))
     (List·Memᴰ·cases-cons m)
-
--- what holds at each place of a row holds of each member
-every-place : {A : Type 0} (P : A → Type 0) (d : A) (l : List A) → ((i : ℕ) → i < length l → P (getD l i d)) → Every P l
-every-place P d [] f = tt
-every-place P d (a ∷ l) f = (f 0 (omega arith), every-place P d l (λ i h. f (suc i) (omega arith)))
 
 -- ---- a buffer with as many places more as there are slots, which hold what is read past an end
 nans : (n p : ℕ) → getD (replicate n nan) p nan ≡ nan
@@ -176,7 +172,7 @@ module _ (ds : List Def) (one : Once (keys ds)) where
       -- all hold
       all-met : Every (Met slot v′ d′) (fixed ds ++ map eqn q)
       all-met =
-          let each : Every Held ds = every-place Held noDef ds (λ i h. rw (slot-at ds one i h) (s .each i h)) in
+          let each : Every Held ds = every-places Held noDef ds (λ i h. rw (slot-at ds one i h) (s .each i h)) in
           let both = every-concat Held (Met slot v′ d′) (λ (x : Def). equationOf (x .line) (x .key) (x .what))
           (λ x h. equation-met (x .line) (x .key) (x .what) h) ds each in
           every-append (Met slot v′ d′) (fixed ds) (map eqn q)
