@@ -2,7 +2,7 @@
 
 use crate::program::{
     ADD, COMPAR, CONSTANT, DERIVATIVE, DIVIDE, INITIAL, INSW, LIMIT, MAX_RECORDS, MULTIPLY, NEGATE,
-    PUSH_SLOT, PUSH_VALUE, RECORD, STORE, SUBTRACT,
+    PUSH_SLOT, PUSH_VALUE, RECORD, STORE, STORE_AGAIN, SUBTRACT,
 };
 
 /// The places of the working stack.
@@ -45,13 +45,18 @@ pub enum Reason {
     DerivativeCount,
     DerivativeOfNoState,
     DerivativeTwice,
+    AgainCount,
+    AgainUnset,
+    AgainTime,
+    AgainConstant,
+    AgainState,
     ValueLeft,
     StateWithoutDerivative,
 }
 
 impl Reason {
-    /// All reasons, in the order of the paper.
-    pub const ALL: [Reason; 17] = [
+    /// All reasons, in the order of the papers.
+    pub const ALL: [Reason; 22] = [
         Reason::UnknownKind,
         Reason::ByteOne,
         Reason::UnusedField,
@@ -67,6 +72,11 @@ impl Reason {
         Reason::DerivativeCount,
         Reason::DerivativeOfNoState,
         Reason::DerivativeTwice,
+        Reason::AgainCount,
+        Reason::AgainUnset,
+        Reason::AgainTime,
+        Reason::AgainConstant,
+        Reason::AgainState,
         Reason::ValueLeft,
         Reason::StateWithoutDerivative,
     ];
@@ -120,6 +130,8 @@ const SET: u8 = 1;
 const STATE: u8 = 2;
 /// A state that has its derivative.
 const DERIVED: u8 = 4;
+/// A slot that a record of kind 13 set.
+const STORED: u8 = 8;
 
 /// What judging knows after some records.
 struct Judge {
@@ -149,7 +161,7 @@ impl Judge {
     /// Judges the next record.
     #[inline(always)]
     fn record(&mut self, record: &Record) -> Result<(), Reason> {
-        if record.one != 0 && (CONSTANT..=DERIVATIVE).contains(&record.kind) {
+        if record.one != 0 && (CONSTANT..=STORE_AGAIN).contains(&record.kind) {
             return Err(Reason::ByteOne);
         }
         match record.kind {
@@ -192,6 +204,7 @@ impl Judge {
                 let slot = slot_only(record)?;
                 self.stage = 3;
                 self.set(slot)?;
+                self.marks[slot] |= STORED;
                 demand(self.values == 1, Reason::StoreCount)?;
                 self.values = 0;
                 Ok(())
@@ -208,6 +221,13 @@ impl Judge {
                 self.open_states -= 1;
                 Ok(())
             }
+            STORE_AGAIN => {
+                let slot = slot_only(record)?;
+                self.stage = 3;
+                demand(self.values == 1, Reason::AgainCount)?;
+                self.values = 0;
+                self.stored(slot)
+            }
             _ => Err(Reason::UnknownKind),
         }
     }
@@ -219,6 +239,24 @@ impl Judge {
         demand(self.marks[slot] & SET == 0, Reason::SetTwice)?;
         self.marks[slot] |= SET;
         Ok(())
+    }
+
+    /// Asks that a record of kind 13 set a slot, or says what it is instead.
+    #[inline(always)]
+    fn stored(&self, slot: usize) -> Result<(), Reason> {
+        let marks = self.marks[slot];
+        if marks & STORED != 0 {
+            return Ok(());
+        }
+        Err(if slot == 0 {
+            Reason::AgainTime
+        } else if marks & STATE != 0 {
+            Reason::AgainState
+        } else if marks & SET != 0 {
+            Reason::AgainConstant
+        } else {
+            Reason::AgainUnset
+        })
     }
 
     /// Puts a value on the stack.
@@ -349,7 +387,7 @@ fn run(program: &[u8], values: &mut Slots, derivs: &mut Slots) {
                 count -= 1;
                 top = compar(stack[count], top);
             }
-            STORE => {
+            STORE | STORE_AGAIN => {
                 count = 0;
                 values[record.slot()] = top;
             }

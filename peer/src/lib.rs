@@ -1,5 +1,5 @@
 //! The peer: a second, independent implementation of the Floesedge translator
-//! and evaluator, written from the paper alone, in safe Rust without any
+//! and evaluator, written from the papers alone, in safe Rust without any
 //! dependency. It exists to disagree with the proved library; `check` compares
 //! the two and `bench` measures them side by side.
 //!

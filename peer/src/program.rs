@@ -22,6 +22,7 @@ pub const LIMIT: u8 = 11;
 pub const COMPAR: u8 = 12;
 pub const STORE: u8 = 13;
 pub const DERIVATIVE: u8 = 14;
+pub const STORE_AGAIN: u8 = 15;
 
 /// A record of an equation before its line is put in. While names are not yet
 /// resolved, the bits of an item that pushes what a name stands for are the name.

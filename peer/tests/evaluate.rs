@@ -148,10 +148,10 @@ fn reason(program: &[u8]) -> (Option<u32>, Reason) {
 fn each_bad_record() {
     use Reason::*;
     let p = (3, 0, 0, 1.0);
-    for kind in [0, 15, 255] {
+    for kind in [0, 16, 255] {
         assert_eq!(bad(&[p, (kind, 0, 0, 0.0)]), (Some(1), UnknownKind));
     }
-    for kind in 1..=14 {
+    for kind in 1..=15 {
         let mut bytes = record(kind, 1, 0, 0.0);
         bytes[1] = 1;
         assert_eq!(reason(&bytes), (Some(0), ByteOne));
@@ -229,6 +229,94 @@ fn each_bad_record() {
     let twice = [(2, 1, 0, 0.0), p, (14, 1, 0, 0.0), p, (14, 1, 0, 0.0)];
     assert_eq!(bad(&twice), (Some(4), DerivativeTwice));
     assert_eq!(bad(&[(2, 1, 0, 0.0)]), (None, StateWithoutDerivative));
+}
+
+#[test]
+fn each_bad_store_again() {
+    use Reason::*;
+    let p = (3, 0, 0, 1.0);
+    let stored = (13, 1, 0, 0.0);
+    let again = (15, 1, 0, 0.0);
+    // Its fields, after a store that would let it pass.
+    let mut bytes = records(&[p, stored, p, again]);
+    bytes[3 * 16 + 1] = 128;
+    assert_eq!(reason(&bytes), (Some(3), ByteOne));
+    for value in [1.0, -0.0] {
+        let list = [p, stored, p, (15, 1, 0, value)];
+        assert_eq!(bad(&list), (Some(3), UnusedField));
+    }
+    for slot in [256, 257, 0x8001] {
+        let list = [p, stored, p, (15, slot, 0, 0.0)];
+        assert_eq!(bad(&list), (Some(3), SlotOver255));
+    }
+    // Other than one value.
+    assert_eq!(bad(&[p, stored, again]), (Some(2), AgainCount));
+    assert_eq!(bad(&[p, stored, p, again, again]), (Some(4), AgainCount));
+    assert_eq!(bad(&[p, stored, p, p, again]), (Some(4), AgainCount));
+    // A slot that no kind 13 set, or only a later one, or one of another slot.
+    assert_eq!(bad(&[p, again]), (Some(1), AgainUnset));
+    assert_eq!(bad(&[p, again, p, stored]), (Some(1), AgainUnset));
+    let list = [p, stored, p, (15, 2, 0, 0.0)];
+    assert_eq!(bad(&list), (Some(3), AgainUnset));
+    assert_eq!(bad(&[p, (15, 0, 0, 0.0)]), (Some(1), AgainTime));
+    assert_eq!(bad(&[(1, 1, 0, 0.0), p, again]), (Some(2), AgainConstant));
+    let state = [(2, 1, 0, 0.0), p, again];
+    assert_eq!(bad(&state), (Some(2), AgainState));
+    let derived = [(2, 1, 0, 0.0), p, (14, 1, 0, 0.0), p, again];
+    assert_eq!(bad(&derived), (Some(4), AgainState));
+    // It does not let kind 13 set again, and no kind 1 or 2 stands after it.
+    let list = [p, stored, p, again, p, stored];
+    assert_eq!(bad(&list), (Some(5), SetTwice));
+    let list = [p, stored, p, again, (1, 2, 0, 0.0)];
+    assert_eq!(bad(&list), (Some(4), ConstantLate));
+    let list = [p, stored, p, again, (2, 2, 0, 0.0)];
+    assert_eq!(bad(&list), (Some(4), InitialLate));
+    let list = [p, stored, p, again, p, (14, 1, 0, 0.0)];
+    assert_eq!(bad(&list), (Some(5), DerivativeOfNoState));
+    // It takes its value; one that is pushed after it is left.
+    assert_eq!(bad(&[p, stored, p, again, p]), (None, ValueLeft));
+}
+
+#[test]
+fn stores_again() {
+    // Slot 1 is 5, slot 2 is slot 1 doubled, slot 1 is slot 2 + slot 1 = 15,
+    // slot 3 is 15 less 10, slot 1 is 15 times the time, 2: 30.
+    let program = records(&[
+        (3, 0, 1, 5.0),
+        (13, 1, 1, 0.0),
+        (4, 1, 2, 0.0),
+        (4, 1, 2, 0.0),
+        (5, 0, 2, 0.0),
+        (13, 2, 2, 0.0),
+        (4, 2, 3, 0.0),
+        (4, 1, 3, 0.0),
+        (5, 0, 3, 0.0),
+        (15, 1, 3, 0.0),
+        (4, 1, 4, 0.0),
+        (4, 2, 4, 0.0),
+        (6, 0, 4, 0.0),
+        (13, 3, 4, 0.0),
+        (4, 1, 5, 0.0),
+        (4, 0, 5, 0.0),
+        (7, 0, 5, 0.0),
+        (15, 1, 5, 0.0),
+    ]);
+    let (mut values, mut derivs) = (slots(-7.0), slots(-8.0));
+    values[0] = 2.0;
+    assert_eq!(evaluate(&program, &mut values, &mut derivs), OK);
+    let mut expected = slots(-7.0);
+    (expected[0], expected[1], expected[2], expected[3]) = (2.0, 30.0, 10.0, 5.0);
+    assert_eq!(values, expected);
+    assert_eq!(derivs, slots(-8.0));
+    // Start writes the time alone: there are no states.
+    expected[0] = 0.0;
+    assert_eq!(start(&program, &mut values, &mut derivs), OK);
+    assert_eq!(values, expected);
+    // A step evaluates at time 0, then the time is 0.5.
+    assert_eq!(step(&program, 0.5, &mut values, &mut derivs), OK);
+    (expected[0], expected[1]) = (0.5, 0.0);
+    assert_eq!(values, expected);
+    assert_eq!(derivs, slots(-8.0));
 }
 
 #[test]

@@ -150,16 +150,24 @@ fn accepted(random: &mut Random) -> Accepted {
     let mut open = states.clone();
     random.shuffle(&mut open);
     let mut stores = random.below(scale);
+    let mut stored = Vec::new();
     while stores > 0 || !open.is_empty() {
         let pushes = random.pick(&[1, 1, 2, 4, 10]);
         statement(random, &mut records, &set, pushes);
         if open.is_empty() || (stores > 0 && random.once_in(2)) {
             stores -= 1;
             let slot = take(&mut slots, &mut set);
+            stored.push(slot);
             records.push(record(random, 13, slot, 0));
         } else {
             let slot = open.pop().unwrap();
             records.push(record(random, 14, slot, 0));
+        }
+        if !stored.is_empty() && random.once_in(4) {
+            let pushes = random.pick(&[1, 2, 4]);
+            statement(random, &mut records, &set, pushes);
+            let slot = random.pick(&stored);
+            records.push(record(random, 15, slot, 0));
         }
     }
     Accepted {
@@ -198,7 +206,7 @@ fn statement(random: &mut Random, records: &mut Vec<Record>, set: &[u16], pushes
 }
 
 /// The number of rules that `broken` can break.
-const RULES: usize = 19;
+const RULES: usize = 22;
 
 /// An accepted program with exactly one rule broken somewhere.
 fn broken(random: &mut Random) -> Vec<u8> {
@@ -228,7 +236,7 @@ fn break_rule(random: &mut Random, program: &mut Accepted, rule: usize) {
     let any = random.below(records.len());
     match rule {
         // Unknown kind.
-        0 => records[any].kind = random.pick(&[0, 15, 16, 17, 128, 255]),
+        0 => records[any].kind = random.pick(&[0, 16, 17, 31, 128, 255]),
         // Byte 1 not 0.
         1 => records[any].one = random.pick(&[1, 2, 128, 255]),
         // An unused operand not 0.
@@ -247,7 +255,7 @@ fn break_rule(random: &mut Random, program: &mut Accepted, rule: usize) {
         }
         // Slot over 255.
         4 => {
-            if let Some(at) = place(random, records, |r| matches!(r.kind, 1 | 2 | 4 | 13 | 14)) {
+            if let Some(at) = place(random, records, |r| matches!(r.kind, 1 | 2 | 4 | 13..=15)) {
                 records[at].operand += random.pick(&[256, 512, 0x8000, 0xff00]);
             }
         }
@@ -257,7 +265,7 @@ fn break_rule(random: &mut Random, program: &mut Accepted, rule: usize) {
             let late = record(random, 1, fresh, 0);
             records.insert(at + 1, late);
         }
-        // Kind 2 after 3 to 14.
+        // Kind 2 after 3 to 15.
         6 => {
             let at = place(random, records, |r| r.kind > 2).unwrap_or(any);
             let late = record(random, 2, fresh, 0);
@@ -305,7 +313,7 @@ fn break_rule(random: &mut Random, program: &mut Accepted, rule: usize) {
             let count = random.range(60, 68);
             records.splice(at..at, vec![push; count]);
         }
-        // Kind 13 or 14 with two values.
+        // Kind 13, 14 or 15 with two values.
         12 => {
             if let Some(at) = place(random, records, |r| r.kind >= 13) {
                 let push = record(random, 4, 0, 0);
@@ -365,10 +373,45 @@ fn break_rule(random: &mut Random, program: &mut Accepted, rule: usize) {
             records.insert(at, more);
         }
         // A derivative turned into a store.
-        _ => {
+        18 => {
             if let Some(at) = place(random, records, |r| r.kind == 14) {
                 records[at].kind = 13;
                 records[at].operand = fresh;
+            }
+        }
+        // Kind 15 for a slot that no kind 13 set, or only a later one.
+        19 => {
+            if let Some(at) = place(random, records, |r| r.kind >= 13) {
+                let operand_of = |kind: u8, random: &mut Random, part: &[Record]| {
+                    place(random, part, |r| r.kind == kind).map_or(fresh, |i| part[i].operand)
+                };
+                let slot = match random.below(5) {
+                    0 => 0,
+                    1 => operand_of(1, random, &records[..at]),
+                    2 => operand_of(2, random, &records[..at]),
+                    3 => operand_of(13, random, &records[at + 1..]),
+                    _ => fresh,
+                };
+                let push = record(random, 4, 0, 0);
+                let again = record(random, 15, slot, 0);
+                records.splice(at + 1..at + 1, [push, again]);
+            }
+        }
+        // Kind 15 without value.
+        20 => {
+            if let Some(at) = place(random, records, |r| r.kind == 13) {
+                let again = Record {
+                    kind: 15,
+                    ..records[at]
+                };
+                let at = place(random, &records[at..], |r| r.kind >= 13).map_or(at, |i| at + i);
+                records.insert(at + 1, again);
+            }
+        }
+        // A store turned into kind 15, or kind 15 into a store.
+        _ => {
+            if let Some(at) = place(random, records, |r| matches!(r.kind, 13 | 15)) {
+                records[at].kind = 28 - records[at].kind;
             }
         }
     }
@@ -381,14 +424,14 @@ fn plausible(random: &mut Random) -> Vec<u8> {
         let kind = match (i, random.below(3)) {
             (0..=2, 0) => random.range(1, 2),
             (_, 1) => random.range(3, 4),
-            _ => random.range(3, 14),
+            _ => random.range(3, 15),
         } as u8;
         let slot = random.below(4) as u16;
         let value = random.float().to_bits();
         let (operand, bits) = match kind {
             1 | 2 => (slot, value),
             3 => (0, value),
-            4 | 13 | 14 => (slot, 0),
+            4 | 13..=15 => (slot, 0),
             _ => (0, 0),
         };
         records.push(record(random, kind, operand, bits));
