@@ -17,8 +17,8 @@ use Rattle.records.specs.Fields.{operandOf}
 use Rattle.records.specs.Shape.{shapeOf}
 use Rattle.records.specs.declared.Instr.{Instr}
 use Rattle.records.specs.declared.Instr.the-variants.{Value, Bad}
-use Rattle.evaluator.specs.Judge.{Rule, setRule, readRule, foldRule, storeRule, derivativeRule, badRule}
-use Rattle.evaluator.specs.Judge.{ruleOf, goodBy}
+use Rattle.evaluator.specs.Judge.{Rule, setRule, readRule, foldRule, storeRule, derivativeRule, againRule}
+use Rattle.evaluator.specs.Judge.{badRule, ruleOf, goodBy}
 use Rattle.evaluator.specs.State.{state, stopped, pushed, folded, known, Stands, Judges}
 use Rattle.evaluator.specs.declared.judge.State.{State}
 
@@ -119,7 +119,7 @@ module _ {t : State} {l : List ℕ} {r : State} (w : Stands t l) where
       (λ b o. few (foldRule n) o (leb-false n (t .height) b))
 
   module _ (s : ℕ) (h : s < slots) where
-    -- kinds 1, 2, 13 and 14, after their tests
+    -- kinds 1, 2 and 13 to 15, after their tests
     pub constant : r ≡ state 1 (t .height) (t .owed) → t .phase ≤ 1 → getD l s 0 ≡ 0
         → Judges t l (setRule 1 s 1) r (set l s 1)
     constant q p e =
@@ -134,10 +134,10 @@ module _ {t : State} {l : List ℕ} {r : State} (w : Stands t l) where
         (omega (arith, remarked l s 0 2 (inside w s h) e, w .owed)) w zero-le (w .low) p (lit≤ tt)
         (eq-eqb (getD l s 0) 0 e)
 
-    pub store : r ≡ state 3 0 (t .owed) → t .height ≡ 1 → getD l s 0 ≡ 0 → Judges t l (storeRule s) r (set l s 1)
+    pub store : r ≡ state 3 0 (t .owed) → t .height ≡ 1 → getD l s 0 ≡ 0 → Judges t l (storeRule s) r (set l s 4)
     store q a e =
-        passed (storeRule s) 0 (t .owed) q (omega arith) refl (length-set l s 1)
-        (omega (arith, remarked l s 0 1 (inside w s h) e, w .owed)) w (omega arith) zero-le (w .phase) (lit≤ tt)
+        passed (storeRule s) 0 (t .owed) q (omega arith) refl (length-set l s 4)
+        (omega (arith, remarked l s 0 4 (inside w s h) e, w .owed)) w (omega arith) zero-le (w .phase) (lit≤ tt)
         (and-both _ _ (eq-eqb (t .height) 1 a) (eq-eqb (getD l s 0) 0 e))
 
     pub deriv : r ≡ state 3 0 (t .owed - 1) → t .height ≡ 1 → getD l s 0 ≡ 2
@@ -146,6 +146,11 @@ module _ {t : State} {l : List ℕ} {r : State} (w : Stands t l) where
         passed (derivativeRule s) 0 (t .owed - 1) q (omega arith) refl (length-set l s 3)
         (omega (arith, remarked l s 2 3 (inside w s h) e, w .owed)) w (omega arith) zero-le (w .phase) (lit≤ tt)
         (and-both _ _ (eq-eqb (t .height) 1 a) (eq-eqb (getD l s 0) 2 e))
+
+    pub again : r ≡ state 3 0 (t .owed) → t .height ≡ 1 → getD l s 0 ≡ 4 → Judges t l (againRule s) r l
+    again q a e =
+        passed (againRule s) 0 (t .owed) q (omega arith) refl refl (w .owed) w (omega arith) zero-le (w .phase) (lit≤ tt)
+        (and-both _ _ (eq-eqb (t .height) 1 a) (eq-eqb (getD l s 0) 4 e))
 
 -- ---- the instruction x, as which a match has found i
 

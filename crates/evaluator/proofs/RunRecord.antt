@@ -8,7 +8,7 @@ use lib.Ieee.{Float, nan}
 use Rattle.records.specs.Fields.{operandOf}
 use Rattle.records.specs.Shape.{Operation, one, two, three, operands, applied, Shape, fold, shapeOf}
 use Rattle.records.specs.declared.Instr.{Instr}
-use Rattle.records.specs.declared.Instr.the-variants.{Constant, Initial, Value, Slot, Store, Deriv, Bad}
+use Rattle.records.specs.declared.Instr.the-variants.{Constant, Initial, Value, Slot, Store, Deriv, StoreAgain, Bad}
 use Rattle.evaluator.specs.Judge.{ruleOf, takes, gives}
 use Rattle.evaluator.specs.Machine.{step}
 use Rattle.evaluator.specs.Stack.{below, Reaches, Room, Yields, Ready, Steps}
@@ -55,7 +55,7 @@ module _ {l : List Float} {n : ℕ} {v d : List Float} {i : Instr} where
   unfolding step
   bad-step e r = rw e (record { same = refl; count = omega arith; full = r .full })
 
-  -- kinds 13 and 14 take the topmost value away
+  -- kinds 13 to 15 take the topmost value away
   pub store-step : {s : ℕ} {y : Float} → i ≡ Store s → y ≡ below l n 0 → Ready i l n v d
       → Steps i l n v d l (n - 1) (set v s y) d
   unfolding step
@@ -65,6 +65,11 @@ module _ {l : List Float} {n : ℕ} {v d : List Float} {i : Instr} where
       → Steps i l n v d l (n - 1) v (set d s y)
   unfolding step
   deriv-step e f r = rw e (record { same = rw (f, down-drop l n 1); count = omega arith; full = r .full })
+
+  pub again-step : {s : ℕ} {y : Float} → i ≡ StoreAgain s → y ≡ below l n 0 → Ready i l n v d
+      → Steps i l n v d l (n - 1) (set v s y) d
+  unfolding step
+  again-step e f r = rw e (record { same = rw (f, down-drop l n 1); count = omega arith; full = r .full })
 
   module _ {k : List Float} {m : ℕ} {y : Float} where
     -- kinds 3 and 4 push y

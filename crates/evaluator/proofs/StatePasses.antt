@@ -14,8 +14,8 @@ use Rattle.limits.specs.Limits.{slots, recordBytes}
 use Rattle.records.proofs.Instr.{the-type}
 use Rattle.records.specs.declared.Instr.{Instr}
 use Rattle.records.specs.declared.Instr.the-variants.{Constant, Initial, Value, Slot, Add, Sub, Mul, Div}
-use Rattle.records.specs.declared.Instr.the-variants.{Neg, Insw, Limit, Compar, Store, Deriv, Bad}
-use Rattle.records.specs.Shape.{Shape, constant, initial, push, fold, store, derivative, bad, shapeOf}
+use Rattle.records.specs.declared.Instr.the-variants.{Neg, Insw, Limit, Compar, Store, Deriv, StoreAgain, Bad}
+use Rattle.records.specs.Shape.{Shape, constant, initial, push, fold, store, derivative, store-again, bad, shapeOf}
 use Rattle.records.specs.Fields.{operandOf}
 use Rattle.records.specs.Decode.{readAt}
 use Rattle.records.specs.Record.{decodeAt, decoded}
@@ -30,7 +30,7 @@ use Rattle.evaluator.proofs.AcceptedSound.{sound-next}
 
 -- what follows the variants of phase 1 and 2
 abbrev pub later : List ℕ
-later = 2 ∷ 3 ∷ 4 ∷ 5 ∷ 6 ∷ 7 ∷ 8 ∷ 9 ∷ 10 ∷ 11 ∷ 12 ∷ 13 ∷ 14 ∷ []
+later = 2 ∷ 3 ∷ 4 ∷ 5 ∷ 6 ∷ 7 ∷ 8 ∷ 9 ∷ 10 ∷ 11 ∷ 12 ∷ 13 ∷ 14 ∷ 15 ∷ []
 
 -- is of phase 3
 later-phase : (x : Instr) → OneOf later (tagOf the-type x) → phaseOf x ≡ 3
@@ -48,6 +48,7 @@ later-phase Limit h = refl
 later-phase Compar h = refl
 later-phase (Store s) h = refl
 later-phase (Deriv s) h = refl
+later-phase (StoreAgain s) h = refl
 later-phase Bad h = refl
 
 -- so it has no initial value
@@ -58,6 +59,7 @@ late-shape f v (push p) h = refl
 late-shape f v (fold o) h = refl
 late-shape f v (store s) h = refl
 late-shape f v (derivative s) h = refl
+late-shape f v (store-again s) h = refl
 late-shape f v bad h = refl
 
 module _ (f : List Float → ℕ → Float → List Float) where

@@ -8,7 +8,8 @@ use lib.ListN.{length, getD, set}
 use lib.Ieee.{Float, nan, binary64, add, mul}
 use Rattle.limits.specs.Limits.{slots, recordBytes, mostRecords}
 use Rattle.records.specs.declared.Instr.{Instr}
-use Rattle.records.specs.Shape.{zero64, Shape, constant, initial, push, fold, store, derivative, bad, shapeOf}
+use Rattle.records.specs.Shape.{zero64, Shape, constant, initial, push, fold, store, derivative, store-again, bad}
+use Rattle.records.specs.Shape.{shapeOf}
 use Rattle.records.specs.Record.{decoded}
 use Rattle.evaluator.specs.Machine.{Machine, run, begun}
 use Rattle.evaluator.specs.Judge.{answer, judge}
@@ -55,6 +56,7 @@ initially f a (push p) = a
 initially f a (fold o) = a
 initially f a (store s) = a
 initially f a (derivative s) = a
+initially f a (store-again s) = a
 initially f a bad = a
 
 -- the values after f for the slot and the initial value of each state, one after the other

@@ -7,13 +7,13 @@ use lib.ListN.{getD, set, replicate}
 use Rattle.limits.specs.Limits.{slots, stackPlaces}
 use Rattle.records.specs.declared.Instr.{Instr}
 use Rattle.records.specs.Shape.{value, slot, operands}
-use Rattle.records.specs.Shape.{Shape, constant, initial, push, fold, store, derivative, bad, shapeOf}
+use Rattle.records.specs.Shape.{Shape, constant, initial, push, fold, store, derivative, store-again, bad, shapeOf}
 use Rattle.evaluator.specs.declared.Answer.{Answer}
 
 -- ---- one record
 
--- What is known of a slot is its mark: 0 it is not set, 1 it is set, 2 it is set and a state, 3 a state with its
--- derivative. With the marks l the slot s is not set
+-- What is known of a slot is its mark: 0 it is not set, 1 it is a constant or slot 0, 2 a state, 3 a state with its
+-- derivative, 4 it is stored: a kind 13 set it. With the marks l the slot s is not set
 abbrev unset : List ℕ → ℕ → Bool
 unset l s = eqb (getD l s 0) 0
 
@@ -46,11 +46,15 @@ foldRule n = rule n 1 3 (λ l h. true) (λ l. l)
 
 -- 13 wants one value
 abbrev pub storeRule : ℕ → Rule
-storeRule s = rule 1 0 3 (λ l h. eqb h 1 && unset l s) (λ l. set l s 1)
+storeRule s = rule 1 0 3 (λ l h. eqb h 1 && unset l s) (λ l. set l s 4)
 
 -- 14 wants one value, and a state without derivative
 abbrev pub derivativeRule : ℕ → Rule
 derivativeRule s = rule 1 0 3 (λ l h. eqb h 1 && eqb (getD l s 0) 2) (λ l. set l s 3)
+
+-- 15 wants one value, and a slot that a kind 13 set
+abbrev pub againRule : ℕ → Rule
+againRule s = rule 1 0 3 (λ l h. eqb h 1 && eqb (getD l s 0) 4) (λ l. l)
 
 -- what is no record is bad
 abbrev pub badRule : Rule
@@ -64,6 +68,7 @@ ruleOf (push (slot s)) = readRule s
 ruleOf (fold o) = foldRule (operands o)
 ruleOf (store s) = storeRule s
 ruleOf (derivative s) = derivativeRule s
+ruleOf (store-again s) = againRule s
 ruleOf bad = badRule
 
 abbrev pub takes : Instr → ℕ
@@ -87,7 +92,7 @@ pub record Judge : Type 0 where
   pub height : ℕ
   pub marks : List ℕ
 
--- too few values, one too many, kind 1 after another kind or kind 2 after 3 to 14, or the slot: else the record is good
+-- too few values, one too many, kind 1 after another kind or kind 2 after 3 to 15, or the slot: else the record is good
 abbrev pub goodBy : Judge → Rule → Bool
 goodBy j q =
     leb (q .takes) (j .height)

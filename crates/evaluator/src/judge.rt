@@ -12,7 +12,8 @@ ghost use Rattle.limits.specs.Limits.{slots, stackPlaces};
 ghost use Rattle.records.specs.Fields.{operandOf};
 ghost use Rattle.records.specs.Shape.{shapeOf};
 ghost use Rattle.records.specs.Record.{decoded};
-ghost use Rattle.evaluator.specs.Judge.{setRule, readRule, storeRule, derivativeRule, ruleOf, judge};
+ghost use Rattle.evaluator.specs.Judge.{setRule, readRule, storeRule, derivativeRule, againRule};
+ghost use Rattle.evaluator.specs.Judge.{ruleOf, judge};
 ghost use Rattle.evaluator.specs.State.{state, stopped, pushed, folded, Stands, Judges};
 
 // What is known between two records, beside the marks of the slots: the phase reached, the count of values on the stack
@@ -86,7 +87,7 @@ fn constant(t: State, marks: &mut [u8; SLOTS], s: u16) -> State
     fine(1, t.height, t.owed)
 }
 
-// Kind 2: its slot is not set yet, and kinds 3 to 14 did not stand before.
+// Kind 2: its slot is not set yet, and kinds 3 to 15 did not stand before.
 fn initial(t: State, marks: &mut [u8; SLOTS], s: u16) -> State
     requires { ⌜ Stands t (now marks) × (s < slots) ⌝ }
     ensures { λ r. ⌜ Judges t (now (marks .entry)) (setRule 2 s 2) r (now (marks .exit)) ⌝ }
@@ -123,7 +124,7 @@ fn store(t: State, marks: &mut [u8; SLOTS], s: u16) -> State
     if marks[s as usize] != 0 {
         return bad();
     }
-    marks[s as usize] = 1;
+    marks[s as usize] = 4;
     fine(3, 0, t.owed)
 }
 
@@ -140,6 +141,20 @@ fn deriv(t: State, marks: &mut [u8; SLOTS], s: u16) -> State
     }
     marks[s as usize] = 3;
     fine(3, 0, t.owed - 1)
+}
+
+// Kind 15: there is one value, and a kind 13 set the slot.
+fn store_again(t: State, marks: &mut [u8; SLOTS], s: u16) -> State
+    requires { ⌜ Stands t (now marks) × (s < slots) ⌝ }
+    ensures { λ r. ⌜ Judges t (now (marks .entry)) (againRule s) r (now (marks .exit)) ⌝ }
+{
+    if t.height != 1 {
+        return bad();
+    }
+    if marks[s as usize] != 4 {
+        return bad();
+    }
+    fine(3, 0, t.owed)
 }
 
 // One record.
@@ -162,6 +177,7 @@ fn judge_step(t: State, marks: &mut [u8; SLOTS], ins: Instr) -> State
         Instr::Compar => fold(t, 2),
         Instr::Store(s) => store(t, marks, s),
         Instr::Deriv(s) => deriv(t, marks, s),
+        Instr::StoreAgain(s) => store_again(t, marks, s),
         Instr::Bad => bad(),
     }
 }

@@ -76,6 +76,10 @@ fn run_step(
             derivs[at as usize] = peek(s, n, 0);
             n - 1
         }
+        Instr::StoreAgain(at) => {
+            values[at as usize] = peek(s, n, 0);
+            n - 1
+        }
         Instr::Bad => n,
     }
 }

@@ -20,13 +20,13 @@ use Rattle.records.specs.Record.{field, decodeAt}
 use Rattle.records.specs.Decode.{decodedAt, readAt, withFields}
 use Rattle.records.proofs.FieldParts.{field-two}
 
--- no kind but 1 to 14 is known
-pub unknown : (k s : ℕ) (x : Float) → (k ≡ 0) ⊎ (15 ≤ k) → byKind k s x ≡ Bad
+-- no kind but 1 to 15 is known
+pub unknown : (k s : ℕ) (x : Float) → (k ≡ 0) ⊎ (16 ≤ k) → byKind k s x ≡ Bad
 unfolding byKind
-unknown k s x h = ⊎-elim (λ (e : k ≡ 0). rw e) (λ (g : 15 ≤ k). List·getD-eq-default (kinds s x) Bad {n = k} g) h
+unknown k s x h = ⊎-elim (λ (e : k ≡ 0). rw e) (λ (g : 16 ≤ k). List·getD-eq-default (kinds s x) Bad {n = k} g) h
 
 -- so its record is refused
-pub unknown-refused : (k s b : ℕ) → (k ≡ 0) ⊎ (15 ≤ k) → Bad ≡ instrOf k 0 s b
+pub unknown-refused : (k s b : ℕ) → (k ≡ 0) ⊎ (16 ≤ k) → Bad ≡ instrOf k 0 s b
 unfolding instrOf
 unknown-refused k s b h =
     rw (unknown k s (ofBits binary64 b) h)
@@ -88,7 +88,7 @@ operand k s x =
     let o = zero-le in
     let i = le-refl s in
     every-anywhere (λ (y : Instr). operandOf y ≤ s) Bad o (kinds s x) k
-    (o, (i, (i, (o, (i, (o, (o, (o, (o, (o, (o, (o, (o, (i, (i, tt)))))))))))))))
+    (o, (i, (i, (o, (i, (o, (o, (o, (o, (o, (o, (o, (o, (i, (i, (i, tt))))))))))))))))
 
 -- that of fields in order is one of the slots
 inside : (k z s b : ℕ) → operandOf (instrOf k z s b) < slots

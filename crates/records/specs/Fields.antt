@@ -8,9 +8,9 @@ use lib.Ieee.{Float, binary64, ofBits, toBits}
 use Rattle.limits.specs.Limits.{slots}
 use Rattle.records.specs.declared.Instr.{Instr}
 use Rattle.records.specs.declared.Instr.the-variants.{Constant, Initial, Value, Slot, Add, Sub, Mul, Div}
-use Rattle.records.specs.declared.Instr.the-variants.{Neg, Insw, Limit, Compar, Store, Deriv, Bad}
-use Rattle.records.specs.Shape.{value, slot, Shape, constant, initial, push, fold, store, derivative, bad}
-use Rattle.records.specs.Shape.{listed, shapeOf}
+use Rattle.records.specs.declared.Instr.the-variants.{Neg, Insw, Limit, Compar, Store, Deriv, StoreAgain, Bad}
+use Rattle.records.specs.Shape.{value, slot, Shape, constant, initial, push, fold, store, derivative}
+use Rattle.records.specs.Shape.{store-again, bad, listed, shapeOf}
 
 -- ---- from an instruction to its fields
 
@@ -31,6 +31,7 @@ fieldsOf (push (slot s)) = fields s 0
 fieldsOf (fold o) = fields 0 0
 fieldsOf (store s) = fields s 0
 fieldsOf (derivative s) = fields s 0
+fieldsOf (store-again s) = fields s 0
 fieldsOf bad = fields 0 0
 
 abbrev pub kindOf : Instr → ℕ
@@ -44,9 +45,9 @@ bitsOf x = fieldsOf (shapeOf x) .bits
 
 -- ---- from fields to an instruction
 
--- kinds 1, 2, 4, 13 and 14 have a slot, kinds 1, 2 and 3 a value
+-- kinds 1, 2, 4 and 13 to 15 have a slot, kinds 1, 2 and 3 a value
 abbrev pub hasSlot : ℕ → Bool
-hasSlot k = (leb 1 k && leb k 2) || (eqb k 4 || (leb 13 k && leb k 14))
+hasSlot k = (leb 1 k && leb k 2) || (eqb k 4 || (leb 13 k && leb k 15))
 
 abbrev pub hasValue : ℕ → Bool
 hasValue k = leb 1 k && leb k 3
@@ -55,9 +56,9 @@ hasValue k = leb 1 k && leb k 3
 abbrev pub kinds : ℕ → Float → List Instr
 kinds s x =
     Bad ∷ Constant s x ∷ Initial s x ∷ Value x ∷ Slot s ∷ Add ∷ Sub ∷ Mul ∷ Div ∷ Neg ∷ Insw ∷ Limit ∷ Compar
-    ∷ Store s ∷ Deriv s ∷ []
+    ∷ Store s ∷ Deriv s ∷ StoreAgain s ∷ []
 
--- by kind; no kind but 1 to 14 is known
+-- by kind; no kind but 1 to 15 is known
 unfoldable pub byKind : ℕ → ℕ → Float → Instr
 byKind k s x = getD (kinds s x) k Bad
 

@@ -4,7 +4,7 @@ use mathlib.Core.Bool.{cond}
 use lib.Ieee.{Float, binary64, ofBits, add, sub, mul, div, neg, lt, le}
 use Rattle.records.specs.declared.Instr.{Instr}
 use Rattle.records.specs.declared.Instr.the-variants.{Constant, Initial, Value, Slot, Add, Sub, Mul, Div}
-use Rattle.records.specs.declared.Instr.the-variants.{Neg, Insw, Limit, Compar, Store, Deriv, Bad}
+use Rattle.records.specs.declared.Instr.the-variants.{Neg, Insw, Limit, Compar, Store, Deriv, StoreAgain, Bad}
 
 -- 0 and 1
 abbrev pub zero64 : Float
@@ -64,6 +64,8 @@ pub data Shape : Type 0 where
   store : ℕ → Shape
   -- the value is the derivative of a slot
   derivative : ℕ → Shape
+  -- the value goes again to a slot that a store set
+  store-again : ℕ → Shape
   -- no record
   bad : Shape
 
@@ -76,7 +78,8 @@ abbrev kind : ℕ → Shape → Kind
 kind n s = record { number = n; shape = s }
 
 -- THE KINDS: 1 constant (slot, value); 2 initial (slot, value); 3 push value; 4 push slot; 5 add; 6 subtract;
--- 7 multiply; 8 divide; 9 negate; 10 INSW; 11 LIMIT; 12 COMPAR; 13 store to slot; 14 derivative of slot
+-- 7 multiply; 8 divide; 9 negate; 10 INSW; 11 LIMIT; 12 COMPAR; 13 store to slot; 14 derivative of slot; 15 store to
+-- slot again
 abbrev pub listed : Instr → Kind
 listed (Constant s x) = kind 1 (constant s x)
 listed (Initial s x) = kind 2 (initial s x)
@@ -92,6 +95,7 @@ listed Limit = kind 11 (fold (three limitOf))
 listed Compar = kind 12 (fold (two comparOf))
 listed (Store s) = kind 13 (store s)
 listed (Deriv s) = kind 14 (derivative s)
+listed (StoreAgain s) = kind 15 (store-again s)
 listed Bad = kind 0 bad
 
 abbrev pub shapeOf : Instr → Shape

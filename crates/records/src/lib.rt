@@ -30,6 +30,7 @@ pub enum Instr {
     Compar,
     Store(u16),
     Deriv(u16),
+    StoreAgain(u16),
     Bad,
 }
 
@@ -60,7 +61,7 @@ fn word(p: &[u8], o: usize) -> u64
     half(p, o) + 4294967296 * half(p, o + 4)
 }
 
-// The instruction of a kind, its slot and the bits of its value: kinds 1 to 14, and all others.
+// The instruction of a kind, its slot and the bits of its value: kinds 1 to 15, and all others.
 fn by_kind(kind: u64, slot: u16, bits: u64) -> Instr
     ensures { λ r. ⌜ r ≡ byKind kind slot (ofBits binary64 bits) ⌝ }
 {
@@ -79,7 +80,8 @@ fn by_kind(kind: u64, slot: u16, bits: u64) -> Instr
         12 => Instr::Compar,
         13 => Instr::Store(slot),
         14 => Instr::Deriv(slot),
-        0 | 15..=0xffff_ffff_ffff_ffff => Instr::Bad,
+        15 => Instr::StoreAgain(slot),
+        0 | 16..=0xffff_ffff_ffff_ffff => Instr::Bad,
     }
 }
 
@@ -121,8 +123,8 @@ fn with_fields(slotted: bool, valued: bool, kind: u64, slot: u64, bits: u64) -> 
     by_kind(kind, slot as u16, bits)
 }
 
-// The same, where the kind decides what it uses: kinds 1 and 2 slot and value, 3 the value, 4, 13 and 14 the slot, 5 to
-// 12 neither. No other kind is known.
+// The same, where the kind decides what it uses: kinds 1 and 2 slot and value, 3 the value, 4 and 13 to 15 the slot, 5
+// to 12 neither. No other kind is known.
 fn checked(kind: u64, slot: u64, bits: u64) -> Instr
     ensures { λ r. ⌜ r ≡ instrOf kind 0 slot bits ⌝ }
 {
@@ -131,7 +133,7 @@ fn checked(kind: u64, slot: u64, bits: u64) -> Instr
         3 => with_fields(false, true, kind, slot, bits),
         4 => with_fields(true, false, kind, slot, bits),
         5..=12 => with_fields(false, false, kind, slot, bits),
-        13..=14 => with_fields(true, false, kind, slot, bits),
+        13..=15 => with_fields(true, false, kind, slot, bits),
         _ => Instr::Bad,
     }
 }

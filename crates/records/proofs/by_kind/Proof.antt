@@ -18,10 +18,10 @@ past : (n k : ℕ) → NoneOf n k → (k ≡ 0 → ⊥) → n < k
 past zero k h z = omega arith
 past (suc n) k h z = omega (arith, past n k (h .0) z, h .1)
 
-returns-16 : tie.Need-returns-16
-returns-16 c =
+returns-17 : tie.Need-returns-17
+returns-17 c =
     let others = c .match .rest in
-    sym (unknown _ _ _ (inr (past 14 (c .before .args .kind) (others .0) (others .1))))
+    sym (unknown _ _ _ (inr (past 15 (c .before .args .kind) (others .0) (others .1))))
 
 pub by-kind-spec : {M : Type 1} → statement M
 unfolding byKind
@@ -46,4 +46,5 @@ by-kind-spec =
     (λ c. rw (c .match .keys13))
     (λ c. rw (c .match .keys14))
     (λ c. rw (c .match .keys15))
-    returns-16)
+    (λ c. rw (c .match .keys16))
+    returns-17)

@@ -39,7 +39,7 @@ returns-4 c =
     ∙ uses k _ _ false false (rw (low, lt-leb k 2 (omega arith), four, lt-leb 13 k (omega arith)))
     (rw (low, lt-leb k 3 (omega arith)))
 
--- kinds 13 and 14
+-- kinds 13 to 15
 returns-5 : tie.Need-returns-5
 returns-5 c =
     let k = c .before .before .before .before .before .before .args .kind in
@@ -47,7 +47,7 @@ returns-5 c =
     let four = ne-eqb k 4 (λ e. omega arith) in
     let high = le-leb 13 k (omega arith) in
     c .with-fields5 .ensures
-    ∙ uses k _ _ true false (rw (low, lt-leb k 2 (omega arith), four, high, le-leb k 14 (omega arith)))
+    ∙ uses k _ _ true false (rw (low, lt-leb k 2 (omega arith), four, high, le-leb k 15 (omega arith)))
     (rw (low, lt-leb k 3 (omega arith)))
 
 -- all others

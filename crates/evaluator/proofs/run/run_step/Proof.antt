@@ -2,7 +2,7 @@ use borrow.Author.Needs.{needs}
 use lib.Ieee.{binary64, add, sub, mul, div, neg}
 use Rattle.records.specs.Shape.{inswOf, limitOf, comparOf}
 use Rattle.evaluator.proofs.RunRecord.{reach, room, in-values, in-derivs, one-less}
-use Rattle.evaluator.proofs.RunRecord.{constant-step, initial-step, bad-step, store-step, deriv-step}
+use Rattle.evaluator.proofs.RunRecord.{constant-step, initial-step, bad-step, store-step, deriv-step, again-step}
 use Rattle.evaluator.proofs.RunRecord.{value-step, slot-step, one-step, two-step, three-step}
 use Rattle.evaluator.proofs.run.run_step.Statement.{statement}
 use Rattle.evaluator.proofs.run.run_step.Tie as tie
@@ -72,6 +72,12 @@ run-step-spec =
     (λ c. search in-derivs)
     (λ c. search one-less)
     (λ c. search needs)
+    (λ c κs. search (needs, reach))
+    (λ c. search needs)
+    (λ c. search needs)
+    (λ c. search in-values)
+    (λ c. search one-less)
+    (λ c. search needs)
     (λ c. search needs)
     (λ c. search constant-step)
     (λ c. search initial-step)
@@ -89,4 +95,6 @@ run-step-spec =
     (λ c. search store-step)
     (λ c. search needs)
     (λ c. search deriv-step)
+    (λ c. search needs)
+    (λ c. search again-step)
     (λ c. search bad-step))
