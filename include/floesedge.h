@@ -83,9 +83,9 @@ enum {
 
 /* ---- records: 16 bytes each, every number low byte first, unused fields 0
  *
- *   0        kind, 1 to 14
+ *   0        kind, 1 to 15
  *   1        0
- *   2, 3     slot, of kinds 1, 2, 4, 13 and 14
+ *   2, 3     slot, of kinds 1, 2, 4 and 13 to 15
  *   4 to 7   the statement's first line
  *   8 to 15  the bits of a double, of kinds 1, 2 and 3
  *
@@ -105,7 +105,8 @@ enum {
     FLOESEDGE_LIMIT = 11,
     FLOESEDGE_COMPAR = 12,
     FLOESEDGE_STORE = 13,
-    FLOESEDGE_DERIVATIVE = 14
+    FLOESEDGE_DERIVATIVE = 14,
+    FLOESEDGE_STORE_AGAIN = 15 /* to a slot that kind 13 has set */
 };
 
 /* ---- the answer of evaluating, starting and stepping */

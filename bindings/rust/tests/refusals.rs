@@ -147,7 +147,20 @@ fn answers() {
         Answer::BadRecord { record: 67 }
     );
 
-    assert_eq!(answered(&record(15, 0)), Answer::BadRecord { record: 0 });
+    assert_eq!(answered(&record(16, 0)), Answer::BadRecord { record: 0 });
+    // kind 15 stores again to a slot that kind 13 set
+    let stored = [record(3, 0), record(13, 1)].concat();
+    let again = [record(3, 0), record(15, 1)].concat();
+    assert_eq!(answered(&[stored.clone(), again.clone()].concat()), Answer::Done);
+    assert_eq!(answered(&again), Answer::BadRecord { record: 1 });
+    assert_eq!(
+        answered(&[record(1, 1).to_vec(), again].concat()),
+        Answer::BadRecord { record: 2 }
+    );
+    assert_eq!(
+        answered(&[stored, record(15, 1).to_vec()].concat()),
+        Answer::BadRecord { record: 2 }
+    );
     assert_eq!(
         answered(&[record(1, 1), record(1, 1)].concat()),
         Answer::BadRecord { record: 1 }

@@ -149,8 +149,8 @@ module _ {t : State} {l : List ℕ} {r : State} (w : Stands t l) where
 
     pub again : r ≡ state 3 0 (t .owed) → t .height ≡ 1 → getD l s 0 ≡ 4 → Judges t l (againRule s) r l
     again q a e =
-        passed (againRule s) 0 (t .owed) q (omega arith) refl refl (w .owed) w (omega arith) zero-le (w .phase) (lit≤ tt)
-        (and-both _ _ (eq-eqb (t .height) 1 a) (eq-eqb (getD l s 0) 4 e))
+        passed (againRule s) 0 (t .owed) q (omega arith) refl refl (w .owed) w (omega arith) zero-le (w .phase)
+        (lit≤ tt) (and-both _ _ (eq-eqb (t .height) 1 a) (eq-eqb (getD l s 0) 4 e))
 
 -- ---- the instruction x, as which a match has found i
 

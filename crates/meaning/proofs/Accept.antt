@@ -37,7 +37,7 @@ use Rattle.meaning.proofs.Settings.{Open, pass-constants, pass-initials
 -- the mark of an equation's slot, by whether it is a state's and whether it is placed
 abbrev status : Bool → Bool → ℕ
 status false false = 0
-status false true = 1
+status false true = 4
 status true false = 2
 status true true = 3
 
@@ -87,7 +87,7 @@ module _ (ds : List Def) where
           ⊎-elim (λ b. held-mark (has j f) (sym (rw b at m) ∙ z))
           (λ (b : eqn j .held ≡ false).
           let y = u j h (rw (b, lt-ltb 0 (count (eqn j .key) (names (eqn i .tree))) n′)) in
-          let w : getD l (slot k) 0 ≡ 1 = rw (b, lt-ltb 0 (count j f) y) at m in
+          let w : getD l (slot k) 0 ≡ 4 = rw (b, lt-ltb 0 (count j f) y) at m in
           omega arith) (bool-cases (eqn j .held))
 
       -- so all that it reads is set

@@ -15,7 +15,7 @@ use Rattle.laws.proofs.Tests.{not-both, eq-or-ne, and-true}
 use Rattle.records.specs.declared.Instr.{Instr}
 use Rattle.records.specs.Fields.{fieldsOf}
 use Rattle.records.specs.Shape.{value, slot, operands, applied}
-use Rattle.records.specs.Shape.{Shape, constant, initial, push, fold, store, derivative, bad, shapeOf}
+use Rattle.records.specs.Shape.{Shape, constant, initial, push, fold, store, derivative, store-again, bad, shapeOf}
 use Rattle.evaluator.specs.Judge.{ruleOf}
 use Rattle.evaluator.specs.Machine.{Machine, act, step, run}
 use Rattle.meaning.specs.ReadSlots.{SetSlot, DerivedSlot, Same}
@@ -54,6 +54,7 @@ acted-long m (push p) = (refl, refl)
 acted-long m (fold o) = (refl, refl)
 acted-long m (store s) = (length-set (m .values) s (top m), refl)
 acted-long m (derivative s) = (refl, length-set (m .derivs) s (top m))
+acted-long m (store-again s) = (length-set (m .values) s (top m), refl)
 acted-long m bad = (refl, refl)
 
 -- each place is one that the record writes, or it stays
@@ -69,7 +70,7 @@ acted-stays m (initial s x) hs q = (inr refl, inr refl)
 acted-stays m (push p) hs q = (inr refl, inr refl)
 acted-stays m (fold o) hs q = (inr refl, inr refl)
 acted-stays m (store s) hs q = (
-  ⊎-elim (λ (e : q ≡ s). inl (inr (List·Memᴰ·head (ap store e))))
+  ⊎-elim (λ (e : q ≡ s). inl (inr (inl (List·Memᴰ·head (ap store e)))))
       (λ e. inr (getD-set-other (m .values) s q (top m) nan e)) (eq-or-ne q s),
   inr refl,
 )
@@ -77,6 +78,11 @@ acted-stays m (derivative s) hs q = (
   inr refl,
   ⊎-elim (λ (e : q ≡ s). inl (List·Memᴰ·head (ap derivative e)))
       (λ e. inr (getD-set-other (m .derivs) s q (top m) nan e)) (eq-or-ne q s),
+)
+acted-stays m (store-again s) hs q = (
+  ⊎-elim (λ (e : q ≡ s). inl (inr (inr (List·Memᴰ·head (ap store-again e)))))
+      (λ e. inr (getD-set-other (m .values) s q (top m) nan e)) (eq-or-ne q s),
+  inr refl,
 )
 acted-stays m bad hs q = (inr refl, inr refl)
 
@@ -130,7 +136,17 @@ module _ (m n : Machine) (r : Roomy m n) (tops : top m ≡ top n) where
     set-keeps (m .derivs) (n .derivs) s (top m) (top n) (omega (arith, b, r .derivs)) (omega (arith, b, r .derivs-too))
         tops q,
   )
+  acted-keeps (store-again s) b q = (
+    set-keeps (m .values) (n .values) s (top m) (top n) (omega (arith, b, r .values)) (omega (arith, b, r .values-too))
+        tops q,
+    λ e. e,
+  )
   acted-keeps bad b q = (λ e. e, λ e. e)
+
+  -- they agree in a slot to which the topmost value goes
+  pub stored-now : (q : ℕ) → q < slots → Same (set (m .values) q (top m)) (set (n .values) q (top n)) q
+  stored-now q b =
+      set-now (m .values) (n .values) q (top m) (top n) (omega (arith, r .values)) (omega (arith, r .values-too)) tops
 
   -- they agree in the slot that it sets
   pub acted-value : (h : Shape) (hs : List Shape) → fieldsOf h .operand < slots → (q : ℕ) → SetSlot (h ∷ hs) q
@@ -142,13 +158,12 @@ module _ (m n : Machine) (r : Roomy m n) (tops : top m ≡ top n) where
       inl (rw (← e) (set-now (m .values) (n .values) q (z .0) (z .0) (omega (arith, r .values))
       (omega (arith, r .values-too)) refl)))
       (λ t. inr (inl (z .0, t))) (List·Memᴰ·cases-cons (z .1))
-  acted-value h hs b q (inr z) =
-      ⊎-elim
-      (λ (e : store q ≡ h).
-      let b′ : q < slots = rw (← e) at b in
-      inl (rw (← e) (set-now (m .values) (n .values) q (top m) (top n) (omega (arith, r .values))
-      (omega (arith, r .values-too)) tops)))
-      (λ t. inr (inr t)) (List·Memᴰ·cases-cons z)
+  acted-value h hs b q (inr (inl z)) =
+      ⊎-elim (λ (e : store q ≡ h). inl (rw (← e) (stored-now q (rw (← e) at b)))) (λ t. inr (inr (inl t)))
+      (List·Memᴰ·cases-cons z)
+  acted-value h hs b q (inr (inr z)) =
+      ⊎-elim (λ (e : store-again q ≡ h). inl (rw (← e) (stored-now q (rw (← e) at b)))) (λ t. inr (inr (inr t)))
+      (List·Memᴰ·cases-cons z)
 
   -- and in the derivative that it writes
   pub acted-deriv : (h : Shape) (hs : List Shape) → fieldsOf h .operand < slots → (q : ℕ) → DerivedSlot (h ∷ hs) q
@@ -217,12 +232,7 @@ acted-alike l k m n r a h b g f = go h b g f
     go (store s) b g f =
         record {
           stack = ap (drop 1) (a .stack);
-          values =
-              λ q u.
-              marked-set l s 1 q u
-              (λ (e : q ≡ s). rw e (set-now (m .values) (n .values) s (top m) (top n) (omega (arith, r .values))
-              (omega (arith, r .values-too)) tops))
-              (kept (store s) b q);
+          values = λ q u. marked-set l s 4 q u (λ (e : q ≡ s). rw e (stored-now m n r tops s b)) (kept (store s) b q);
         }
     go (derivative s) b g f =
         let two = eqb-true (getD l s 0) 2 (and-true (eqb k 1) (eqb (getD l s 0) 2) g .1) in
@@ -230,4 +240,6 @@ acted-alike l k m n r a h b g f = go h b g f
           stack = ap (drop 1) (a .stack);
           values = λ q u. marked-set l s 3 q u (λ (e : q ≡ s). rw e (a .values s (λ z. omega arith))) (a .values q);
         }
+    go (store-again s) b g f =
+        record { stack = ap (drop 1) (a .stack); values = kept (store-again s) b }
     go bad b g f = absurd (not-both g refl)

@@ -16,8 +16,9 @@ use Rattle.bits.specs.Low.{lowBytes, lowWord}
 use Rattle.bits.proofs.Lows.{word-bytes}
 use Rattle.records.specs.declared.Instr.{Instr}
 use Rattle.records.specs.declared.Instr.the-variants.{Constant, Initial, Value, Slot, Add, Sub, Mul, Div, Neg, Insw}
-use Rattle.records.specs.declared.Instr.the-variants.{Limit, Compar, Store, Deriv, Bad}
-use Rattle.records.specs.Shape.{value, slot, Shape, constant, initial, push, fold, store, derivative, bad, shapeOf}
+use Rattle.records.specs.declared.Instr.the-variants.{Limit, Compar, Store, Deriv, StoreAgain, Bad}
+use Rattle.records.specs.Shape.{value, slot, Shape, constant, initial, push, fold, store, derivative, store-again}
+use Rattle.records.specs.Shape.{bad, shapeOf}
 use Rattle.records.specs.Fields.{fieldsOf, kindOf, operandOf, bitsOf, byKind, instrOf}
 use Rattle.records.specs.Record.{Rec, recBytes, programBytes, instrs, field, decodeAt, decodeFrom, decoded}
 use Rattle.translator.proofs.Deciding.{length-program}
@@ -35,6 +36,7 @@ ProperAs (push (slot s)) = s < slots
 ProperAs (fold o) = Unit {0}
 ProperAs (store s) = s < slots
 ProperAs (derivative s) = s < slots
+ProperAs (store-again s) = s < slots
 ProperAs bad = ⊥
 
 -- an instruction that one can hold
@@ -58,6 +60,7 @@ fields-back Limit h = refl
 fields-back Compar h = refl
 fields-back (Store s) h = rw (lt-ltb s slots h)
 fields-back (Deriv s) h = rw (lt-ltb s slots h)
+fields-back (StoreAgain s) h = rw (lt-ltb s slots h)
 fields-back Bad h = absurd h
 
 -- a slot has at most two bytes
@@ -69,6 +72,7 @@ slot-small (push (slot s)) h = omega arith
 slot-small (fold o) h = lit< tt
 slot-small (store s) h = omega arith
 slot-small (derivative s) h = omega arith
+slot-small (store-again s) h = omega arith
 slot-small bad h = absurd h
 
 -- the bits have at most eight
@@ -80,6 +84,7 @@ bits-small (push (slot s)) h = lit< tt
 bits-small (fold o) h = lit< tt
 bits-small (store s) h = lit< tt
 bits-small (derivative s) h = lit< tt
+bits-small (store-again s) h = lit< tt
 bits-small bad h = absurd h
 
 -- a record's bytes behind others, and before others

@@ -24,7 +24,7 @@ pub mod Made
 pub mod Compares
 pub mod Unique
 pub mod Acted
-pub mod SetOnce
+pub mod SetApart
 pub mod ReadSlots
 pub mod Levels
 pub mod Faithful

@@ -190,6 +190,7 @@ module _ (ds : List Def) (one : Once (keys ds)) (q : List ℕ) (g : GoodOrder ds
           for-what 2 (constant x) e [] [] [] refl refl (for-none 2 (inl (omega arith)) x e),
           for-what 13 (constant x) e [] [] [] refl refl (for-none 13 (inr (omega arith)) x e),
           for-what 14 (constant x) e [] [] [] refl refl (for-none 14 (inr (omega arith)) x e),
+          for-what 15 (constant x) e [] [] [] refl refl (for-none 15 (inr (omega arith)) x e),
         )
     records-of (assigned t) e =
         let X : Equation = record { line = it .line; key = it .key; held = false; tree = t } in
@@ -200,6 +201,7 @@ module _ (ds : List Def) (one : Once (keys ds)) (q : List ℕ) (g : GoodOrder ds
           for-what 13 (assigned t) e [] [] (r ∷ []) refl refl
               (for-ordered X refl w 13 (inr (omega arith)) ∙ own-record r),
           for-what 14 (assigned t) e [] [] [] refl refl (for-ordered X refl w 14 (inr (omega arith))),
+          for-what 15 (assigned t) e [] [] [] refl refl (for-ordered X refl w 15 (inr (omega arith))),
           stands X refl w,
         )
     records-of (integral n t) e =
@@ -215,6 +217,7 @@ module _ (ds : List Def) (one : Once (keys ds)) (q : List ℕ) (g : GoodOrder ds
           for-what 13 (integral n t) e [] [] [] refl refl (for-ordered X refl w 13 (inr (omega arith))),
           for-what 14 (integral n t) e [] [] (r ∷ []) refl refl
               (for-ordered X refl w 14 (inr (omega arith)) ∙ own-record r),
+          for-what 15 (integral n t) e [] [] [] refl refl (for-ordered X refl w 15 (inr (omega arith))),
           stands X refl w,
         )
 

@@ -23,15 +23,16 @@ use Rattle.meaning.specs.ReadSlots.{shapes, StateSlot, SetSlot, DerivedS
 use Rattle.meaning.specs.ReadSlots.{OthersStay, ReadsStates}
 use Rattle.meaning.proofs.Acted.{top, run-next, acted-long, acted-stays, Roomy, acted-roomy, Marked}
 use Rattle.meaning.proofs.Acted.{Alike, acted-keeps, acted-value, acted-deriv, marked-set, acted-alike}
-use Rattle.meaning.proofs.SetOnce.{judge-next, good-fine, set-none, mark-now, marked-apart, state-apart}
-use Rattle.meaning.proofs.SetOnce.{slot-below}
+use Rattle.meaning.proofs.SetApart.{judge-next, good-fine, set-none, unstored-now, marked-apart, state-apart}
+use Rattle.meaning.proofs.SetApart.{slot-below}
 
 -- ---- all records
 
 -- a slot that one of these sets is set with one record more in front
 set-later : (h : Shape) (hs : List Shape) (q : ℕ) → SetSlot hs q → SetSlot (h ∷ hs) q
 set-later h hs q (inl z) = inl (z .0, List·Memᴰ·tail (z .1))
-set-later h hs q (inr z) = inr (List·Memᴰ·tail z)
+set-later h hs q (inr (inl z)) = inr (inl (List·Memᴰ·tail z))
+set-later h hs q (inr (inr z)) = inr (inr (List·Memᴰ·tail z))
 
 -- two runs side by side: they agree where they did, and in what they write
 alike-run : (xs : List Instr) (i p k : ℕ) (j : Judge) (m n : Machine) → judgeFrom i j xs .number ≡ 0 → Sound p k xs
@@ -124,9 +125,9 @@ module _ (p : List ℕ) (v d : List Float) (accepted : refusal p v d ≡ answer 
       let none = replicate {A = ℕ} slots 0 in
       let wide : length none ≡ slots = length-replicate {A = ℕ} slots 0 in
       let long : length (judge₀ .marks) ≡ slots = length-set none 0 1 ∙ wide in
-      let time = mark-now none 0 1 (omega (arith, wide)) (λ t. omega arith) in
+      let time = unstored-now none 0 1 (omega (arith, wide)) (λ t. omega arith) (λ t. omega arith) in
       ⊎-elim
-      (λ (e : s ≡ 0). marked-apart (decoded p) 0 judge₀ a 0 time .0 (rw e at z))
+      (λ (e : s ≡ 0). marked-apart (decoded p) 0 judge₀ a 0 .0 time (rw e at z))
       (λ (t : StateSlot (shapes p) s).
       let b : s < slots = slot-below (decoded p) 1 0 (g .sound) (initial s (t .0)) (t .1) in
       state-apart (decoded p) 0 judge₀ a s (rw long b) t z) r

@@ -7,7 +7,7 @@ use mathlib.Core.List.{List, map, List·Memᴰ}
 use lib.ListN.{length, getD}
 use lib.Ieee.{Float, nan}
 use Rattle.records.specs.Record.{decoded}
-use Rattle.records.specs.Shape.{Shape, constant, initial, store, derivative, shapeOf}
+use Rattle.records.specs.Shape.{Shape, constant, initial, store, derivative, store-again, shapeOf}
 use Rattle.evaluator.specs.Evaluate.{RunOutcome, evaluated}
 
 -- what the records of a program do, one after the other
@@ -19,9 +19,13 @@ module _ (hs : List Shape) (s : ℕ) where
   abbrev pub StateSlot : Type 0
   StateSlot = (x : Float) × List·Memᴰ (initial s x) hs
 
-  -- .. of a constant, kind 1, or a stored one, kind 13
+  -- .. a stored one: kind 13, or kind 15, which stores again
+  abbrev pub StoredSlot : Type 0
+  StoredSlot = List·Memᴰ (store s) hs ⊎ List·Memᴰ (store-again s) hs
+
+  -- .. of a constant, kind 1, or a stored one
   abbrev pub SetSlot : Type 0
-  SetSlot = ((x : Float) × List·Memᴰ (constant s x) hs) ⊎ List·Memᴰ (store s) hs
+  SetSlot = ((x : Float) × List·Memᴰ (constant s x) hs) ⊎ StoredSlot
 
   -- .. one whose derivative is written: kind 14
   abbrev pub DerivedSlot : Type 0

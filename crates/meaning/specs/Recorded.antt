@@ -43,20 +43,20 @@ module _ (slot : ℕ → ℕ) where
   abbrev pub block : ℕ → Tree → Instr → List Rec
   block l e x = map (rec l) (map (instrItem slot) (postfix e) ++ (x ∷ []))
 
-  -- Of the kinds that set a slot, 1, 2 and 13, and of kind 14 the program rs has for a name's slot: for a pair of
+  -- Of the kinds that set a slot, 1, 2, 13 and 15, and of kind 14 the program rs has for a name's slot: for a pair of
   -- constants one of kind 1 with its value, alone
   abbrev pub ConstantRecorded : List Rec → ℕ → Constant → Type 0
   ConstantRecorded rs l c =
       (recordsFor 1 (slot (c .key)) rs ≡ rec l (Fixed (slot (c .key)) (c .worth)) ∷ [])
       × (recordsFor 2 (slot (c .key)) rs ≡ []) × (recordsFor 13 (slot (c .key)) rs ≡ [])
-      × (recordsFor 14 (slot (c .key)) rs ≡ [])
+      × (recordsFor 14 (slot (c .key)) rs ≡ []) × (recordsFor 15 (slot (c .key)) rs ≡ [])
 
   -- for an assignment a store, alone, directly behind its expression
   abbrev pub AssignmentRecorded : List Rec → ℕ → ℕ → Tree → Type 0
   AssignmentRecorded rs l k e =
       (recordsFor 1 (slot k) rs ≡ []) × (recordsFor 2 (slot k) rs ≡ [])
       × (recordsFor 13 (slot k) rs ≡ rec l (Store (slot k)) ∷ []) × (recordsFor 14 (slot k) rs ≡ [])
-      × StandsIn (block l e (Store (slot k))) rs
+      × (recordsFor 15 (slot k) rs ≡ []) × StandsIn (block l e (Store (slot k))) rs
 
   -- for a state an initial with its value, and a derivative directly behind its expression
   abbrev pub StateRecorded : (Initial → Float → Type 0) → List Rec → ℕ → ℕ → Initial → Tree → Type 0
@@ -64,7 +64,7 @@ module _ (slot : ℕ → ℕ) where
       (x : Float) × Value i x
       × (recordsFor 1 (slot k) rs ≡ []) × (recordsFor 2 (slot k) rs ≡ rec l (Start (slot k) x) ∷ [])
       × (recordsFor 13 (slot k) rs ≡ []) × (recordsFor 14 (slot k) rs ≡ rec l (Deriv (slot k)) ∷ [])
-      × StandsIn (block l e (Deriv (slot k))) rs
+      × (recordsFor 15 (slot k) rs ≡ []) × StandsIn (block l e (Deriv (slot k))) rs
 
   -- ---- what each statement adds to the parts of a program
 

@@ -175,6 +175,56 @@ fn nothing(t0: Tally) -> Tally {
     number(t, kept(&d), SLOTS)
 }
 
+// Slot 1 is 5, and slot 2 is it doubled. Slot 1 becomes slot 2 + slot 1, and slot 3 is slot 1 - slot 2. At last slot 1
+// becomes itself times TIME.
+fn again() -> [u8; 288] {
+    let mut p = [0u8; 288];
+    record(&mut p, 0, 3, 0, 0x4014_0000_0000_0000);
+    record(&mut p, 1, 13, 1, 0);
+    of_slots(&mut p, 2, 1, 1, 5, 2);
+    record(&mut p, 6, 4, 2, 0);
+    record(&mut p, 7, 4, 1, 0);
+    record(&mut p, 8, 5, 0, 0);
+    record(&mut p, 9, 15, 1, 0);
+    of_slots(&mut p, 10, 1, 2, 6, 3);
+    record(&mut p, 14, 4, 1, 0);
+    record(&mut p, 15, 4, 0, 0);
+    record(&mut p, 16, 7, 0, 0);
+    record(&mut p, 17, 15, 1, 0);
+    p
+}
+
+// At TIME = 2: slot 2 is 5 + 5 = 10, slot 1 becomes 10 + 5 = 15, slot 3 is 15 - 10 = 5, and slot 1 ends as 15 * 2 = 30.
+fn stores_again(t0: Tally) -> Tally {
+    let p = again();
+    let mut v = sevens();
+    let mut d = sevens();
+    v[0] = 2.0;
+    let a = evaluator::evaluate(&p, &mut v, &mut d);
+    let mut t = number(t0, a.number, 0);
+    t = at(t, &v, 1, 0x403e_0000_0000_0000);
+    t = at(t, &v, 2, 0x4024_0000_0000_0000);
+    t = at(t, &v, 3, 0x4014_0000_0000_0000);
+    t = number(t, kept(&v), SLOTS - 4);
+    number(t, kept(&d), SLOTS)
+}
+
+// A start writes TIME = 0 alone. A step of 0.5 then evaluates at TIME = 0: slot 1 ends as 15 * 0 = 0, and slot 3 is
+// 15 - 10 = 5. TIME is 0.5 then.
+fn steps_again(t0: Tally) -> Tally {
+    let p = again();
+    let mut v = sevens();
+    let mut d = sevens();
+    let a = evaluator::start(&p, &mut v, &mut d);
+    let mut t = number(t0, a.number, 0);
+    t = number(t, kept(&v), SLOTS - 1);
+    let b = evaluator::step(&p, 0.5, &mut v, &mut d);
+    t = number(t, b.number, 0);
+    t = at(t, &v, 1, 0);
+    t = at(t, &v, 3, 0x4014_0000_0000_0000);
+    at(t, &v, 0, 0x3fe0_0000_0000_0000)
+}
+
 // All of these.
 pub fn all(t0: Tally) -> Tally {
     let mut t = computes(t0);
@@ -183,5 +233,7 @@ pub fn all(t0: Tally) -> Tally {
     t = rounds_twice(t);
     t = reads(t);
     t = piles(t);
+    t = stores_again(t);
+    t = steps_again(t);
     nothing(t)
 }

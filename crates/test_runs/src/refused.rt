@@ -84,10 +84,21 @@ fn four(t: Tally, a: Rec, b: Rec, c: Rec, d: Rec) -> Tally {
     refused(t, &p, 3, 3)
 }
 
+// Of five records, the fifth bad.
+fn five(t: Tally, a: Rec, b: Rec, c: Rec, d: Rec, e: Rec) -> Tally {
+    let mut p = [0u8; 80];
+    record(&mut p, 0, a.kind, a.slot, a.value);
+    record(&mut p, 1, b.kind, b.slot, b.value);
+    record(&mut p, 2, c.kind, c.slot, c.value);
+    record(&mut p, 3, d.kind, d.slot, d.value);
+    record(&mut p, 4, e.kind, e.slot, e.value);
+    refused(t, &p, 3, 4)
+}
+
 // Unknown kinds, and byte 1 not 0.
 fn kinds(t0: Tally) -> Tally {
     let mut t = one(t0, of(0, 0, 0));
-    t = one(t, of(15, 0, 0));
+    t = one(t, of(16, 0, 0));
     t = one(t, of(255, 0, 0));
     t = one(t, of(3 + 256, 0, 0));
     one(t, of(1 + 256 * 128, 1, 0))
@@ -157,13 +168,41 @@ fn ends(t0: Tally) -> Tally {
     t = four(t, initial(1), push(), push(), of(14, 1, 0));
     t = two(t, push(), of(14, 1, 0));
     t = three(t, constant(1), push(), of(14, 1, 0));
-    let mut p = [0u8; 80];
-    record(&mut p, 0, 2, 1, 0);
-    record(&mut p, 1, 3, 0, 0);
-    record(&mut p, 2, 14, 1, 0);
-    record(&mut p, 3, 3, 0, 0);
-    record(&mut p, 4, 14, 1, 0);
-    refused(t, &p, 3, 4)
+    five(t, initial(1), push(), of(14, 1, 0), push(), of(14, 1, 0))
+}
+
+// Slot 1 is stored, and a value is pushed; the record behind them is bad.
+fn stored(t: Tally, a: Rec) -> Tally {
+    four(t, push(), of(13, 1, 0), push(), a)
+}
+
+// Kind 15 with byte 1 not 0, a slot over 255, or a value; the bits of -0 are not 0.
+fn again_fields(t0: Tally) -> Tally {
+    let mut t = stored(t0, of(15 + 256, 1, 0));
+    t = stored(t, of(15, 257, 0));
+    t = stored(t, of(15, 1, 1));
+    stored(t, of(15, 1, 0x8000_0000_0000_0000))
+}
+
+// Kind 15 for a slot that is not set, where none is and where another is stored, for slot 0, for a constant, and for a
+// state, without its derivative and with it.
+fn again_slots(t0: Tally) -> Tally {
+    let mut t = two(t0, push(), of(15, 1, 0));
+    t = stored(t, of(15, 2, 0));
+    t = two(t, push(), of(15, 0, 0));
+    t = three(t, constant(1), push(), of(15, 1, 0));
+    t = three(t, initial(1), push(), of(15, 1, 0));
+    five(t, initial(1), push(), of(14, 1, 0), push(), of(15, 1, 0))
+}
+
+// Kind 15 without a value and with two; kinds 1 and 2 behind it.
+fn again_places(t0: Tally) -> Tally {
+    let store = of(13, 1, 0);
+    let again = of(15, 1, 0);
+    let mut t = three(t0, push(), store, again);
+    t = five(t, push(), store, push(), push(), again);
+    t = five(t, push(), store, push(), again, constant(2));
+    five(t, push(), store, push(), again, initial(2))
 }
 
 // A sixty-eighth value; the first of two bad records; 4 for a value left and for a state without derivative.
@@ -233,6 +272,9 @@ pub fn all(t0: Tally) -> Tally {
     t = marks(t);
     t = few(t);
     t = ends(t);
+    t = again_fields(t);
+    t = again_slots(t);
+    t = again_places(t);
     t = ended(t);
     t = sizes(t);
     t = short_values(t);
