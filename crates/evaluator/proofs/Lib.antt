@@ -2,6 +2,7 @@ pub mod StackValues
 pub mod AcceptedSound
 pub mod JudgedRecord
 pub mod JudgedProgram
+pub mod JudgedRows
 pub mod RunRecord
 pub mod RunProgram
 pub mod StatePasses

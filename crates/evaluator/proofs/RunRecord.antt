@@ -11,7 +11,7 @@ use Rattle.records.specs.declared.Instr.{Instr}
 use Rattle.records.specs.declared.Instr.the-variants.{Constant, Initial, Value, Slot, Store, Deriv, StoreAgain, Bad}
 use Rattle.evaluator.specs.Judge.{ruleOf, takes, gives}
 use Rattle.evaluator.specs.Machine.{step}
-use Rattle.evaluator.specs.Stack.{below, Reaches, Room, Yields, Ready, Steps}
+use Rattle.evaluator.specs.Stack.{below, Reaches, HasPlace, Yields, Ready, Steps}
 use Rattle.evaluator.proofs.StackValues.{down-drop}
 
 -- ---- what the instruction x finds, as which a match has found i
@@ -25,7 +25,7 @@ module _ {l : List Float} {n : ℕ} {v d : List Float} {i x : Instr} (e : i ≡ 
   reach h = record { low = omega (arith, found .low); tall = r .tall }
 
   -- there is a place for the value that it gives
-  pub room : {k : ℕ} → takes x ≡ k → gives x ≡ 1 → Room k l n
+  pub room : {k : ℕ} → takes x ≡ k → gives x ≡ 1 → HasPlace k l n
   room t g = record { low = omega (arith, found .low); high = omega (arith, found .high); full = r .full }
 
   -- its slot is one of the values, and of the derivatives

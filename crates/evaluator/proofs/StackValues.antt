@@ -7,7 +7,7 @@ use native.Mathlib.Omega.{arith}
 use lib.ListN.{length, getD, set, drop, length-set}
 use lib.Seq.{getD-set-same, getD-set-other}
 use lib.Ieee.{Float, nan}
-use Rattle.evaluator.specs.Stack.{down, Room, Yields}
+use Rattle.evaluator.specs.Stack.{down, HasPlace, Yields}
 
 -- what is written above the first n items does not change them
 down-set : (l : List Float) (n i : ℕ) (x : Float) → n ≤ i → down (set l i x) n ≡ down l n
@@ -37,7 +37,7 @@ down-at l (suc n) (suc k) h =
     rw e (down-at l n k (omega arith))
 
 -- x is put for the k topmost
-pub put-done : (k : ℕ) (l : List Float) (n : ℕ) (x : Float) → Room k l n → Yields k l n x (set l (n - k) x) (n - k + 1)
+pub put-done : (k : ℕ) (l : List Float) (n : ℕ) (x : Float) → HasPlace k l n → Yields k l n x (set l (n - k) x) (n - k + 1)
 put-done k l n x h =
     record {
       stack = down-put l (n - k) x (omega (arith, h .high, h .full)) ∙ rw (down-drop l n k);

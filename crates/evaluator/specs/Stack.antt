@@ -34,7 +34,7 @@ pub record Reaches (k n : ℕ) : Type 0 where
   pub tall : n ≤ stackPlaces
 
 -- the k topmost of n values can give way to one
-pub record Room (k : ℕ) (l : List Float) (n : ℕ) : Type 0 where
+pub record HasPlace (k : ℕ) (l : List Float) (n : ℕ) : Type 0 where
   pub low : k ≤ n
   pub high : n - k < stackPlaces
   pub full : length l ≡ stackPlaces

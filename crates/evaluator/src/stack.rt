@@ -2,7 +2,7 @@
 // copied.
 use limits::STACK;
 ghost use mathlib.Core.Path.{_≡_};
-ghost use Rattle.evaluator.specs.Stack.{emptied, below, Reaches, Room, Yields};
+ghost use Rattle.evaluator.specs.Stack.{emptied, below, Reaches, HasPlace, Yields};
 
 pub struct Stack {
     pub items: [f64; STACK],
@@ -29,7 +29,7 @@ pub fn peek(items: &[f64; STACK], count: usize, k: usize) -> f64
 
 // The k topmost values give way to x. The new count is returned.
 pub fn put(items: &mut [f64; STACK], count: usize, k: usize, x: f64) -> usize
-    requires { ⌜ Room k (now items) count ⌝ }
+    requires { ⌜ HasPlace k (now items) count ⌝ }
     ensures { λ r. ⌜ Yields k (now (items .entry)) count x (now (items .exit)) r ⌝ }
 {
     let at = count - k;

@@ -22,18 +22,17 @@ use Rattle.model.proofs.NoModelFault.{no-faults, order-good}
 use Rattle.records.specs.Record.{Rec, programBytes, instrs, decoded}
 use Rattle.program.specs.Program.{initialValue}
 use Rattle.translator.specs.Verdict.{translated, verdictOf}
-use Rattle.translator.proofs.Deciding.{length-program}
+use Rattle.records.proofs.ReadBack.{length-program, program-back}
 use Rattle.evaluator.specs.Judge.{answer, judge}
 use Rattle.evaluator.specs.Evaluate.{refusal}
 use Rattle.model.specs.Text.{textDefinitions}
 use Rattle.meaning.specs.Slots.{definitionAt, Resolved}
-use Rattle.meaning.proofs.Decoding.{program-back}
 use Rattle.meaning.proofs.Texts.{FitsTree, definitions-fit, equations-fit}
 use Rattle.meaning.proofs.Zero.{Clear, clear}
 use Rattle.meaning.proofs.Owned.{names-known}
 use Rattle.meaning.proofs.Initials.{resolved}
 use Rattle.meaning.proofs.Readable.{readable}
-use Rattle.meaning.proofs.Accept.{takes-program}
+use Rattle.meaning.proofs.JudgeTakes.{takes-program}
 
 -- ---- what a text with verdict 0 has
 module _ {text : List ℕ} {room : ℕ} {rs : List Rec} (c : Clear text room rs) where

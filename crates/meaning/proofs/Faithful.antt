@@ -21,7 +21,7 @@ use Rattle.meaning.specs.Recorded.{ConstantRecorded, AssignmentRecorded,
 use Rattle.meaning.specs.Faithful.{saidIn, handedOn, Evaluates, Starts, Steps, HasSlots, Faithful}
 use Rattle.meaning.proofs.Zero.{Clear, clear, zero-translated}
 use Rattle.meaning.proofs.Runs.{run-program}
-use Rattle.meaning.proofs.Solves.{solves}
+use Rattle.meaning.proofs.RunSolves.{solves}
 use Rattle.meaning.proofs.Statements.{by-places, resolves}
 use Rattle.meaning.proofs.Solutions.{solution-of, solved-of, beginning, stepping}
 use Rattle.meaning.proofs.Unique.{only-one}

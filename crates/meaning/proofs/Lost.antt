@@ -1,6 +1,6 @@
 -- Nothing is lost: every statement is taken, and each definition has its records in the program, each exactly once.
 use Prim.Native.Nat.{ℕ, suc, _<_}
-use mathlib.Core.Path.{_≡_, refl, sym, ap, ap₂, _∙_}
+use mathlib.Core.Path.{_≡_, refl, sym, ap, ap₂, _∙_, _≡⟨_⟩_, _∎}
 use mathlib.Core.Bool.{true, false}
 use mathlib.Core.Logic.{inl, inr}
 use mathlib.Core.List.{List, [], _∷_, _++_, map, append-assoc}
@@ -137,12 +137,14 @@ module _ (ds : List Def) (one : Once (keys ds)) (q : List ℕ) (g : GoodOrder ds
       for-ordered : (k : ℕ) → Setting k → recordsFor k s (orderedPart ds q) ≡ recordsFor k s (lastRec ds X ∷ [])
       for-ordered k c =
           let f : ℕ → List Rec = λ (m : ℕ). recordsFor k s (equationRecs ds (eqn m)) in
-          for-concat k s (λ (m : ℕ). equationRecs ds (eqn m)) q
-          ∙ only-at f q 0 p in-q
-          (λ n m d. for-equation k s ds (eqn (getD q n 0)) c ∙ other-last k s ds (eqn (getD q n 0)) (other n m d))
-          ∙ ap f at-p
-          ∙ for-equation k s ds (eqn j) c
-          ∙ ap (λ (x : Equation). recordsFor k s (lastRec ds x ∷ [])) is-X
+          let none : (n : ℕ) → n < length q → (n ≡ p → ⊥) → f (getD q n 0) ≡ [] =
+          λ n m d. for-equation k s ds (eqn (getD q n 0)) c ∙ other-last k s ds (eqn (getD q n 0)) (other n m d) in
+          recordsFor k s (orderedPart ds q) ≡⟨ for-concat k s (λ (m : ℕ). equationRecs ds (eqn m)) q ⟩
+          concat-map f q ≡⟨ only-at f q 0 p in-q none ⟩
+          f (getD q p 0) ≡⟨ ap f at-p ⟩
+          f j ≡⟨ for-equation k s ds (eqn j) c ⟩
+          recordsFor k s (lastRec ds (eqn j) ∷ []) ≡⟨ ap (λ (x : Equation). recordsFor k s (lastRec ds x ∷ [])) is-X ⟩
+          recordsFor k s (lastRec ds X ∷ []) ∎
 
       -- its records stand one behind the other
       stands : StandsIn (equationRecs ds X) (program ds q)

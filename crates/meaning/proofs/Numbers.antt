@@ -21,7 +21,7 @@ use Rattle.grammar.specs.Grammar.{opening, last, comma}
 use Rattle.grammar.specs.Grammar.{Signed, unsigned-number, signed-number, Many, one, more, Initially, of-number}
 use Rattle.grammar.specs.Grammar.{of-name}
 use Rattle.grammar.specs.Grammar.{Derives, of-constants, of-assignment, of-state}
-use Rattle.meaning.proofs.Decoding.{Double}
+use Rattle.records.specs.Proper.{Double}
 
 -- ---- of tokens, trees, openings, statements: each number is a double
 abbrev pub DoubleToken : Symbol → Type 0

@@ -18,10 +18,14 @@ use Rattle.records.specs.Shape.{zero64, one64}
 use Rattle.records.specs.declared.Instr.{Instr}
 use Rattle.records.specs.declared.Instr.the-variants.{Value, Slot, Add, Sub, Mul, Div, Neg, Insw, Limit, Compar}
 use Rattle.program.specs.Program.{instrTwo, instrThree, instrItem}
-use Rattle.evaluator.specs.Machine.{step, run}
+use Rattle.evaluator.specs.Machine.{Machine, step, run}
 use Rattle.meaning.specs.Meaning.{nought, unity, valueTwo, valueThree, valueOf}
 use Rattle.meaning.proofs.Heights.{peak-some}
-use Rattle.meaning.proofs.Fold.{machine, judgeAt, Leads, leads-append, leads-op}
+use Rattle.evaluator.proofs.JudgedRows.{judgeAt, Leads, leads-append, leads-op}
+
+-- the machine with these working values, values and derivatives
+abbrev pub machineOf : List Float → List Float → List Float → Machine
+machineOf s v d = record { stack = s; values = v; derivs = d }
 
 -- the machine's 0 and 1 are the numbers 0 and 1
 pub zero-same : nought ≡ zero64
@@ -35,7 +39,7 @@ one-same = refl
 
 -- ---- the operations
 run-two : (o : Two) (a b : Float) (s v d : List Float) (r : List Instr)
-    → run (machine (b ∷ a ∷ s) v d) (instrTwo o ∷ r) ≡ run (machine (valueTwo o a b ∷ s) v d) r
+    → run (machineOf (b ∷ a ∷ s) v d) (instrTwo o ∷ r) ≡ run (machineOf (valueTwo o a b ∷ s) v d) r
 unfolding run step
 run-two plus a b s v d r = refl
 run-two minus a b s v d r = refl
@@ -45,7 +49,7 @@ run-two compar a b s v d r = rw (zero-same, one-same)
 
 -- on three values
 run-three : (o : Three) (a b c : Float) (s v d : List Float) (r : List Instr)
-    → run (machine (c ∷ b ∷ a ∷ s) v d) (instrThree o ∷ r) ≡ run (machine (valueThree o a b c ∷ s) v d) r
+    → run (machineOf (c ∷ b ∷ a ∷ s) v d) (instrThree o ∷ r) ≡ run (machineOf (valueThree o a b c ∷ s) v d) r
 unfolding run step
 run-three insw a b c s v d r = rw zero-same
 run-three limit a b c s v d r = refl
@@ -86,7 +90,7 @@ module _ (slot : ℕ → ℕ) where
 
   -- RUN from any stack they push the tree's value and change nothing else
   pub run-tree : (e : Tree) (s v d : List Float) (r : List Instr)
-      → run (machine s v d) (steps e ++ r) ≡ run (machine (valueOf slot v e ∷ s) v d) r
+      → run (machineOf s v d) (steps e ++ r) ≡ run (machineOf (valueOf slot v e ∷ s) v d) r
   unfolding steps valueOf run step
   run-tree (value x) s v d r = refl
   run-tree (named k) s v d r = refl

@@ -25,7 +25,7 @@ use Rattle.model.proofs.KeyPlaces.{Once}
 use Rattle.records.specs.Record.{instrs}
 use Rattle.program.specs.Program.{instrTwo, instrThree, constantValue, valueIn, initialValue, constantRecs, initialRecs}
 use Rattle.program.specs.Program.{lastInstr, program}
-use Rattle.meaning.proofs.Decoding.{Double, Proper}
+use Rattle.records.specs.Proper.{Double, Proper}
 use Rattle.meaning.proofs.Numbers.{Doubles, DoubleInitial}
 use Rattle.meaning.proofs.Texts.{FitsTree, FitsWhat, FitsAll, equations-fit}
 use Rattle.meaning.proofs.Postfix.{steps}

@@ -14,8 +14,7 @@ use Rattle.records.specs.Record.{Rec, rec, instrs}
 use Rattle.program.specs.Program.{constantRecs, initialRecs, lastInstr, code, equationRecs, program}
 use Rattle.evaluator.specs.Machine.{Machine, step, run, begun}
 use Rattle.meaning.specs.Meaning.{valueOf}
-use Rattle.meaning.proofs.Fold.{machine}
-use Rattle.meaning.proofs.Postfix.{steps, steps-of, run-tree}
+use Rattle.meaning.proofs.Postfix.{machineOf, steps, steps-of, run-tree}
 use Rattle.meaning.proofs.Settle.{stored, derived, valuesAfter, derivsAfter, values-append, derivs-append}
 
 -- a constant as an equation: its number
@@ -84,11 +83,11 @@ module _ (ds : List Def) where
 
   -- ---- constants
   run-constant : (a : Def) (w : What) (R : List Rec) (E : List Equation) (r : List Instr) (d : List Float)
-      → ((v : List Float) → run (machine [] v d) (instrs R ++ r)
-      ≡ run (machine [] (valuesAfter slot E v) (derivsAfter slot E v d)) r)
-      → (v : List Float) → run (machine [] v d) (instrs (constantRecs ds a w ++ R) ++ r)
+      → ((v : List Float) → run (machineOf [] v d) (instrs R ++ r)
+      ≡ run (machineOf [] (valuesAfter slot E v) (derivsAfter slot E v d)) r)
+      → (v : List Float) → run (machineOf [] v d) (instrs (constantRecs ds a w ++ R) ++ r)
       ≡ run
-      (machine [] (valuesAfter slot (asEquation (a .line) (a .key) w ++ E) v)
+      (machineOf [] (valuesAfter slot (asEquation (a .line) (a .key) w ++ E) v)
       (derivsAfter slot (asEquation (a .line) (a .key) w ++ E) v d)) r
   unfolding run step valuesAfter derivsAfter valueOf
   run-constant a (constant x) R E r d h v = h (set v (slot (a .key)) x)
@@ -97,8 +96,8 @@ module _ (ds : List Def) where
 
   -- they are worked out as their numbers
   run-constants : (es : List Def) (r : List Instr) (d v : List Float)
-      → run (machine [] v d) (instrs (constantPart es) ++ r)
-      ≡ run (machine [] (valuesAfter slot (fixed es) v) (derivsAfter slot (fixed es) v d)) r
+      → run (machineOf [] v d) (instrs (constantPart es) ++ r)
+      ≡ run (machineOf [] (valuesAfter slot (fixed es) v) (derivsAfter slot (fixed es) v d)) r
   unfolding concat-map valuesAfter derivsAfter
   run-constants [] r d v = refl
   run-constants (a ∷ es) r d v = run-constant a (a .what) _ (fixed es) r d (run-constants es r d) v
@@ -121,14 +120,14 @@ module _ (ds : List Def) where
 
   -- the last record takes the value from the stack
   run-last : (b : Bool) (s : ℕ) (x : Float) (v d : List Float) (r : List Instr)
-      → run (machine (x ∷ []) v d) (lastInstr ds b s ∷ r) ≡ run (machine [] (stored b s x v) (derived b s x d)) r
+      → run (machineOf (x ∷ []) v d) (lastInstr ds b s ∷ r) ≡ run (machineOf [] (stored b s x v) (derived b s x d)) r
   unfolding run step
   run-last false s x v d r = refl
   run-last true s x v d r = refl
 
   -- they are worked out in their order
   run-ordered : (q : List ℕ) (v d : List Float)
-      → run (machine [] v d) (instrs (orderedPart q)) ≡ machine [] (valuesAfter slot (map eqn q) v)
+      → run (machineOf [] v d) (instrs (orderedPart q)) ≡ machineOf [] (valuesAfter slot (map eqn q) v)
       (derivsAfter slot (map eqn q) v d)
   unfolding concat-map valuesAfter derivsAfter run
   run-ordered [] v d = refl
@@ -136,14 +135,14 @@ module _ (ds : List Def) where
       let e = eqn i in
       let r = instrs (orderedPart q) in
       let x = valueOf slot v (e .tree) in
-      ap (run (machine [] v d)) (ordered-first i q)
+      ap (run (machineOf [] v d)) (ordered-first i q)
       ∙ run-tree slot (e .tree) [] v d (lastInstr ds (e .held) (slot (e .key)) ∷ r)
       ∙ run-last (e .held) (slot (e .key)) x v d r
       ∙ run-ordered q (stored (e .held) (slot (e .key)) x v) (derived (e .held) (slot (e .key)) x d)
 
   -- THE RUN
   pub run-program : (q : List ℕ) (v d : List Float) → run (begun v d) (instrs (program ds q))
-      ≡ machine [] (valuesAfter slot (fixed ds ++ map eqn q) v) (derivsAfter slot (fixed ds ++ map eqn q) v d)
+      ≡ machineOf [] (valuesAfter slot (fixed ds ++ map eqn q) v) (derivsAfter slot (fixed ds ++ map eqn q) v d)
   run-program q v d =
       let v₁ = valuesAfter slot (fixed ds) v in
       let d₁ = derivsAfter slot (fixed ds) v d in
@@ -151,5 +150,5 @@ module _ (ds : List Def) where
       rw (values-append slot (fixed ds) (map eqn q) v, derivs-append slot (fixed ds) (map eqn q) v d)
       (ap (run (begun v d)) (program-parts q)
       ∙ run-constants ds (instrs (initialPart ds) ++ r) d v
-      ∙ run-initials ds r (machine [] v₁ d₁)
+      ∙ run-initials ds r (machineOf [] v₁ d₁)
       ∙ run-ordered q v₁ d₁)

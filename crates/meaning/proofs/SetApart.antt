@@ -10,7 +10,6 @@ use borrow.Author.Tests.{eqb-true}
 use lib.Dec.{eqb, leb}
 use lib.ListN.{length, getD, set, length-set}
 use lib.Seq.{set-out, getD-set-same, getD-set-other}
-use lib.Ieee.{Float}
 use Rattle.limits.specs.Limits.{slots, stackPlaces}
 use Rattle.laws.proofs.Tests.{lt-or-ge, eq-or-ne, cond-ind, and-true}
 use Rattle.records.specs.declared.Instr.{Instr}

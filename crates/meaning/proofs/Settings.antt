@@ -19,7 +19,7 @@ use Rattle.records.specs.declared.Instr.{Instr}
 use Rattle.records.specs.declared.Instr.the-variants.{Constant, Initial}
 use Rattle.records.specs.Record.{instrs}
 use Rattle.program.specs.Program.{initialValue, constantRecs, initialRecs}
-use Rattle.meaning.proofs.Fold.{judgeAt, Leads, leads-append, leads-one}
+use Rattle.evaluator.proofs.JudgedRows.{judgeAt, Leads, leads-append, leads-one}
 use Rattle.meaning.proofs.Settle.{heldKeys}
 use Rattle.meaning.proofs.Runs.{instrs-append, constantPart, initialPart}
 

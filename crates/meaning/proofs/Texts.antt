@@ -29,7 +29,7 @@ use Rattle.sheet.proofs.StatementMeans.{parsed-says}
 use Rattle.model.specs.Definitions.{What, constant, assigned, integral, Def, definedBy, definitions, Equation}
 use Rattle.model.specs.Definitions.{equationOf, equations, noEquation, equationAt}
 use Rattle.model.specs.Text.{textDefinitions}
-use Rattle.meaning.proofs.Decoding.{Double}
+use Rattle.records.specs.Proper.{Double}
 use Rattle.meaning.proofs.Numbers.{DoubleToken, Doubles, DoubleInitial, DoubleSays, double-says}
 
 -- ---- rows of tokens

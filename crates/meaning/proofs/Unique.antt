@@ -31,14 +31,13 @@ use Rattle.evaluator.specs.Evaluate.{RunOutcome, runOutcome, refusal, ran, eval
 use Rattle.meaning.specs.Meaning.{valueOf}
 use Rattle.meaning.specs.Slots.{noDef, definitionAt, SlotHolds, SlotsHold}
 use Rattle.meaning.specs.ReadSlots.{shapes, SetSlot, Same, SameRead}
-use Rattle.meaning.proofs.Fold.{machine}
-use Rattle.meaning.proofs.Postfix.{steps, value-same}
+use Rattle.meaning.proofs.Postfix.{machineOf, steps, value-same}
 use Rattle.meaning.proofs.Settle.{Met, at-rest}
 use Rattle.meaning.proofs.Owned.{locate, slot-at}
 use Rattle.meaning.proofs.Runs.{asEquation, fixed, constantPart, initialPart, orderedPart, program-parts}
 use Rattle.meaning.proofs.Runs.{ordered-first, run-program}
 use Rattle.meaning.proofs.Statements.{every-places}
-use Rattle.meaning.proofs.Solves.{to-eqn}
+use Rattle.meaning.proofs.RunSolves.{to-eqn}
 use Rattle.meaning.proofs.ReadSlots.{evaluated-ran, read-apart, reads-states}
 
 -- ---- members of rows
@@ -146,7 +145,7 @@ module _ (ds : List Def) (one : Once (keys ds)) where
         rw (back, program-parts ds q)
         (behind (instrs (constantPart ds ds)) _
         (behind (instrs (initialPart ds ds)) (instrs (orderedPart ds q)) (rw last at inside))) in
-        inr (mapped shapeOf (decoded p) whole)
+        inr (inl (mapped shapeOf (decoded p) whole))
 
     -- ---- a solution is at rest
     module _ (v d v′ d′ : List Float) (s : SlotsHold ds v d v′ d′) where
@@ -183,7 +182,7 @@ module _ (ds : List Def) (one : Once (keys ds)) where
           (perm-below (equationCount ds) (usesIn ds) q (g .perm) i h)))
 
       -- running the program from it leaves it as it is
-      ran-rests : ran p v′ d′ ≡ machine [] v′ d′
+      ran-rests : ran p v′ d′ ≡ machineOf [] v′ d′
       ran-rests =
           let stays = at-rest slot (fixed ds ++ map eqn q) v′ d′ all-met in
           ap (run (begun v′ d′)) back ∙ run-program ds q v′ d′ ∙ rw (stays .0, stays .1) refl

@@ -30,7 +30,6 @@ use Rattle.model.specs.Faults.{again, faults21, within, modelFaults}
 use Rattle.program.specs.Program.{valueIn, program}
 use Rattle.translator.specs.Verdict.{judged, verdictOf}
 use Rattle.listing_text.specs.Listing.{figuresIn, listed, listing}
-use native.Mathlib.Omega.{arith}
 use Rattle.meaning.specs.Depth.{highest, heightOf}
 use Rattle.promises.specs.Table.{Trial, trials, shown, wanted, tank, deck, loop, Plain, numberFor}
 

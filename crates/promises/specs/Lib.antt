@@ -2,5 +2,4 @@
 pub mod Table
 pub mod Demand2
 pub mod Demand3
--- as code holds it
 pub mod Agreement

@@ -14,17 +14,12 @@ use Rattle.model.specs.Faults.{faults21, nameFaults}
 use Rattle.model.specs.Text.{textDefinitions}
 use Rattle.records.specs.declared.Instr.the-variants.{Constant, Initial, Value, Slot, Sub, Mul, Neg, Limit, Store}
 use Rattle.records.specs.declared.Instr.the-variants.{Deriv}
+use Rattle.records.specs.Shape.{zero64, one64}
 use Rattle.records.specs.Record.{Rec, rec}
 use Rattle.translator.specs.Verdict.{Decision, faulty, translated, verdictOf, numberOf}
 use Rattle.listing_text.specs.Listing.{listing}
 
--- the numbers that the texts have, by their bits
-abbrev zero64 : Float
-zero64 = ofBits binary64 0
-
-abbrev one64 : Float
-one64 = ofBits binary64 0x3ff0_0000_0000_0000
-
+-- the numbers 2 and 3 that the texts have, by their bits
 abbrev two64 : Float
 two64 = ofBits binary64 0x4000_0000_0000_0000
 

@@ -4,44 +4,39 @@ use mathlib.Core.Path.{_≡_, refl, ap, _∙_}
 use mathlib.Core.List.{List, [], _∷_, _++_, append-assoc}
 use native.Mathlib.Omega.{arith}
 use borrow.Author.Tests.{lt-ltb}
-use lib.Dec.{T, lit<}
+use lib.Dec.{lit<}
 use lib.ListN.{length, getD, take, length-append}
 use lib.Seq.{drop-append-add, getD-append-add, getD-append-seam}
-use lib.Ieee.{Float, binary64, fits}
+use lib.Ieee.{binary64}
 use lib.Ieee.Bits.{ofBits-toBits, toBits-lt}
 use Rattle.laws.specs.Every.{Every}
 use Rattle.limits.specs.Limits.{slots, recordBytes}
 use Rattle.laws.specs.Lists.{concat-map}
 use Rattle.bits.specs.Low.{lowBytes, lowWord}
 use Rattle.bits.proofs.Lows.{word-bytes}
 use Rattle.records.specs.declared.Instr.{Instr}
-use Rattle.records.specs.declared.Instr.the-variants.{Constant, Initial, Value, Slot, Add, Sub, Mul, Div, Neg, Insw}
-use Rattle.records.specs.declared.Instr.the-variants.{Limit, Compar, Store, Deriv, StoreAgain, Bad}
-use Rattle.records.specs.Shape.{value, slot, Shape, constant, initial, push, fold, store, derivative, store-again}
-use Rattle.records.specs.Shape.{bad, shapeOf}
+use Rattle.records.specs.declared.Instr.the-variants.{Constant, Initial, Value, Slot, Add, Sub, Mul, Div}
+use Rattle.records.specs.declared.Instr.the-variants.{Neg, Insw, Limit, Compar, Store, Deriv, StoreAgain, Bad}
+use Rattle.records.specs.Shape.{value, slot, Shape, constant, initial, push, fold, store, derivative}
+use Rattle.records.specs.Shape.{store-again, bad, shapeOf}
 use Rattle.records.specs.Fields.{fieldsOf, kindOf, operandOf, bitsOf, byKind, instrOf}
 use Rattle.records.specs.Record.{Rec, recBytes, programBytes, instrs, field, decodeAt, decodeFrom, decoded}
-use Rattle.translator.proofs.Deciding.{length-program}
+use Rattle.records.specs.Proper.{ProperAs, Proper}
 
--- an f64
-abbrev pub Double : Float → Type 0
-Double x = T (fits binary64 x)
+-- ---- lengths
 
--- what a record can hold: a slot is one of the slots, a value an f64, and it is no refusal
-abbrev ProperAs : Shape → Type 0
-ProperAs (constant s x) = (s < slots) × Double x
-ProperAs (initial s x) = (s < slots) × Double x
-ProperAs (push (value x)) = Double x
-ProperAs (push (slot s)) = s < slots
-ProperAs (fold o) = Unit {0}
-ProperAs (store s) = s < slots
-ProperAs (derivative s) = s < slots
-ProperAs (store-again s) = s < slots
-ProperAs bad = ⊥
+-- a record has recordBytes bytes
+pub length-record : (r : Rec) → length (recBytes r) ≡ recordBytes
+unfolding recBytes lowBytes
+length-record r = refl
 
--- an instruction that one can hold
-abbrev pub Proper : Instr → Type 0
-Proper x = ProperAs (shapeOf x)
+-- so many each
+pub length-program : (rs : List Rec) → length (programBytes rs) ≡ recordBytes * length rs
+unfolding programBytes concat-map recBytes lowBytes
+length-program [] = refl
+length-program (r ∷ rs) = omega (arith, length-program rs)
+
+-- ---- one record
 
 -- its fields are the instruction again
 fields-back : (x : Instr) → Proper x → instrOf (kindOf x) 0 (operandOf x) (bitsOf x) ≡ x
@@ -123,11 +118,6 @@ module _ (front : List ℕ) (r : Rec) (back : List ℕ) where
       rw (kind-back, one-back, operand-back (slot-small s h), bits-back (bits-small s h)) (fields-back (r .instr) h)
 
 -- ---- programs
-
--- a record has 16 bytes
-length-record : (r : Rec) → length (recBytes r) ≡ recordBytes
-unfolding recBytes lowBytes
-length-record r = refl
 
 -- record by record
 from-back : (front : List ℕ) (i : ℕ) (rs : List Rec) → length front ≡ i * recordBytes → Every Proper (instrs rs)

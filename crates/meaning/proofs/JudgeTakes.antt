@@ -24,7 +24,7 @@ use Rattle.records.specs.declared.Instr.the-variants.{Store, Deriv}
 use Rattle.records.specs.Record.{instrs}
 use Rattle.program.specs.Program.{lastInstr, program}
 use Rattle.evaluator.specs.Judge.{judge₀, answer, judge}
-use Rattle.meaning.proofs.Fold.{judgeAt, Leads, leads-append, leads-one, leads-accepted, none-open}
+use Rattle.evaluator.proofs.JudgedRows.{judgeAt, Leads, leads-append, leads-one, leads-accepted, none-open}
 use Rattle.meaning.proofs.Postfix.{steps, AllSet, judge-tree}
 use Rattle.meaning.proofs.Settle.{heldKeys}
 use Rattle.meaning.proofs.Owned.{from-helds, to-helds, held-few, find, at-most, own, eq-in, eq-mine, eq-same}

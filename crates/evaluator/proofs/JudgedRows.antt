@@ -1,4 +1,4 @@
--- The judge and the machine over one list of instructions after another.
+-- The judge over one list of instructions after another.
 use Prim.Native.Nat.{ℕ, suc, _+_, _-_, _≤_, _<_}
 use mathlib.Core.Path.{_≡_, refl, sym, subst}
 use mathlib.Core.Bool.{true, false}
@@ -6,16 +6,10 @@ use mathlib.Core.List.{List, [], _∷_, _++_}
 use native.Mathlib.Omega.{arith}
 use borrow.Author.Tests.{le-leb, ne-eqb}
 use lib.ListN.{length, getD}
-use lib.Ieee.{Float}
 use Rattle.limits.specs.Limits.{stackPlaces}
 use Rattle.records.specs.declared.Instr.{Instr}
-use Rattle.evaluator.specs.Machine.{Machine}
 use Rattle.evaluator.specs.Judge.{takes, gives, phaseOf, slotFine, marked, Judge, good, judged, anyOpen, answer}
 use Rattle.evaluator.specs.Judge.{judgeFrom}
-
--- the machine with these working values, values and derivatives
-abbrev pub machine : List Float → List Float → List Float → Machine
-machine s v d = record { stack = s; values = v; derivs = d }
 
 -- the judge in a phase, with a count of values and with marks
 abbrev pub judgeAt : ℕ → ℕ → List ℕ → Judge
