@@ -49,17 +49,18 @@ set-none q (inr (inr t)) = List·Memᴰ·not-nil t
 
 -- ---- marks stay
 
--- by the marks l a slot is set, and no stored one
+-- by the marks l a slot is set, and is no stored one
 abbrev pub Unstored : List ℕ → ℕ → Type 0
 Unstored l q = Marked l q × (getD l q 0 ≡ 4 → ⊥)
 
--- from the marks l to the marks m: there are as many, and a slot that is set, or no stored one, is so still
+-- from the marks l to the marks m: there are as many; a slot that is set stays set, and one that is no stored one then
+-- does not become one
 record MarksStay (l m : List ℕ) : Type 0 where
   long : length m ≡ length l
   marked : (q : ℕ) → Marked l q → Marked m q
   unstored : (q : ℕ) → Unstored l q → Unstored m q
 
--- where none changes
+-- where no mark changes
 same-marks : (l : List ℕ) → MarksStay l l
 same-marks l = record { long = refl; marked = λ q u. u; unstored = λ q u. u }
 
@@ -72,7 +73,7 @@ mark-after l s x q =
     (lt-or-ge s (length l)))
     (λ e. inr (getD-set-other l s q x 0 e)) (eq-or-ne q s)
 
--- where s is marked x, and only if it was not set as a stored one
+-- where s is marked x, and as a stored one only if it was not set
 set-marks : (l : List ℕ) (s x : ℕ) → (x ≡ 0 → ⊥) → (x ≡ 4 → getD l s 0 ≡ 0) → MarksStay l (set l s x)
 set-marks l s x n f =
     let after = mark-after l s x in
