@@ -3,7 +3,7 @@ pub mod Rising
 pub mod Cutting
 pub mod Ends
 pub mod Steps
-pub mod Tallies
+pub mod Sizing
 pub mod Parts
 pub mod Writes
 pub mod Walking

@@ -6,7 +6,7 @@ use mathlib.Core.List.{List, [], _∷_, _++_, map, append-assoc, map-append}
 use native.Mathlib.Nat.{add-zero, add-suc, suc-add}
 use lib.ListN.{length}
 use Rattle.deck.specs.Lines.{Line, dotted, passed}
-use Rattle.deck.specs.Reading.{Statement, State, fresh, inside, goes-on, ends, after, ended, left, reading}
+use Rattle.deck.specs.Reading.{Statement, State, fresh, inside, goes-on, justClosed, after, ended, left, reading}
 use Rattle.deck.specs.Reading.{closedIn, stateAfter}
 use Rattle.deck.specs.Reports.{report}
 use Rattle.deck.specs.Later.{later, laterState, laterReport}
@@ -54,9 +54,9 @@ fresh-behind ls l e = state-append fresh 1 ls (l ∷ []) ∙ after-undotted (sta
 -- ---- line numbers raised by k
 
 -- of the statement that a line without dots ends
-ends-later : (k : ℕ) (b : Bool) (f : ℕ) (cs : List Line) → ends b (k + f) cs ≡ map (later k) (ends b f cs)
-ends-later k true f cs = refl
-ends-later k false f cs = refl
+closed-later : (k : ℕ) (b : Bool) (f : ℕ) (cs : List Line) → justClosed b (k + f) cs ≡ map (later k) (justClosed b f cs)
+closed-later k true f cs = refl
+closed-later k false f cs = refl
 
 -- of the statement that a dotted line keeps open
 goes-on-later : (k : ℕ) (b : Bool) (f : ℕ) (cs : List Line) → goes-on b (k + f) cs ≡ laterState k (goes-on b f cs)
@@ -79,11 +79,11 @@ ended-later : (k : ℕ) (s : State) (n : ℕ) (l : Line) → ended (laterState k
 unfolding ended
 ended-later k fresh n l = go (passed l)
   where
-    go : (b : Bool) → cond b [] (ends (dotted l) (k + n) (l ∷ []))
-        ≡ map (later k) (cond b [] (ends (dotted l) n (l ∷ [])))
+    go : (b : Bool) → cond b [] (justClosed (dotted l) (k + n) (l ∷ []))
+        ≡ map (later k) (cond b [] (justClosed (dotted l) n (l ∷ [])))
     go true = refl
-    go false = ends-later k (dotted l) n (l ∷ [])
-ended-later k (inside f cs) n l = ends-later k (dotted l) f (cs ++ (l ∷ []))
+    go false = closed-later k (dotted l) n (l ∷ [])
+ended-later k (inside f cs) n l = closed-later k (dotted l) f (cs ++ (l ∷ []))
 
 -- of what the end leaves
 left-later : (k : ℕ) (s : State) → left (laterState k s) ≡ map (later k) (left s)

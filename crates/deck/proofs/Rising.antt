@@ -9,7 +9,7 @@ use Rattle.laws.proofs.Every.{every-append, every-map}
 use Rattle.laws.specs.Rising.{Rising}
 use Rattle.laws.proofs.Rising.{rising-le}
 use Rattle.deck.specs.Lines.{Line, dotted, passed}
-use Rattle.deck.specs.Reading.{Statement, State, fresh, inside, goes-on, ends, after, ended, left, reading}
+use Rattle.deck.specs.Reading.{Statement, State, fresh, inside, goes-on, justClosed, after, ended, left, reading}
 use Rattle.deck.specs.Reading.{closedIn}
 
 -- their first lines
@@ -34,14 +34,14 @@ reading-rises (inside f cs) n [] b = (omega arith, tt)
 reading-rises fresh n (l ∷ ls) b = go (passed l) (dotted l) (λ s b. reading-rises s (suc n) ls b)
   where
     go : (p d : Bool) → ((s : State) → Before s (suc n) → Rising (least s (suc n)) (firsts (reading s (suc n) ls)))
-        → Rising n (firsts (cond p [] (ends d n (l ∷ [])) ++ reading (cond p fresh (goes-on d n (l ∷ []))) (suc n) ls))
+        → Rising n (firsts (cond p [] (justClosed d n (l ∷ [])) ++ reading (cond p fresh (goes-on d n (l ∷ []))) (suc n) ls))
     go true d ih = rising-le (suc n) n (firsts (reading fresh (suc n) ls)) (ih fresh tt) (omega arith)
     go false true ih = ih (inside n (l ∷ [])) (omega arith)
     go false false ih = (omega arith, ih fresh tt)
 reading-rises (inside f cs) n (l ∷ ls) b = go (dotted l) (λ s b. reading-rises s (suc n) ls b)
   where
     go : (d : Bool) → ((s : State) → Before s (suc n) → Rising (least s (suc n)) (firsts (reading s (suc n) ls)))
-        → Rising f (firsts (ends d f (cs ++ (l ∷ [])) ++ reading (goes-on d f (cs ++ (l ∷ []))) (suc n) ls))
+        → Rising f (firsts (justClosed d f (cs ++ (l ∷ [])) ++ reading (goes-on d f (cs ++ (l ∷ []))) (suc n) ls))
     go true ih = ih (inside f (cs ++ (l ∷ []))) (omega arith)
     go false ih =
         (omega arith, rising-le (suc n) (suc f) (firsts (reading fresh (suc n) ls)) (ih fresh tt) (omega arith))
@@ -63,13 +63,13 @@ ended-before : (s : State) (n : ℕ) (l : Line) → Before s n → Every (λ (t 
 unfolding ended
 ended-before fresh n l b = go (passed l) (dotted l)
   where
-    go : (p d : Bool) → Every (λ (t : Statement). t .first < suc n) (cond p [] (ends d n (l ∷ [])))
+    go : (p d : Bool) → Every (λ (t : Statement). t .first < suc n) (cond p [] (justClosed d n (l ∷ [])))
     go true d = tt
     go false true = tt
     go false false = (omega arith, tt)
 ended-before (inside f cs) n l b = go (dotted l)
   where
-    go : (d : Bool) → Every (λ (t : Statement). t .first < suc n) (ends d f (cs ++ (l ∷ [])))
+    go : (d : Bool) → Every (λ (t : Statement). t .first < suc n) (justClosed d f (cs ++ (l ∷ [])))
     go true = tt
     go false = (omega arith, tt)
 

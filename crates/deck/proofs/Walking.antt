@@ -1,5 +1,5 @@
 -- What the code finds is what the reading of the lines says: for a caller that goes from statement to statement.
-use Prim.Native.Nat.{ℕ, suc, _+_, _≤_, _<_}
+use Prim.Native.Nat.{ℕ, suc, _+_}
 use mathlib.Core.Path.{_≡_, refl, sym, ap, _∙_}
 use mathlib.Core.Bool.{Bool, true, false, cond, _||_, or-false, or-assoc}
 use mathlib.Core.List.{List, [], _∷_, _++_, append-assoc}
@@ -12,11 +12,11 @@ use lib.Seq.{take-at}
 use borrow.Author.Tests.{eq-eqb}
 use Rattle.limits.specs.Limits.{cardBytes}
 use Rattle.deck.specs.Lines.{Line, linesOf, dotted, passed}
-use Rattle.deck.specs.Reading.{Statement as Read, fresh, inside, goes-on, ends, after, ended, left, reading}
-use Rattle.deck.specs.Joined.{joined}
+use Rattle.deck.specs.Reading.{Statement as Read, fresh, inside, goes-on, justClosed, after, ended, left, reading}
 use Rattle.deck.specs.Faults.{anyLong, sizeFlaw}
 use Rattle.deck.specs.Next.{runOf, nextOf, Lawful, foundFrom, Further, statementsFrom, cardsAt}
-use Rattle.deck.specs.Codes.{sizeCode, flawOf, joinedRoom}
+use Rattle.deck.specs.Codes.{sizeCode, flawOf}
+use Rattle.deck.specs.Walks.{Walk}
 use Rattle.deck.specs.declared.Cursor.{Cursor}
 use Rattle.deck.specs.declared.Found.{Found}
 use Rattle.deck.specs.declared.Found.the-variants.{Statement, End}
@@ -89,7 +89,7 @@ run-reads t f s at k long cs (l ∷ ls) i =
         (record { at = at + length l + 1; line = f + (k + 1) })
 
     go : (b : Bool) → (reading (inside f (cs ++ (l ∷ []))) (f + (k + 1)) ls ≡ readOf t more) × Right t more
-        → (ends b f (cs ++ (l ∷ [])) ++ reading (goes-on b f (cs ++ (l ∷ []))) (suc (f + k)) ls
+        → (justClosed b f (cs ++ (l ∷ [])) ++ reading (goes-on b f (cs ++ (l ∷ []))) (suc (f + k)) ls
         ≡ readOf t (cond b more stop)) × Right t (cond b more stop)
     go true h = (rw up (h .0), h .1)
     go false h = (rw (up, next .rest, inside-cards next), rw (inside-cards next) (next .count, next .flag))
@@ -111,7 +111,7 @@ next-reads t at n (l ∷ ls) q = go (passed l) (next-reads t (at + length l + 1)
     run = run-reads t n at at 0 false [] (l ∷ ls) (record { count = refl; all = q; rest = q; flag = refl })
 
     go : (b : Bool) → (reading fresh (n + 1) ls ≡ readOf t more) × Right t more
-        → (cond b [] (ends (dotted l) n (l ∷ [])) ++ reading (cond b fresh (goes-on (dotted l) n (l ∷ []))) (suc n) ls
+        → (cond b [] (justClosed (dotted l) n (l ∷ [])) ++ reading (cond b fresh (goes-on (dotted l) n (l ∷ []))) (suc n) ls
         ≡ readOf t (cond b more start))
         × Right t (cond b more start)
     go true h = (rw (← (add-one n)) (h .0), h .1)
@@ -122,17 +122,7 @@ found-reads : (t : List ℕ) (c : Cursor) → Lawful c
     → (statementsFrom t c ≡ readOf t (foundFrom t c)) × Right t (foundFrom t c)
 found-reads t c h = rw (found-next t c h) (next-reads t (c .at) (c .line) (linesOf (drop (c .at) t)) refl)
 
--- ---- one step of a caller's walk, from a cursor c over the statement that was found there to the cursor nx behind it
-pub record Walk (t : List ℕ) (c : Cursor) (f s k : ℕ) (d g : Bool) (nx : Cursor) : Type 0 where
-  -- it is the first of the statements from c on, and the others are those from nx on
-  pub reads : statementsFrom t c ≡ record { first = f; cards = cardsAt t s k; closed = d } ∷ statementsFrom t nx
-  -- its fault for size is that of the code
-  pub size : sizeFlaw (cardsAt t s k) d ≡ flawOf d (sizeCode k d g)
-  -- without such a fault its joined text has room
-  pub short : sizeCode k d g ≡ 0 → length (joined (cardsAt t s k)) ≤ joinedRoom
-  pub bytes : c .at < length t
-  pub further : c .at < nx .at
-  pub lawful : Lawful nx
+-- ---- one step of a caller's walk
 
 module _ (t : List ℕ) (c : Cursor) (h : Lawful c) where
   -- what was found gives such a step

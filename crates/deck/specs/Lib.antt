@@ -9,4 +9,5 @@ pub mod Later
 pub mod Next
 pub mod Codes
 pub mod Survey
+pub mod Walks
 pub mod Contract

@@ -22,9 +22,10 @@ abbrev pub goes-on : Bool → ℕ → List Line → State
 goes-on true f cs = inside f cs
 goes-on false f cs = fresh
 
-abbrev pub ends : Bool → ℕ → List Line → List Statement
-ends true f cs = []
-ends false f cs = record { first = f; cards = cs; closed = true } ∷ []
+-- the statement that such a line closes, none where the line has the dots
+abbrev pub justClosed : Bool → ℕ → List Line → List Statement
+justClosed true f cs = []
+justClosed false f cs = record { first = f; cards = cs; closed = true } ∷ []
 
 -- the state after line n, which is l: fresh, a comment or a blank is passed over and any other line starts a statement
 unfoldable pub after : State → ℕ → Line → State
@@ -33,8 +34,8 @@ after (inside f cs) n l = goes-on (dotted l) f (cs ++ (l ∷ []))
 
 -- the statement that line n ends, if it ends one
 unfoldable pub ended : State → ℕ → Line → List Statement
-ended fresh n l = cond (passed l) [] (ends (dotted l) n (l ∷ []))
-ended (inside f cs) n l = ends (dotted l) f (cs ++ (l ∷ []))
+ended fresh n l = cond (passed l) [] (justClosed (dotted l) n (l ∷ []))
+ended (inside f cs) n l = justClosed (dotted l) f (cs ++ (l ∷ []))
 
 -- what the end of the text leaves
 unfoldable pub left : State → List Statement

@@ -8,7 +8,7 @@ use Rattle.laws.specs.Counts.{once}
 use Rattle.deck.specs.Lines.{Line, linesOf, dotted, passed}
 use Rattle.deck.specs.Reading.{fresh, reading}
 use Rattle.deck.specs.declared.Sizes.{Sizes}
-use Rattle.deck.specs.declared.counts.Tally.{Tally}
+use Rattle.deck.specs.declared.counts.SizesSoFar.{SizesSoFar}
 
 -- how many bytes 10 it has
 unfoldable pub endsOf : List ℕ → ℕ
@@ -25,9 +25,9 @@ begun more [] = 0
 begun true (l ∷ ls) = begun (dotted l) ls
 begun false (l ∷ ls) = cond (passed l) (begun false ls) (suc (begun (dotted l) ls))
 
--- a tally with one line more
-abbrev pub tallied : Tally → Line → Tally
-tallied n l =
+-- the sizes so far with one line more
+abbrev pub withLine : SizesSoFar → Line → SizesSoFar
+withLine n l =
     record {
       lines = n .lines + 1;
       statements = cond (n .more) (n .statements) (cond (passed l) (n .statements) (n .statements + 1));

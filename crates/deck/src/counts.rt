@@ -6,7 +6,7 @@ ghost use Prim.Native.Nat.{_+_, _<_, _≤_, _^_};
 ghost use lib.Dec.{eqb};
 ghost use lib.ListN.{length};
 ghost use Rattle.laws.specs.Counts.{once};
-ghost use Rattle.deck.specs.Survey.{endsOf, tallied};
+ghost use Rattle.deck.specs.Survey.{endsOf, withLine};
 
 // How many bytes are counted at once: fewer than a byte can count.
 const PART: usize = 192;
@@ -46,37 +46,37 @@ pub fn count_ends(text: &[u8]) -> usize
     n + ends_in(&text[i..]) as usize
 }
 
-// Lines and the statements that begin in them, and whether the last of these continues.
-pub struct Tally {
+// The sizes of the lines so far: how many, and of the statements that begin in them; whether the last continues.
+pub struct SizesSoFar {
     pub lines: usize,
     pub statements: usize,
     pub more: bool,
 }
 
-// A tally with one line more.
-pub fn counted(n: Tally, line: &[u8]) -> Tally
+// The sizes so far with one line more.
+pub fn counted(n: SizesSoFar, line: &[u8]) -> SizesSoFar
     requires { ⌜ (n .lines + 1 < 2 ^ 64) × (n .statements ≤ n .lines) ⌝ }
-    ensures { λ r. ⌜ r ≡ tallied n (now (line .entry)) ⌝ }
+    ensures { λ r. ⌜ r ≡ withLine n (now (line .entry)) ⌝ }
 {
     let lines = n.lines + 1;
     let statements = n.statements;
     if n.more {
         let more = is_dotted(line);
-        return Tally {
+        return SizesSoFar {
             lines,
             statements,
             more,
         };
     }
     if is_passed(line) {
-        return Tally {
+        return SizesSoFar {
             lines,
             statements,
             more: false,
         };
     }
     let more = is_dotted(line);
-    Tally {
+    SizesSoFar {
         lines,
         statements: statements + 1,
         more,

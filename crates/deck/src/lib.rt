@@ -4,7 +4,7 @@ mod joining;
 mod lines;
 mod statements;
 
-use counts::Tally;
+use counts::SizesSoFar;
 use counts::count_ends;
 use counts::counted;
 use joining::join_spaced;
@@ -85,7 +85,7 @@ pub fn survey(text: &[u8]) -> Sizes
     ensures { λ r. ⌜ Surveys (now (text .entry)) r ⌝ }
 {
     let mut at = 0;
-    let mut n = Tally {
+    let mut n = SizesSoFar {
         lines: 0,
         statements: 0,
         more: false,

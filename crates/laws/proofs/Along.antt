@@ -13,7 +13,7 @@ use Rattle.laws.proofs.Concats.{map-append}
 use Rattle.laws.proofs.Lists.{concat-append}
 
 -- one more at the end of a front
-pub length-snoc : {A : Type 0} (p : List A) (a : A) → length (p ++ (a ∷ [])) ≡ suc (length p)
+length-snoc : {A : Type 0} (p : List A) (a : A) → length (p ++ (a ∷ [])) ≡ suc (length p)
 length-snoc p a = omega (arith, length-append p (a ∷ []))
 
 -- ---- a walk: what G gives at each member of m, seen with all that stands behind it; q stands behind m
@@ -78,6 +78,7 @@ map-gather h f zero i = refl
 map-gather h f (suc k) i =
     map-append h (f i) (gather f k (suc i)) ∙ ap (λ r. map h (f i) ++ r) (map-gather h f k (suc i))
 
+-- f of what is taken if the test holds
 pub map-only : {B C : Type 0} (h : B → C) (b : Bool) (a : B) → map h (onlyIf b a) ≡ onlyIf b (h a)
 map-only h true a = refl
 map-only h false a = refl
@@ -114,12 +115,12 @@ filled [] = false
 filled (a ∷ l) = true
 
 -- of two rows one is
-pub filled-append : {A : Type 0} (x y : List A) → filled (x ++ y) ≡ (filled x || filled y)
+filled-append : {A : Type 0} (x y : List A) → filled (x ++ y) ≡ (filled x || filled y)
 filled-append [] y = refl
 filled-append (a ∷ x) y = refl
 
 -- of one that is taken if the test holds
-pub filled-only : {A : Type 0} (b : Bool) (a : A) → filled (onlyIf b a) ≡ b
+filled-only : {A : Type 0} (b : Bool) (a : A) → filled (onlyIf b a) ≡ b
 filled-only true a = refl
 filled-only false a = refl
 
@@ -137,12 +138,6 @@ startsAt f o [] = o ∷ []
 startsAt f o (a ∷ l) = o ∷ startsAt f (o + length (f a)) l
 
 module _ {A B : Type 0} (f : A → List B) where
-  -- one more than there are parts
-  pub length-starts : (o : ℕ) (l : List A) → length (startsAt f o l) ≡ suc (length l)
-  unfolding startsAt
-  length-starts o [] = refl
-  length-starts o (a ∷ l) = ap suc (length-starts (o + length (f a)) l)
-
   -- where the part behind a front begins
   pub start-at : (o : ℕ) (a b : List A) → getD (startsAt f o (a ++ b)) (length a) 0 ≡ o + length (concat-map f a)
   unfolding startsAt concat-map

@@ -1,10 +1,11 @@
 pub mod Tests
 pub mod Counts
-pub mod Closed
+pub mod EachMember
 pub mod Runs
 pub mod Sets
 pub mod Rising
 pub mod Lists
+pub mod SameBytes
 pub mod Concats
 pub mod Along
 pub mod Members

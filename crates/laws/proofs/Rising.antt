@@ -11,7 +11,7 @@ rising-le a b [] r h = tt
 rising-le a b (x ∷ l) r h = (omega (arith, r .0), r .1)
 
 -- every member is at least the bound
-pub rising-from : (b : ℕ) (l : List ℕ) (i : ℕ) → Rising b l → i < length l → b ≤ getD l i 0
+rising-from : (b : ℕ) (l : List ℕ) (i : ℕ) → Rising b l → i < length l → b ≤ getD l i 0
 rising-from b [] i r h = absurd (omega arith)
 rising-from b (x ∷ l) zero r h = r .0
 rising-from b (x ∷ l) (suc i) r h = omega (arith, r .0, rising-from (suc x) l i (r .1) (omega arith))

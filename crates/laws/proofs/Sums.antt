@@ -77,13 +77,13 @@ lengths-same F n x y p q e =
     length-sum F x ∙ sum-weigh f n x p ∙ weigh-same f x y n e ∙ sym (length-sum F y ∙ sum-weigh f n y q)
 
 -- ---- the numbers from o on: none before o
-pub numbers-below : (k o i : ℕ) → i < o → count i (numbers k o) ≡ 0
+numbers-below : (k o i : ℕ) → i < o → count i (numbers k o) ≡ 0
 unfolding numbers count
 numbers-below zero o i h = refl
 numbers-below (suc k) o i h = omega (arith, once-other i o (λ e. omega arith), numbers-below k (suc o) i (omega arith))
 
 -- none behind the last
-pub numbers-above : (k o i : ℕ) → o + k ≤ i → count i (numbers k o) ≡ 0
+numbers-above : (k o i : ℕ) → o + k ≤ i → count i (numbers k o) ≡ 0
 unfolding numbers count
 numbers-above zero o i h = refl
 numbers-above (suc k) o i h = omega (arith, once-other i o (λ e. omega arith), numbers-above k (suc o) i (omega arith))

@@ -7,5 +7,6 @@ pub mod Rising
 -- as code holds it
 pub mod Places
 pub mod Put
+-- what theorems are stated with
 pub mod Every
 pub mod Agree

@@ -6,7 +6,7 @@ use Rattle.laws.specs.Text.{bytes}
 use Rattle.laws.specs.Lists.{concat-map, sameBytes, numbers}
 use Rattle.laws.specs.Runs.{run}
 use Rattle.laws.specs.Counts.{count}
-use Rattle.laws.proofs.Closed.{at-mem}
+use Rattle.laws.proofs.EachMember.{at-mem}
 use Rattle.limits.specs.Limits.{faultRoom, programRoom, stackPlaces}
 use Rattle.bits.specs.Low.{lowWord}
 use Rattle.deck.specs.Lines.{linesOf, trimmed, dotted, passed}

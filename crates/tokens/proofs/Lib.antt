@@ -1,7 +1,6 @@
 mod Decimals
 mod Numbers
 mod Cuts
-mod Spelling
 pub mod Words
 pub mod Values
 pub mod Keys

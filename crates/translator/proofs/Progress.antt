@@ -18,7 +18,7 @@ use Rattle.deck.specs.Reading.{Statement}
 use Rattle.deck.specs.Reports.{Report, report}
 use Rattle.deck.specs.Next.{statementsFrom, cardsAt}
 use Rattle.deck.specs.declared.Cursor.{Cursor}
-use Rattle.deck.proofs.Walking.{Walk}
+use Rattle.deck.specs.Walks.{Walk}
 use Rattle.drafts.specs.Tree.{Says}
 use Rattle.drafts.specs.Drafts.{Draft, draftsOf}
 use Rattle.sheet.specs.Sheet.{Told, says, faulty, Sheet, Numbered, said, Fault, statementFaults, entryOf, faultEntry}

@@ -13,7 +13,8 @@ use Rattle.deck.specs.Reports.{report}
 use Rattle.deck.specs.Next.{foundFrom, statementsFrom, cardsAt}
 use Rattle.deck.specs.declared.Cursor.{Cursor}
 use Rattle.deck.specs.declared.Found.the-variants.{Statement, End}
-use Rattle.deck.proofs.Walking.{Walk, walk, walk-end}
+use Rattle.deck.specs.Walks.{Walk}
+use Rattle.deck.proofs.Walking.{walk, walk-end}
 use Rattle.sheet.specs.Sheet.{Told, says, faulty}
 use Rattle.sheet.specs.Reader.{told, sheetOf}
 use Rattle.translator.specs.declared.Tally.{Tally}

@@ -11,7 +11,7 @@ use Rattle.limits.specs.Limits.{faultRoom, textBytes, textLines, mostStatements
 use Rattle.deck.specs.Lines.{linesOf}
 use Rattle.deck.specs.Reading.{fresh, reading}
 use Rattle.deck.specs.Reports.{report}
-use Rattle.deck.proofs.Tallies.{statements-le, lines-le}
+use Rattle.deck.proofs.Sizing.{statements-le, lines-le}
 use Rattle.sheet.specs.Reader.{told, sheetOf}
 use Rattle.translator.specs.declared.Verdict.{Verdict}
 use Rattle.translator.specs.declared.Verdict.the-variants.{Refused}

@@ -18,9 +18,6 @@ loop-holds c =
     reading-first (s .args .part .now) (min (s .args .n) 8) (c .least2 .result)
     (omega (arith, c .least2 .ensures, c .before .least .ensures))
 
-shared-slice-read-wide : tie.Need-shared-slice-read-wide Inv-loop μ-loop
-shared-slice-read-wide c = omega arith
-
 -- the number read so far has a byte's room left
 small : (c : tie.After-wide Inv-loop μ-loop) → c .before .before .before .loop .word < 256 ^ 7
 small c =
@@ -60,7 +57,7 @@ get-low-spec =
     (λ c κs. search needs)
     loop-holds
     (λ c. search needs)
-    shared-slice-read-wide
+    (λ c. search needs)
     (λ c κs. search needs)
     mul-word
     add-word

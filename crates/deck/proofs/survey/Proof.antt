@@ -3,7 +3,7 @@ use Prim.Native.Nat.{_-_}
 use borrow.Author.Needs.{needs}
 use lib.ListN.{length}
 use Rattle.deck.proofs.Cutting.{line-at}
-use Rattle.deck.proofs.Tallies.{Counting, counting-first, counting-next, counting-last}
+use Rattle.deck.proofs.Sizing.{Counting, counting-first, counting-next, counting-last}
 use Rattle.deck.proofs.survey.Statement.{statement}
 use Rattle.deck.proofs.survey.Tie as tie
 

@@ -5,7 +5,7 @@ use native.Mathlib.Omega.{arith}
 use borrow.Author.Needs.{needs}
 use lib.ListN.{length, drop}
 use Rattle.laws.specs.Lists.{sameBytes}
-use Rattle.tokens.proofs.Spelling.{other-length, same-stop, same-pass, same-end}
+use Rattle.laws.proofs.SameBytes.{other-length, same-stop, same-pass, same-end}
 use Rattle.tokens.proofs.word.spells.Statement.{statement}
 use Rattle.tokens.proofs.word.spells.Tie as tie
 

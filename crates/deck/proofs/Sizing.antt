@@ -7,9 +7,9 @@ use native.Mathlib.Omega.{arith}
 use lib.Dec.{eqb}
 use lib.ListN.{length, drop}
 use Rattle.deck.specs.Lines.{Line, cut, linesOf, dotted, passed}
-use Rattle.deck.specs.Reading.{State, fresh, inside, goes-on, ends, after, ended, left, reading}
-use Rattle.deck.specs.Survey.{sizesOf, begun, tallied}
-use Rattle.deck.specs.declared.counts.Tally.{Tally}
+use Rattle.deck.specs.Reading.{State, fresh, inside, goes-on, justClosed, after, ended, left, reading}
+use Rattle.deck.specs.Survey.{sizesOf, begun, withLine}
+use Rattle.deck.specs.declared.counts.SizesSoFar.{SizesSoFar}
 use Rattle.deck.proofs.Cutting.{lineOf, LineAt, lines-end}
 
 -- whether a statement is open
@@ -30,7 +30,7 @@ begun-reading (inside f cs) n [] = refl
 begun-reading fresh n (l ∷ ls) = go (passed l) (dotted l) (λ s. begun-reading s (suc n) ls)
   where
     go : (p d : Bool) → ((s : State) → length (reading s (suc n) ls) ≡ owed s + begun (open-in s) ls)
-        → length (cond p [] (ends d n (l ∷ [])) ++ reading (cond p fresh (goes-on d n (l ∷ []))) (suc n) ls)
+        → length (cond p [] (justClosed d n (l ∷ [])) ++ reading (cond p fresh (goes-on d n (l ∷ []))) (suc n) ls)
         ≡ 0 + cond p (begun false ls) (suc (begun d ls))
     go true d ih = ih fresh
     go false true ih = omega (arith, ih (inside n (l ∷ [])))
@@ -38,7 +38,7 @@ begun-reading fresh n (l ∷ ls) = go (passed l) (dotted l) (λ s. begun-reading
 begun-reading (inside f cs) n (l ∷ ls) = go (dotted l) (λ s. begun-reading s (suc n) ls)
   where
     go : (d : Bool) → ((s : State) → length (reading s (suc n) ls) ≡ owed s + begun (open-in s) ls)
-        → length (ends d f (cs ++ (l ∷ [])) ++ reading (goes-on d f (cs ++ (l ∷ []))) (suc n) ls) ≡ 1 + begun d ls
+        → length (justClosed d f (cs ++ (l ∷ [])) ++ reading (goes-on d f (cs ++ (l ∷ []))) (suc n) ls) ≡ 1 + begun d ls
     go true ih = ih (inside f (cs ++ (l ∷ [])))
     go false ih = omega (arith, ih fresh)
 
@@ -69,11 +69,11 @@ lines-le (b ∷ t) = go (eqb b 10) (linesOf t) (lines-le t)
     go false (l ∷ ls) h = omega arith
 
 -- one line more is counted, and one less is left
-tally-step : (n : Tally) (l : Line) (ls : List Line)
-    → (tallied n l .statements ≤ n .statements + 1)
-    × (tallied n l .statements + begun (tallied n l .more) ls ≡ n .statements + begun (n .more) (l ∷ ls))
+line-step : (n : SizesSoFar) (l : Line) (ls : List Line)
+    → (withLine n l .statements ≤ n .statements + 1)
+    × (withLine n l .statements + begun (withLine n l .more) ls ≡ n .statements + begun (n .more) (l ∷ ls))
 unfolding begun
-tally-step n l ls = go (n .more)
+line-step n l ls = go (n .more)
   where
     k : ℕ
     k = n .statements
@@ -90,8 +90,8 @@ tally-step n l ls = go (n .more)
     go true = (omega arith, refl)
     go false = by (passed l)
 
--- the tally of the lines before a place, and what is left to count
-pub record Counting (t : List ℕ) (at : ℕ) (n : Tally) : Type 0 where
+-- the sizes of the lines before a place, and what is left to count
+pub record Counting (t : List ℕ) (at : ℕ) (n : SizesSoFar) : Type 0 where
   pub few : n .lines ≤ at
   pub fewer : n .statements ≤ n .lines
   pub lines : n .lines + length (linesOf (drop at t)) ≡ length (linesOf t)
@@ -102,12 +102,12 @@ module _ (t : List ℕ) where
   pub counting-first : Counting t 0 (record { lines = 0; statements = 0; more = false })
   counting-first = record { few = omega arith; fewer = omega arith; lines = omega arith; statements = omega arith }
 
-  module _ (at : ℕ) (n : Tally) (c : Counting t at n) where
+  module _ (at : ℕ) (n : SizesSoFar) (c : Counting t at n) where
     -- one line more is counted
-    pub counting-next : (e : ℕ) (m : Tally) → LineAt t at e → m ≡ tallied n (lineOf t at e) → Counting t (e + 1) m
+    pub counting-next : (e : ℕ) (m : SizesSoFar) → LineAt t at e → m ≡ withLine n (lineOf t at e) → Counting t (e + 1) m
     counting-next e m l q =
         let line = lineOf t at e in
-        let step = tally-step n line (linesOf (drop (e + 1) t)) in
+        let step = line-step n line (linesOf (drop (e + 1) t)) in
         rw q
         (record {
           few = omega (arith, c .few, l .from);
