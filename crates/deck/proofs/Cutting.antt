@@ -81,7 +81,7 @@ module _ (l : Line) (n : ℕ) (z : 0 < n) (h : n ≤ length l) where
 -- ---- lines from a place on
 
 -- the first line of a text ends at the first byte 10, and the others stand behind that
-pub lines-cons : (t : List ℕ) → 0 < length t → linesOf t ≡ take (width t) t ∷ linesOf (drop (suc (width t)) t)
+lines-cons : (t : List ℕ) → 0 < length t → linesOf t ≡ take (width t) t ∷ linesOf (drop (suc (width t)) t)
 unfolding linesOf width
 lines-cons [] h = absurd (not-suc-le-zero h)
 lines-cons (b ∷ []) h = go (eqb b 10)

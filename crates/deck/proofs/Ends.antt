@@ -18,7 +18,7 @@ use Rattle.deck.specs.Survey.{endsOf}
 -- ---- counted one by one, and part by part
 
 -- one byte more
-pub ends-next : (t : List ℕ) (i : ℕ) → i < length t
+ends-next : (t : List ℕ) (i : ℕ) → i < length t
     → endsOf (drop i t) ≡ once (eqb (getD t i 0) 10) + endsOf (drop (i + 1) t)
 unfolding endsOf
 ends-next t i h = rw (add-one, drop-cons t i 0 h)
@@ -55,11 +55,11 @@ ends-split zero t = omega arith
 ends-split (suc k) [] = omega arith
 ends-split (suc k) (b ∷ t) = omega (arith, ends-split k t)
 
-pub ends-part : (t : List ℕ) (i k : ℕ) → endsOf (drop i t) ≡ endsOf (take k (drop i t)) + endsOf (drop (i + k) t)
+ends-part : (t : List ℕ) (i k : ℕ) → endsOf (drop i t) ≡ endsOf (take k (drop i t)) + endsOf (drop (i + k) t)
 ends-part t i k = ends-split k (drop i t) ∙ rw (drop-drop k i t)
 
 -- no more than all bytes
-pub ends-le : (t : List ℕ) → endsOf t ≤ length t
+ends-le : (t : List ℕ) → endsOf t ≤ length t
 unfolding endsOf
 ends-le [] = omega arith
 ends-le (b ∷ t) = go (eqb b 10) (ends-le t)

@@ -16,7 +16,7 @@ use Rattle.deck.proofs.Parts.{part-le, joined-cons}
 -- ---- so many lines from a place on
 module _ (t : List ℕ) (at left : ℕ) where
   -- the one there, and the others
-  pub cards-cons : (e : ℕ) → 0 < left → LineAt t at e → cardsAt t at left ≡ lineOf t at e ∷ cardsAt t (e + 1) (left - 1)
+  cards-cons : (e : ℕ) → 0 < left → LineAt t at e → cardsAt t at left ≡ lineOf t at e ∷ cardsAt t (e + 1) (left - 1)
   cards-cons e z l =
       let s : left ≡ suc (left - 1) = omega arith in
       ap (λ (k : ℕ). cardsAt t at k) s ∙ rw (l .lines)

@@ -12,7 +12,7 @@ use Rattle.limits.specs.Limits.{levels}
 use Rattle.tokens.specs.Symbol.{Symbol, mark, number}
 use Rattle.drafts.specs.Tree.{Tree, Constant, Initial, Says}
 use Rattle.drafts.specs.Drafts.{Draft, draftsOf}
-use Rattle.grammar.specs.Look.{next, rest, byteOf, shapeOf, Start, Constants, Integral, Named, Valued, Other}
+use Rattle.grammar.specs.Look.{next, rest, byteOf, factorStart, Start, Constants, Integral, Named, Valued, Other}
 use Rattle.grammar.specs.Look.{startOf}
 use Rattle.grammar.specs.Grammar.{expr, Der, unsigned, sign, Signed, unsigned-number, signed-number, Many, one}
 use Rattle.grammar.specs.Grammar.{more}
@@ -22,7 +22,7 @@ use Rattle.grammar.specs.Parser.{parse, calls}
 use Rattle.grammar.specs.Parser.{assigned, integrated, statement, ended, entire, read, answer, readRow}
 use Rattle.grammar.proofs.Endings.{clash, OutEnd}
 use Rattle.grammar.proofs.Looks.{add-other, as-known}
-use Rattle.grammar.proofs.Whole.{Stated, StatedVia, entire-out}
+use Rattle.grammar.proofs.StatementsSound.{Stated, StatedVia, entire-out}
 use Rattle.grammar.proofs.Complete.{bind-end, begins-term, complete}
 
 -- [sign] number is read
@@ -58,7 +58,7 @@ many-complete (more {k} {w} {s} {x} {cs} a b) r n (suc f) le =
 
 -- no expression begins with INTGRL
 no-integral : {d : ℕ} {w : List Symbol} {e : Tree} → Der expr d w e → startOf (next w) ≡ Integral → ⊥
-unfolding next shapeOf
+unfolding next factorStart
 no-integral (unsigned {w = w} {v = v} a b) z = begins-term a v (rw (as-known (next (w ++ v)) z))
 no-integral (sign {o = o} {t = t} h a b) z = clash (cc (add-other t o h))
 

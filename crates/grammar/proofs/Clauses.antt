@@ -11,9 +11,9 @@ use Rattle.tokens.specs.Symbol.{Symbol, mark}
 use Rattle.drafts.specs.Tree.{Tree, two}
 use Rattle.drafts.specs.Kinds.{kindTwo}
 use Rattle.drafts.specs.Drafts.{draft, drafted}
-use Rattle.grammar.specs.Look.{next, rest, byteOf, addOp, mulOp, signed, Opening, group, give-to, shapeOf}
+use Rattle.grammar.specs.Look.{next, rest, byteOf, addOp, mulOp, signed, Opening, group, give-to, factorStart}
 use Rattle.grammar.specs.Grammar.{Mode, expr, term, factor, terms, factors, opened, list}
-use Rattle.grammar.specs.Parser.{give, stop, tell, bind, when, byOp, byShape, byGiven, need, behindSign}
+use Rattle.grammar.specs.Parser.{give, stop, tell, bind, when, byOp, byFactor, byGiven, need, behindSign}
 use Rattle.grammar.specs.Parser.{signDrafts, openDrafts, step, parse, rank, reads}
 use Rattle.grammar.proofs.Sound.{At}
 use Rattle.grammar.proofs.Enough.{step-cong, enough}
@@ -54,7 +54,7 @@ module _ (d : ℕ) (s : List Symbol) where
 
   -- a factor, by what its token begins
   pub reads-factor : reads factor d s
-      ≡ byShape (shapeOf (next s)) (λ e. tell (drafted e) (give e (rest s))) (λ _. reads (opened group) d s)
+      ≡ byFactor (factorStart (next s)) (λ e. tell (drafted e) (give e (rest s))) (λ _. reads (opened group) d s)
       (λ p. when (eqb (byteOf (next (rest s))) 40) (λ _. reads (opened p) d (rest s)) (λ _. stop 18 (rest s)))
       (λ _. stop 18 s)
   reads-factor = reads-step factor d s tt

@@ -8,7 +8,7 @@ use lib.ListN.{length, length-append}
 use Rattle.laws.proofs.Tests.{for-suc}
 use Rattle.tokens.specs.Symbol.{Symbol, mark}
 use Rattle.drafts.specs.Tree.{Tree}
-use Rattle.grammar.specs.Look.{next, rest, byteOf, none, addOp, mulOp, Opening, NoFactor, shapeOf}
+use Rattle.grammar.specs.Look.{next, rest, byteOf, none, addOp, mulOp, Opening, NoFactor, factorStart}
 use Rattle.grammar.specs.Grammar.{Mode, expr, term, factor, terms, factors, opened, list}
 use Rattle.grammar.specs.Grammar.{Der, unsigned, sign, no-terms, add, a-term, no-factors, mul, a-leaf, grouped}
 use Rattle.grammar.specs.Grammar.{called, opening, last, comma}
@@ -41,15 +41,15 @@ at-mark (opening {w = w} a) = (w, refl)
 
 -- a factor with what begins one
 begins : {d : ℕ} {w : List Symbol} {e : Tree} → Der factor d w e → (r : List Symbol)
-    → shapeOf (next (w ++ r)) ≡ NoFactor → ⊥
-unfolding next shapeOf
+    → factorStart (next (w ++ r)) ≡ NoFactor → ⊥
+unfolding next factorStart
 begins (a-leaf h) r z = clash (cc)
-begins (grouped a) r z = let y : shapeOf (mark 40) ≡ NoFactor = rw (at-mark a .1) at z in clash (cc)
+begins (grouped a) r z = let y : factorStart (mark 40) ≡ NoFactor = rw (at-mark a .1) at z in clash (cc)
 begins (called h a) r z = clash (cc)
 
 -- and so a term
 pub begins-term : {d : ℕ} {w : List Symbol} {e : Tree} → Der term d w e → (r : List Symbol)
-    → shapeOf (next (w ++ r)) ≡ NoFactor → ⊥
+    → factorStart (next (w ++ r)) ≡ NoFactor → ⊥
 begins-term (a-term {v = v} a b) r = rw append-assoc (begins a (v ++ r))
 
 -- behind a term stands nothing that multiplies
@@ -74,7 +74,7 @@ one-call m d s n e r h = for-suc (λ f. parse f m d s .end ≡ got e r) n h
 
 -- what is derived is read
 pub complete : {m : Mode} {d : ℕ} {w : List Symbol} {e : Tree} → Der m d w e → Reads m d w e
-unfolding parse next rest byteOf shapeOf
+unfolding parse next rest byteOf factorStart
 complete (unsigned {d} {w} {v} {e} {x} a b) r fo =
     let l = length-append w v in
     rw append-assoc (one-call expr d (w ++ (v ++ r)) (3 + 5 * length (w ++ v)) x r λ f le.

@@ -12,14 +12,14 @@ use Rattle.drafts.specs.Kinds.{kindTwo}
 use Rattle.drafts.specs.Drafts.{Draft, draft}
 use Rattle.grammar.specs.Look.{next, rest, byteOf, Op, none, op, addOp, mulOp, signed, Opening, group, Given}
 use Rattle.grammar.specs.Look.{full, wants, give-to}
-use Rattle.grammar.specs.Look.{Shape, Leaf, Paren, Call, NoFactor, shapeOf}
+use Rattle.grammar.specs.Look.{FactorStart, Leaf, Paren, Call, NoFactor, factorStart}
 use Rattle.grammar.specs.Grammar.{Mode, expr, term, factor, terms, factors, opened, list}
 use Rattle.grammar.specs.Grammar.{Der, unsigned, sign, no-terms, add, a-term, no-factors, mul, a-leaf, grouped}
 use Rattle.grammar.specs.Grammar.{called, opening, last, comma}
-use Rattle.grammar.specs.Parser.{End, got, bad, Res, tell, onward, bind, when, byOp, byShape, byGiven, need}
+use Rattle.grammar.specs.Parser.{End, got, bad, Res, tell, onward, bind, when, byOp, byFactor, byGiven, need}
 use Rattle.grammar.specs.Parser.{behindSign, signDrafts, step, parse, rank}
 use Rattle.grammar.proofs.Endings.{OutEnd, here-mark, is-mark}
-use Rattle.grammar.proofs.Looks.{add-here, mul-here, call-here, as-shaped}
+use Rattle.grammar.proofs.Looks.{add-here, mul-here, call-here, as-starting}
 use Rattle.grammar.proofs.Sound.{Done, Via, At, sound}
 
 -- ---- what is left is shorter
@@ -71,7 +71,7 @@ rest-le [] = omega arith
 rest-le (t ∷ s) = omega arith
 
 -- behind a sign, or not
-pub behind-le : (o : Op) (s : List Symbol) → length (behindSign o s) ≤ length s
+behind-le : (o : Op) (s : List Symbol) → length (behindSign o s) ≤ length s
 behind-le none s = omega arith
 behind-le (op o) s = rest-le s
 
@@ -98,22 +98,22 @@ module _ {A : Type 0} where
       go false e = refl
 
   -- by an operator
-  pub op-cong : (o : Op) (x : Unit {0} → Res A) (y y′ : Two → Res A) → ((k : Two) → o ≡ op k → y k ≡ y′ k)
+  op-cong : (o : Op) (x : Unit {0} → Res A) (y y′ : Two → Res A) → ((k : Two) → o ≡ op k → y k ≡ y′ k)
       → byOp o x y ≡ byOp o x y′
   op-cong none x y y′ h = refl
   op-cong (op k) x y y′ h = h k refl
 
   -- by what begins a factor
-  pub shape-cong : (q : Shape) (x : Tree → Res A) (y y′ : Unit {0} → Res A) (z z′ : Opening → Res A)
+  factor-cong : (q : FactorStart) (x : Tree → Res A) (y y′ : Unit {0} → Res A) (z z′ : Opening → Res A)
       (n : Unit {0} → Res A)
-      → (q ≡ Paren → y tt ≡ y′ tt) → ((p : Opening) → q ≡ Call p → z p ≡ z′ p) → byShape q x y z n ≡ byShape q x y′ z′ n
-  shape-cong (Leaf e) x y y′ z z′ n g h = refl
-  shape-cong Paren x y y′ z z′ n g h = g refl
-  shape-cong (Call p) x y y′ z z′ n g h = h p refl
-  shape-cong NoFactor x y y′ z z′ n g h = refl
+      → (q ≡ Paren → y tt ≡ y′ tt) → ((p : Opening) → q ≡ Call p → z p ≡ z′ p) → byFactor q x y z n ≡ byFactor q x y′ z′ n
+  factor-cong (Leaf e) x y y′ z z′ n g h = refl
+  factor-cong Paren x y y′ z z′ n g h = g refl
+  factor-cong (Call p) x y y′ z z′ n g h = h p refl
+  factor-cong NoFactor x y y′ z z′ n g h = refl
 
   -- by what an opening makes
-  pub given-cong : (q : Given) (x : Tree → Res A) (y y′ : Opening → Res A) → ((p : Opening) → y p ≡ y′ p)
+  given-cong : (q : Given) (x : Tree → Res A) (y y′ : Opening → Res A) → ((p : Opening) → y p ≡ y′ p)
       → byGiven q x y ≡ byGiven q x y′
   given-cong (full e) x y y′ h = refl
   given-cong (wants p) x y y′ h = h p
@@ -158,7 +158,7 @@ step-cong f g expr d s p same =
 step-cong f g term d s p same =
     linked-cong f g same d factor factors [] s tt (λ _ _. tt) (omega arith) λ e t k. omega arith
 step-cong f g factor d s p same =
-    shape-cong (shapeOf (next s)) _ _ _ _ _ _ (λ q. same (opened group) d s (as-shaped (next s) q) (omega arith)) λ p q.
+    factor-cong (factorStart (next s)) _ _ _ _ _ _ (λ q. same (opened group) d s (as-starting (next s) q) (omega arith)) λ p q.
     let l = shorter s (call-here s p q) in
     mark-cong 39 (rest s) _ _ _ λ m. same (opened p) d (rest s) m (omega arith)
 step-cong f g (terms l) d s p same =

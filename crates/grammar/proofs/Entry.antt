@@ -20,7 +20,7 @@ use Rattle.drafts.specs.Drafts.{Draft}
 use Rattle.grammar.specs.Parser.{End, got, bad, Res, onward, bind, statement, ended, entire, calls, answer}
 use Rattle.grammar.specs.Parser.{readRow}
 use Rattle.grammar.specs.Contract.{ParseOutcome, parseOutcome, wrote, parsedAs, rowOutcome, ParsesRow, Ready}
-use Rattle.grammar.specs.Contract.{passed, partOf, partWrote, Meets}
+use Rattle.grammar.specs.Contract.{partDone, partOf, partWrote, Meets}
 use Rattle.grammar.proofs.Room.{Fits, FitsEnd, statement-fits}
 use Rattle.grammar.proofs.Meets.{Went, went, place-is}
 
@@ -129,7 +129,7 @@ module _ (ks us : List ℕ) (p : ℕ) (l u : List ℕ) where
           (entire-stops (length ks) (statement (calls (heldRow ks us)) levels (heldRow ks us)) r p l u l₁ u₁ z
           (h .same))
 
-      module _ {j q : ℕ} (e : r ≡ passed j q) where
+      module _ {j q : ℕ} (e : r ≡ partDone j q) where
         through : Went (heldRow ks us) (statement (calls (heldRow ks us)) levels (heldRow ks us)) 0 p l u j q l₁ u₁
         through =
             let row = heldRow ks us in

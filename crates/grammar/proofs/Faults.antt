@@ -12,16 +12,17 @@ use Rattle.limits.specs.Limits.{levels}
 use Rattle.tokens.specs.Symbol.{Symbol, mark}
 use Rattle.drafts.specs.Tree.{Says}
 use Rattle.drafts.specs.Drafts.{Draft}
-use Rattle.grammar.specs.Look.{next, Paren, Call, shapeOf}
+use Rattle.grammar.specs.Look.{next, Paren, Call, factorStart}
 use Rattle.grammar.specs.Grammar.{Derives}
 use Rattle.grammar.specs.Parser.{End, got, bad, Res, entire, calls, Read, read, fault, answer, readRow}
 use Rattle.grammar.specs.Meaning.{Calm, Front, TooDeep}
 use Rattle.grammar.proofs.Stops.{Wrong, Stops, wrong, deep}
 use Rattle.grammar.proofs.Endings.{clash, Code, for-grammar, for-depth, OutEnd, Fronts}
-use Rattle.grammar.proofs.Whole.{Stated, StatedVia, stated-le, entire-out}
+use Rattle.grammar.proofs.StatementsSound.{Stated, StatedVia, stated-le, entire-out}
 use Rattle.grammar.proofs.Accepts.{entire-complete, accepts}
 use Rattle.grammar.proofs.Local.{Like, LocEnd}
-use Rattle.grammar.proofs.Rows.{entire-enough, entire-loc}
+use Rattle.grammar.proofs.StatementsEnough.{entire-enough}
+use Rattle.grammar.proofs.StatementsLocal.{entire-loc}
 
 -- how reading a row ends, with calls enough
 abbrev pub ending : ℕ → List Symbol → End Says
@@ -144,11 +145,11 @@ last-same p q t u h =
 
 -- what ends with an opening does not end with a function's name
 opening-calm : (row : List Symbol) (j : ℕ) → j < length row → getD row j (mark 0) ≡ mark 40 → Calm (take (j + 1) row)
-unfolding shapeOf
+unfolding factorStart
 opening-calm row j lt h v t p q k =
     let e : take (j + 1) row ≡ take j row ++ mark 40 ∷ [] = rw (add-one, take-suc row j (mark 0) lt, h) in
     let s : t ≡ mark 40 = last-same v (take j row) t (mark 40) (sym q ∙ e) in
-    let z : Paren ≡ Call p = sym (ap shapeOf s) ∙ k in
+    let z : Paren ≡ Call p = sym (ap factorStart s) ∙ k in
     clash (cc)
 
 -- if there were one, reading would have stopped at it
@@ -206,8 +207,8 @@ meaning row c i h = go (readRow row) (answered row) h
 
 -- ---- no two faults have it
 
--- a shorter front
-front-le : {d : ℕ} (row : List Symbol) (i j : ℕ) → i ≤ j → Front d (take j row) → Front d (take i row)
+-- a front's front
+pub front-le : {d : ℕ} (row : List Symbol) (i j : ℕ) → i ≤ j → Front d (take j row) → Front d (take i row)
 front-le {d} row i j le a =
     let r : List Symbol = drop i (take j row) in
     let q : take j row ≡ take i row ++ r =

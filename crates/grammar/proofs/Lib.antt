@@ -1,7 +1,7 @@
 pub mod Endings
 pub mod Looks
 pub mod Sound
-pub mod Whole
+pub mod StatementsSound
 pub mod Complete
 pub mod Accepts
 pub mod Room
@@ -15,7 +15,8 @@ pub mod Values
 pub mod Statements
 pub mod Entry
 pub mod Local
-pub mod Rows
+pub mod StatementsEnough
+pub mod StatementsLocal
 pub mod Stops
 pub mod Faults
 pub mod Tight

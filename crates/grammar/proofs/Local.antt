@@ -12,13 +12,13 @@ use Rattle.drafts.specs.Kinds.{kindTwo}
 use Rattle.drafts.specs.Drafts.{Draft, draft, drafted}
 use Rattle.grammar.specs.Look.{next, rest, byteOf, Op, none, op, addOp, mulOp, signed, Opening, group, Given}
 use Rattle.grammar.specs.Look.{full, wants, give-to}
-use Rattle.grammar.specs.Look.{Shape, Leaf, Paren, Call, NoFactor, shapeOf}
+use Rattle.grammar.specs.Look.{FactorStart, Leaf, Paren, Call, NoFactor, factorStart}
 use Rattle.grammar.specs.Grammar.{Mode, expr, term, factor, terms, factors, opened, list}
-use Rattle.grammar.specs.Parser.{End, got, bad, Res, give, stop, tell, onward, bind, when, byOp, byShape, byGiven}
+use Rattle.grammar.specs.Parser.{End, got, bad, Res, give, stop, tell, onward, bind, when, byOp, byFactor, byGiven}
 use Rattle.grammar.specs.Parser.{need}
 use Rattle.grammar.specs.Parser.{behindSign, signDrafts, openDrafts, parse}
 use Rattle.grammar.proofs.Endings.{here-mark, is-mark}
-use Rattle.grammar.proofs.Looks.{add-here, mul-here, leaf-here, call-here, as-shaped}
+use Rattle.grammar.proofs.Looks.{add-here, mul-here, leaf-here, call-here, as-starting}
 use Rattle.grammar.proofs.Sound.{At}
 use Rattle.grammar.proofs.Complete.{bind-end}
 
@@ -132,7 +132,7 @@ module _ {A : Type 0} (d : ℕ) (s : List Symbol) where
   loc-stop c = record { ends = ([], refl, λ d′ u le n like. refl) }
 
   -- by a test
-  pub loc-when : (b : Bool) (g h : Reading A) → (b ≡ true → Loc d s g) → (b ≡ false → Loc d s h)
+  loc-when : (b : Bool) (g h : Reading A) → (b ≡ true → Loc d s g) → (b ≡ false → Loc d s h)
       → Loc d s (λ d′ u. when b (λ _. g d′ u) (λ _. h d′ u))
   loc-when true g h p q = p refl
   loc-when false g h p q = q refl
@@ -192,14 +192,14 @@ loc-suc {A} d s g h q l = record { ends = rw (q d s) (go (g d s .end) (l .ends))
 
 module _ (f d : ℕ) (ih : (m : Mode) (s : List Symbol) → At m s → Loc d s (parse f m)) where
   -- a factor, by what its token begins
-  factor-loc : (s : List Symbol) (h : Shape) → shapeOf (next s) ≡ h
-      → Loc d s (λ d′ u. byShape h (λ e. tell (drafted e) (give e (rest u))) (λ _. parse f (opened group) d′ u)
+  factor-loc : (s : List Symbol) (h : FactorStart) → factorStart (next s) ≡ h
+      → Loc d s (λ d′ u. byFactor h (λ e. tell (drafted e) (give e (rest u))) (λ _. parse f (opened group) d′ u)
       (λ p. when (eqb (byteOf (next (rest u))) 40) (λ _. parse f (opened p) d′ (rest u)) (λ _. stop 18 (rest u)))
       (λ _. stop 18 u))
   factor-loc s (Leaf e) q =
       loc-rest d s (λ _ u. tell (drafted e) (give e u)) (leaf-here s e q)
       (loc-tell d (rest s) (drafted e) (λ _. give e) (loc-give d (rest s) e))
-  factor-loc s Paren q = ih (opened group) s (as-shaped (next s) q)
+  factor-loc s Paren q = ih (opened group) s (as-starting (next s) q)
   factor-loc s (Call p) q =
       loc-rest d s (λ d′ u. when (eqb (byteOf (next u)) 40) (λ _. parse f (opened p) d′ u) (λ _. stop 18 u))
       (call-here s p q)
@@ -229,11 +229,11 @@ local (suc f) expr d s p =
     λ e t. loc-tell d t (signDrafts o) (parse f (terms (signed o e))) (local f (terms (signed o e)) d t tt))
 local (suc f) term d s p = loc-bind d s (parse f factor) _ (local f factor d s tt) λ e t. local f (factors e) d t tt
 local (suc f) factor d s p =
-    loc-seen d s shapeOf
-    (λ h d′ u. byShape h (λ e. tell (drafted e) (give e (rest u))) (λ _. parse f (opened group) d′ u)
+    loc-seen d s factorStart
+    (λ h d′ u. byFactor h (λ e. tell (drafted e) (give e (rest u))) (λ _. parse f (opened group) d′ u)
     (λ p. when (eqb (byteOf (next (rest u))) 40) (λ _. parse f (opened p) d′ (rest u)) (λ _. stop 18 (rest u)))
     (λ _. stop 18 u))
-    (factor-loc f d (λ m s p. local f m d s p) s (shapeOf (next s)) refl)
+    (factor-loc f d (λ m s p. local f m d s p) s (factorStart (next s)) refl)
 local (suc f) (terms l) d s p =
     loc-seen d s addOp
     (λ o d′ u. byOp o (λ _. give l u) λ n. bind (parse f term d′ (rest u)) λ e t. tell (draft (kindTwo n) 0 ∷ [])

@@ -14,7 +14,7 @@ use Rattle.drafts.specs.Drafts.{Draft, drafted}
 use Rattle.grammar.specs.Look.{next, rest, byteOf, Op, none, op, addOp, mulOp, signed}
 use Rattle.grammar.specs.Look.{Opening, group, pair, pair-of, triple, triple-of, triple-of-two, Given, full}
 use Rattle.grammar.specs.Look.{wants, give-to}
-use Rattle.grammar.specs.Look.{Shape, Leaf, Paren, Call, NoFactor, shapeOf, Start, Constants, Integral, Named}
+use Rattle.grammar.specs.Look.{FactorStart, Leaf, Paren, Call, NoFactor, factorStart, Start, Constants, Integral, Named}
 use Rattle.grammar.specs.Look.{Valued, Other, startOf}
 use Rattle.grammar.specs.Parser.{signDrafts, openDrafts}
 use Rattle.grammar.proofs.Endings.{clash, here, is-mark}
@@ -34,14 +34,14 @@ unfolding byteOf
 mul-here s o h = here-by mulOp s λ z. clash (cc)
 
 -- a number, a name or TIME stands there
-pub leaf-here : (s : List Symbol) (e : Tree) → shapeOf (next s) ≡ Leaf e → s ≡ next s ∷ rest s
-unfolding shapeOf
-leaf-here s e h = here-by shapeOf s λ z. clash (cc)
+pub leaf-here : (s : List Symbol) (e : Tree) → factorStart (next s) ≡ Leaf e → s ≡ next s ∷ rest s
+unfolding factorStart
+leaf-here s e h = here-by factorStart s λ z. clash (cc)
 
 -- a function's name stands there
-pub call-here : (s : List Symbol) (p : Opening) → shapeOf (next s) ≡ Call p → s ≡ next s ∷ rest s
-unfolding shapeOf
-call-here s p h = here-by shapeOf s λ z. clash (cc)
+pub call-here : (s : List Symbol) (p : Opening) → factorStart (next s) ≡ Call p → s ≡ next s ∷ rest s
+unfolding factorStart
+call-here s p h = here-by factorStart s λ z. clash (cc)
 
 -- ---- signs
 
@@ -64,14 +64,14 @@ unfolding startOf
 add-other t o h = ⊎-elim (λ (e : t ≡ mark 43). ap startOf e) (λ (e : t ≡ mark 45). ap startOf e) (add-mark t o h)
 
 -- what begins a factor does not add
-pub factor-no-add : (t : Symbol) → (shapeOf t ≡ NoFactor → ⊥) → addOp t ≡ none
-unfolding shapeOf
+pub factor-no-add : (t : Symbol) → (factorStart t ≡ NoFactor → ⊥) → addOp t ≡ none
+unfolding factorStart
 factor-no-add t n = go (addOp t) refl
   where
     go : (o : Op) → addOp t ≡ o → o ≡ none
     go none h = refl
     go (op o) h =
-        absurd (n (⊎-elim (λ (e : t ≡ mark 43). ap shapeOf e) (λ (e : t ≡ mark 45). ap shapeOf e) (add-mark t o h)))
+        absurd (n (⊎-elim (λ (e : t ≡ mark 43). ap factorStart e) (λ (e : t ≡ mark 45). ap factorStart e) (add-mark t o h)))
 
 -- ---- factors
 
@@ -86,29 +86,29 @@ pub data Bare : Tree → Type 0 where
   bare-name : {k : ℕ} → Bare (named k)
   bare-time : Bare time
 
--- what the shape of a token tells of it
-abbrev pub Shaped : Shape → Symbol → Type 0
-Shaped (Leaf e) t = Bare e
-Shaped Paren t = t ≡ mark 40
-Shaped (Call p) t = New p
-Shaped NoFactor t = Unit {0}
+-- what a token begins as a factor tells of it
+abbrev pub Starting : FactorStart → Symbol → Type 0
+Starting (Leaf e) t = Bare e
+Starting Paren t = t ≡ mark 40
+Starting (Call p) t = New p
+Starting NoFactor t = Unit {0}
 
 -- it tells this of each token
-shaped : (t : Symbol) → Shaped (shapeOf t) t
-unfolding shapeOf
-shaped (mark b) = cond-ind (λ h. Shaped h (mark b)) (eqb b 40) Paren NoFactor (λ e. ap mark (eqb-true b 40 e)) λ e. tt
-shaped (number x) = bare-value
-shaped (name k) = bare-name
-shaped (word CONSTANTS) = tt
-shaped (word INTGRL) = tt
-shaped (word TIME) = bare-time
-shaped (word INSW) = new-triple
-shaped (word LIMIT) = new-triple
-shaped (word COMPAR) = new-pair
+starting : (t : Symbol) → Starting (factorStart t) t
+unfolding factorStart
+starting (mark b) = cond-ind (λ h. Starting h (mark b)) (eqb b 40) Paren NoFactor (λ e. ap mark (eqb-true b 40 e)) λ e. tt
+starting (number x) = bare-value
+starting (name k) = bare-name
+starting (word CONSTANTS) = tt
+starting (word INTGRL) = tt
+starting (word TIME) = bare-time
+starting (word INSW) = new-triple
+starting (word LIMIT) = new-triple
+starting (word COMPAR) = new-pair
 
--- so it does where the shape is known
-pub as-shaped : (t : Symbol) {h : Shape} → shapeOf t ≡ h → Shaped h t
-as-shaped t q = subst (λ (h : Shape). Shaped h t) q (shaped t)
+-- so it does where that is known
+pub as-starting : (t : Symbol) {h : FactorStart} → factorStart t ≡ h → Starting h t
+as-starting t q = subst (λ (h : FactorStart). Starting h t) q (starting t)
 
 -- ---- statements
 

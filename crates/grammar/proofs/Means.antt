@@ -1,11 +1,10 @@
 -- Faults 18 and 19 of a row of tokens: each exactly where the paper says, and one meaning for each row.
-use Prim.Native.Nat.{ℕ, suc, _+_, _≤_}
-use mathlib.Core.Path.{_≡_, refl, sym, ap, subst, _∙_}
-use mathlib.Core.List.{List, [], _++_, append-assoc}
+use Prim.Native.Nat.{ℕ, suc, _+_}
+use mathlib.Core.Path.{_≡_, refl, sym, ap, _∙_}
+use mathlib.Core.List.{List, []}
 use mathlib.Core.Logic.{_⊎_, inl, inr, ⊎-elim}
 use native.Mathlib.Omega.{arith}
 use lib.ListN.{length, take, drop, take-append-drop}
-use lib.Seq.{take-take}
 use Rattle.laws.proofs.Tests.{lt-or-ge}
 use Rattle.limits.specs.Limits.{levels}
 use Rattle.tokens.specs.Symbol.{Symbol}
@@ -13,10 +12,10 @@ use Rattle.drafts.specs.Tree.{Says}
 use Rattle.grammar.specs.Grammar.{Derives}
 use Rattle.grammar.specs.Parser.{got, calls, Read, read, fault, readRow}
 use Rattle.grammar.specs.Meaning.{Front, TooDeep, Eighteen, Nineteen, Means, deepest}
-use Rattle.grammar.proofs.Whole.{stated-le}
+use Rattle.grammar.proofs.StatementsSound.{stated-le}
 use Rattle.grammar.proofs.Accepts.{entire-complete, accepts}
 use Rattle.grammar.proofs.Stops.{Wrong, Stops, wrong, deep}
-use Rattle.grammar.proofs.Faults.{exactly}
+use Rattle.grammar.proofs.Faults.{front-le, exactly}
 use Rattle.grammar.proofs.Tight.{loose, tight}
 
 -- ---- fronts
@@ -24,16 +23,6 @@ use Rattle.grammar.proofs.Tight.{loose, tight}
 -- a statement's front
 whole-front : {d : ℕ} {x : Says} (row : List Symbol) (i : ℕ) → Derives d row x → Front d (take i row)
 whole-front {d} {x} row i a = record { behind = drop i row; says = x; derived = rw (take-append-drop i row) a }
-
--- a front's front
-shorter : {d : ℕ} (row : List Symbol) (i j : ℕ) → i ≤ j → Front d (take j row) → Front d (take i row)
-shorter {d} row i j le a =
-    let r : List Symbol = drop i (take j row) in
-    let q : take j row ≡ take i row ++ r =
-    sym (take-append-drop i (take j row)) ∙ ap (λ (z : List Symbol). z ++ r) (take-take i j row le) in
-    let b : Derives d ((take i row ++ r) ++ a .behind) (a .says) =
-    subst (λ (z : List Symbol). Derives d (z ++ a .behind) (a .says)) q (a .derived) in
-    record { behind = r ++ a .behind; says = a .says; derived = rw append-assoc at b }
 
 -- ---- a row
 module _ (row : List Symbol) where
@@ -66,9 +55,9 @@ module _ (row : List Symbol) where
   same-place i j W E =
       let h = E .within in
       let k = W .within in
-      ⊎-elim (λ l. absurd (W .no-more (omega arith) (E .depth) (shorter row (j + 1) i (omega arith) (E .begun))))
+      ⊎-elim (λ l. absurd (W .no-more (omega arith) (E .depth) (front-le row (j + 1) i (omega arith) (E .begun))))
       (λ g.
-      ⊎-elim (λ l. absurd (E .no-further (omega arith) (suc levels) (shorter row (i + 1) j (omega arith) (W .before))))
+      ⊎-elim (λ l. absurd (E .no-further (omega arith) (suc levels) (front-le row (i + 1) j (omega arith) (W .before))))
       (λ g′. omega arith)
       (lt-or-ge i j))
       (lt-or-ge j i)
@@ -85,7 +74,7 @@ module _ (row : List Symbol) where
   no-opening i j E T =
       let h = T .within in
       ⊎-elim (λ l. E .earlier j l T)
-      (λ g. E .no-further (omega arith) (suc levels) (shorter row (i + 1) (j + 1) (omega arith) (T .allowed)))
+      (λ g. E .no-further (omega arith) (suc levels) (front-le row (i + 1) (j + 1) (omega arith) (T .allowed)))
       (lt-or-ge j i)
 
   -- so that is what the parser answers
@@ -136,7 +125,7 @@ module _ (row : List Symbol) where
         one = one-statement;
       }
 
--- the exception stands: as many openings as levels and then a function's name begin a statement with 17 levels and none
--- with 16
+-- the exception stands: as many openings as levels and then a function's name begin a statement with one level more
+-- than there may be, and none with as many as there may be
 pub exception : Front (suc levels) (deepest levels) × (Front levels (deepest levels) → ⊥)
 exception = (loose levels, tight levels)

@@ -11,14 +11,14 @@ use lib.ListN.{length, getD, set, drop, length-drop, length-append, length-map}
 use lib.Seq.{sets}
 use Rattle.laws.proofs.Sets.{sets-append}
 use Rattle.tokens.specs.Symbol.{Symbol}
-use Rattle.tokens.specs.Kinds.{lastKind}
+use Rattle.tokens.specs.Kinds.{lastWordKind}
 use Rattle.tokens.specs.Held.{heldRow}
 use Rattle.tokens.proofs.Holding.{held-length}
 use Rattle.grammar.specs.declared.expressions.Part.{Part}
 use Rattle.drafts.specs.Drafts.{Draft, draft}
 use Rattle.grammar.specs.Look.{next, rest, byteOf}
 use Rattle.grammar.specs.Parser.{End, got, bad, Res, give, stop, tell, onward, bind, when, need}
-use Rattle.grammar.specs.Contract.{ParseOutcome, parseOutcome, wrote, opDrafts, PutsOp, passed, stopped, partOf}
+use Rattle.grammar.specs.Contract.{ParseOutcome, parseOutcome, wrote, opDrafts, PutsOp, partDone, stopped, partOf}
 use Rattle.grammar.specs.Contract.{partWrote, Meets}
 use Rattle.grammar.proofs.Clauses.{rest-at, left-at}
 use Rattle.grammar.proofs.Room.{Fits, FitsEnd}
@@ -36,11 +36,11 @@ wrote-one : {R : Type 0} (r : R) (k a : ℕ) (o : List Draft) (p : ℕ) (l u : L
 unfolding wrote
 wrote-one r k a o p l u = simp (add-one)
 
--- ---- what a part that has passed tells
+-- ---- what a part that is done tells
 
 -- the code 0 tells it
-pub is-passed : {r : Part} → r .code ≡ 0 → r ≡ passed (r .next) (r .place)
-is-passed {r} e = ap (λ (c : ℕ). record { code = c; next = r .next; place = r .place }) e
+pub is-done : {r : Part} → r .code ≡ 0 → r ≡ partDone (r .next) (r .place)
+is-done {r} e = ap (λ (c : ℕ). record { code = c; next = r .next; place = r .place }) e
 
 -- it has read up to the place j, with drafts up to q, at most one for each token
 pub record Went {A : Type 0} (row : List Symbol) (x : Res A) (i p : ℕ) (l u : List ℕ) (j q : ℕ)
@@ -56,12 +56,12 @@ pub record Went {A : Type 0} (row : List Symbol) (x : Res A) (i p : ℕ) (l u : 
 
 pub went : {A : Type 0} (row : List Symbol) (x : Res A) (i p : ℕ) (l u : List ℕ) (j q : ℕ) (l₁ u₁ : List ℕ)
     → i ≤ length row → Fits (drop i row) 0 0 x
-    → parseOutcome (passed j q) l₁ u₁ ≡ partWrote (length row) x p l u → Went row x i p l u j q l₁ u₁
+    → parseOutcome (partDone j q) l₁ u₁ ≡ partWrote (length row) x p l u → Went row x i p l u j q l₁ u₁
 unfolding wrote
 went {A} row x i p l u j q l₁ u₁ le f h = go (x .end) refl (f .ends) h
   where
     go : (t : End A) → x .end ≡ t → FitsEnd (drop i row) 0 0 (length (x .out)) t
-        → parseOutcome (passed j q) l₁ u₁ ≡ wrote (partOf (length row) (p + length (x .out)) t) (x .out) p l u
+        → parseOutcome (partDone j q) l₁ u₁ ≡ wrote (partOf (length row) (p + length (x .out)) t) (x .out) p l u
         → Went row x i p l u j q l₁ u₁
     go (got e t) s r h =
         let a = length-append (r .0) t in
@@ -90,12 +90,12 @@ pub place-is : (ks us : List ℕ) (i : ℕ) → length us ≡ length ks → i �
 place-is ks us i q le = let a = length-drop i (heldRow ks us) in let b = held-length ks us q in omega arith
 
 -- a test of the mark that stands there
-mark-at : (ks us : List ℕ) (i b : ℕ) → length us ≡ length ks → lastKind < b
+mark-at : (ks us : List ℕ) (i b : ℕ) → length us ≡ length ks → lastWordKind < b
     → eqb (byteOf (next (drop i (heldRow ks us)))) b ≡ eqb (getD ks i 0) b
 mark-at ks us i b even h =
     ap (λ (t : Symbol). eqb (byteOf t) b) (token-at ks us i even) ∙ mark-test (getD ks i 0) (getD us i 0) b h
 
--- where the one has passed, the other's outcome is that of both
+-- where the one is done, the other's outcome is that of both
 pub bind-wrote : {A B : Type 0} (n : ℕ) (x : Res A) (k : A → List Symbol → Res B) (e : A) (t : List Symbol) (p q : ℕ)
     (l u l₁ u₁ : List ℕ)
     → x .end ≡ got e t → q ≡ p + length (x .out)
@@ -144,9 +144,9 @@ module _ {ks us : List ℕ} where
       → Meets ks us x (i + 1) p l u r l₁ u₁ → Meets ks us (λ s. x (rest s)) i p l u r l₁ u₁
   meets-rest {i = i} {x = x} h = meets-by (λ s. x (rest s)) (ap x (rest-at (heldRow ks us) i)) h
 
-  -- nothing read: it has passed, or stops
+  -- nothing read: it is done, or stops
   pub meets-give : {A : Type 0} {i p : ℕ} {l u : List ℕ} → length us ≡ length ks → i ≤ length ks → (e : A)
-      → Meets ks us (give e) i p l u (passed i p) l u
+      → Meets ks us (give e) i p l u (partDone i p) l u
   unfolding wrote
   meets-give {i = i} q le e = record { same = rw (place-is ks us i q le, add-zero) }
 
@@ -186,11 +186,11 @@ module _ {ks us : List ℕ} where
   meets-bad {i = i} {p = p} {l = l} {u = u} {r = r} {l₁ = l₁} {u₁ = u₁} {x = x} k z h =
       record { same = stop-wrote (length ks) (x (drop i (heldRow ks us))) k r p l u l₁ u₁ z (h .same) }
 
-  -- one part has passed, and the other goes on from there
+  -- one part is done, and the other goes on from there
   pub meets-bind : {A B : Type 0} {i p j q : ℕ} {l u : List ℕ} {r r₁ : Part} {l₁ u₁ l₂ u₂ : List ℕ}
       {x : List Symbol → Res A} (k : A → List Symbol → Res B)
       → Fits (drop i (heldRow ks us)) 0 0 (x (drop i (heldRow ks us))) → length us ≡ length ks → i ≤ length ks
-      → r₁ ≡ passed j q → Meets ks us x i p l u r₁ l₁ u₁
+      → r₁ ≡ partDone j q → Meets ks us x i p l u r₁ l₁ u₁
       → ((e : A) → x (drop i (heldRow ks us)) .end ≡ got e (drop j (heldRow ks us))
       → Meets ks us (k e) j q l₁ u₁ r l₂ u₂)
       → Meets ks us (λ s. bind (x s) k) i p l u r l₂ u₂
@@ -215,7 +215,7 @@ module _ {ks us : List ℕ} where
   -- at a mark, or else
   pub meets-mark : {A : Type 0} {i p : ℕ} {l u : List ℕ} {r : Part} {l₁ u₁ : List ℕ} {x : List Symbol → Res A}
       (y : List Symbol → Res A) (b : ℕ)
-      → length us ≡ length ks → lastKind < b → getD ks i 0 ≡ b → Meets ks us x i p l u r l₁ u₁
+      → length us ≡ length ks → lastWordKind < b → getD ks i 0 ≡ b → Meets ks us x i p l u r l₁ u₁
       → Meets ks us (λ s. when (eqb (byteOf (next s)) b) (λ _. x s) (λ _. y s)) i p l u r l₁ u₁
   meets-mark {i = i} {x = x} y b even h e g =
       meets-by (λ s. when (eqb (byteOf (next s)) b) (λ _. x s) (λ _. y s))
@@ -223,7 +223,7 @@ module _ {ks us : List ℕ} where
 
   pub meets-else : {A : Type 0} {i p : ℕ} {l u : List ℕ} {r : Part} {l₁ u₁ : List ℕ} {y : List Symbol → Res A}
       (x : List Symbol → Res A) (b : ℕ)
-      → length us ≡ length ks → lastKind < b → (getD ks i 0 ≡ b → ⊥) → Meets ks us y i p l u r l₁ u₁
+      → length us ≡ length ks → lastWordKind < b → (getD ks i 0 ≡ b → ⊥) → Meets ks us y i p l u r l₁ u₁
       → Meets ks us (λ s. when (eqb (byteOf (next s)) b) (λ _. x s) (λ _. y s)) i p l u r l₁ u₁
   meets-else {i = i} {y = y} x b even h e g =
       meets-by (λ s. when (eqb (byteOf (next s)) b) (λ _. x s) (λ _. y s))
@@ -231,11 +231,11 @@ module _ {ks us : List ℕ} where
 
   -- behind a mark that must stand next, or a stop
   pub meets-need : {A : Type 0} {i p : ℕ} {l u : List ℕ} {r : Part} {l₁ u₁ : List ℕ} {k : List Symbol → Res A} (b : ℕ)
-      → length us ≡ length ks → lastKind < b → getD ks i 0 ≡ b → Meets ks us k (i + 1) p l u r l₁ u₁
+      → length us ≡ length ks → lastWordKind < b → getD ks i 0 ≡ b → Meets ks us k (i + 1) p l u r l₁ u₁
       → Meets ks us (λ s. need b s k) i p l u r l₁ u₁
   meets-need b even h e g = meets-mark (stop 18) b even h e (meets-rest g)
 
   pub meets-shut : {A : Type 0} {i p : ℕ} {l u : List ℕ} (k : List Symbol → Res A) (b : ℕ) → length us ≡ length ks
-      → i ≤ length ks → lastKind < b
+      → i ≤ length ks → lastWordKind < b
       → (getD ks i 0 ≡ b → ⊥) → Meets ks us (λ s. need b s k) i p l u (stopped 18 i) l u
   meets-shut k b even le h e = meets-else (λ s. k (rest s)) b even h e (meets-stop even le 18)

@@ -16,11 +16,11 @@ use Rattle.drafts.specs.Tree.{insw, limit, Tree}
 use Rattle.drafts.specs.Drafts.{draft, drafted}
 use Rattle.grammar.specs.Look.{next, rest, byteOf, Opening, group, pair, pair-of, triple, triple-of}
 use Rattle.grammar.specs.Look.{triple-of-two, Given, full, wants, give-to}
-use Rattle.grammar.specs.Look.{Shape, Leaf, Paren, Call, NoFactor, shapeOf}
+use Rattle.grammar.specs.Look.{FactorStart, Leaf, Paren, Call, NoFactor, factorStart}
 use Rattle.grammar.specs.Grammar.{expr, factor, opened, list}
-use Rattle.grammar.specs.Parser.{Res, give, stop, tell, when, byShape, byGiven, need, openDrafts, reads}
+use Rattle.grammar.specs.Parser.{Res, give, stop, tell, when, byFactor, byGiven, need, openDrafts, reads}
 use Rattle.grammar.specs.Codes.{wantOf, kindOpening, closerOf, leafKind, leafArg, faceOf}
-use Rattle.grammar.specs.Contract.{Ready, passed, stopped, Meets, Parses}
+use Rattle.grammar.specs.Contract.{Ready, partDone, stopped, Meets, Parses}
 use Rattle.grammar.proofs.Clauses.{reads-factor, reads-opened, reads-deep, reads-list}
 use Rattle.grammar.proofs.Seen.{token-at, stands, leaf-noted, face-noted}
 use Rattle.grammar.proofs.Meets.{meets-by, meets-rest, meets-give, meets-stop, meets-tell, meets-mark}
@@ -29,36 +29,36 @@ use Rattle.grammar.proofs.Ways.{after, stops, goes-on}
 
 -- ---- a factor, by the face f of its token's kind k
 
--- the shape behind a face
-abbrev Shown : Face → Shape → Type 0
+-- what a token begins as a factor, behind its face
+abbrev Shown : Face → FactorStart → Type 0
 Shown (One n) h = (e : Tree) × (h ≡ Leaf e) × (leafKind e ≡ n)
 Shown Group h = h ≡ Paren
 Shown (Function n c) h = (p : Opening) × (h ≡ Call p) × (wantOf p ≡ n) × (kindOpening p ≡ c)
 Shown Nothing h = h ≡ NoFactor
 
-shown : (h : Shape) → Shown (faceOf h) h
+shown : (h : FactorStart) → Shown (faceOf h) h
 shown (Leaf e) = (e, refl, refl)
 shown Paren = refl
 shown (Call p) = (p, refl, refl, refl)
 shown NoFactor = refl
 
 -- where the face is known
-as-shown : (k a : ℕ) {f : Face} → f ≡ faceOf (shapeOf (symbolOf k a)) → Shown f (shapeOf (symbolOf k a))
-as-shown k a q = subst (λ (f : Face). Shown f (shapeOf (symbolOf k a))) (sym q) (shown (shapeOf (symbolOf k a)))
+as-shown : (k a : ℕ) {f : Face} → f ≡ faceOf (factorStart (symbolOf k a)) → Shown f (factorStart (symbolOf k a))
+as-shown k a q = subst (λ (f : Face). Shown f (factorStart (symbolOf k a))) (sym q) (shown (factorStart (symbolOf k a)))
 
 module _ {ks us : List ℕ} {i p k : ℕ} {l u : List ℕ} {f : Face} (w : Ready ks us i p l u) (ek : k ≡ getD ks i 0)
-    (ef : (a : ℕ) → f ≡ faceOf (shapeOf (symbolOf k a))) where
-  -- the shape of the token
-  shape-at : shapeOf (next (drop i (heldRow ks us))) ≡ shapeOf (symbolOf k (getD us i 0))
-  shape-at = ap shapeOf (token-at ks us i (w .even)) ∙ ap (λ (x : ℕ). shapeOf (symbolOf x (getD us i 0))) (sym ek)
+    (ef : (a : ℕ) → f ≡ faceOf (factorStart (symbolOf k a))) where
+  -- what the token begins as a factor
+  token-start : factorStart (next (drop i (heldRow ks us))) ≡ factorStart (symbolOf k (getD us i 0))
+  token-start = ap factorStart (token-at ks us i (w .even)) ∙ ap (λ (x : ℕ). factorStart (symbolOf x (getD us i 0))) (sym ek)
 
-  -- the reading by a shape
-  by-shape : (d : ℕ) {h : Shape} → shapeOf (symbolOf k (getD us i 0)) ≡ h → reads factor d (drop i (heldRow ks us))
-      ≡ (let s = drop i (heldRow ks us) in byShape h (λ e. tell (drafted e) (give e (rest s)))
+  -- the reading by it
+  by-factor : (d : ℕ) {h : FactorStart} → factorStart (symbolOf k (getD us i 0)) ≡ h → reads factor d (drop i (heldRow ks us))
+      ≡ (let s = drop i (heldRow ks us) in byFactor h (λ e. tell (drafted e) (give e (rest s)))
       (λ _. reads (opened group) d s)
       (λ p. when (eqb (byteOf (next (rest s))) 40) (λ _. reads (opened p) d (rest s)) (λ _. stop 18 (rest s)))
       (λ _. stop 18 s))
-  by-shape d h = reads-factor d (drop i (heldRow ks us)) ∙ rw (shape-at ∙ h)
+  by-factor d h = reads-factor d (drop i (heldRow ks us)) ∙ rw (token-start ∙ h)
 
   -- it stands before the end
   pub one-inside : {n : ℕ} → f ≡ One n → i < length ks
@@ -73,14 +73,14 @@ module _ {ks us : List ℕ} {i p k : ℕ} {l u : List ℕ} {f : Face} (w : Ready
 
   pub factor-one : {d n a : ℕ} {l₁ u₁ : List ℕ} → f ≡ One n → a ≡ leafArg n (getD us i 0) → l₁ ≡ set l p n
       → u₁ ≡ set u p a
-      → Parses ks us factor d i p l u (passed (i + 1) (p + 1)) l₁ u₁
+      → Parses ks us factor d i p l u (partDone (i + 1) (p + 1)) l₁ u₁
   factor-one {d} {n} {a} e g x y =
       let row = heldRow ks us in
       let b = one-inside e in
       let h = as-shown k (getD us i 0) (sym e ∙ ef (getD us i 0)) in
       let z : drafted (h .0) ≡ draft n a ∷ [] = leaf-noted k (getD us i 0) (h .1) ∙ rw (h .2, g) in
       record {
-        meets = meets-by (reads factor d) (by-shape d (h .1) ∙ ap (λ is. tell is (give (h .0) (rest (drop i row)))) z)
+        meets = meets-by (reads factor d) (by-factor d (h .1) ∙ ap (λ is. tell is (give (h .0) (rest (drop i row)))) z)
             (meets-tell n a x y (meets-rest (meets-give (w .even) (omega arith) (h .0))));
       }
 
@@ -94,7 +94,7 @@ module _ {ks us : List ℕ} {i p k : ℕ} {l u : List ℕ} {f : Face} (w : Ready
       → Parses ks us factor d i p l u r l₁ u₁
   factor-group {d} e g =
       record {
-        meets = meets-by (reads factor d) (by-shape d (as-shown k (getD us i 0) (sym e ∙ ef (getD us i 0))))
+        meets = meets-by (reads factor d) (by-factor d (as-shown k (getD us i 0) (sym e ∙ ef (getD us i 0))))
             (g group refl refl .meets);
       }
 
@@ -115,7 +115,7 @@ module _ {ks us : List ℕ} {i p k : ℕ} {l u : List ℕ} {f : Face} (w : Ready
   factor-function {d} e z g =
       let h = as-shown k (getD us i 0) (sym e ∙ ef (getD us i 0)) in
       record {
-        meets = meets-by (reads factor d) (by-shape d (h .1))
+        meets = meets-by (reads factor d) (by-factor d (h .1))
             (meets-rest (meets-mark (stop 18) 40 (w .even) (omega arith) z (g (h .0) (h .2) (h .3) .meets)));
       }
 
@@ -125,7 +125,7 @@ module _ {ks us : List ℕ} {i p k : ℕ} {l u : List ℕ} {f : Face} (w : Ready
       let a = function-inside e in
       let h = as-shown k (getD us i 0) (sym e ∙ ef (getD us i 0)) in
       record {
-        meets = meets-by (reads factor d) (by-shape d (h .1))
+        meets = meets-by (reads factor d) (by-factor d (h .1))
             (meets-rest
             (meets-else (reads (opened (h .0)) d) 40 (w .even) (omega arith) z
             (meets-stop (w .even) (omega arith) 18)));
@@ -134,7 +134,7 @@ module _ {ks us : List ℕ} {i p k : ℕ} {l u : List ℕ} {f : Face} (w : Ready
   pub factor-none : {d : ℕ} → f ≡ Nothing → Parses ks us factor d i p l u (stopped 18 i) l u
   factor-none {d} e =
       record {
-        meets = meets-by (reads factor d) (by-shape d (as-shown k (getD us i 0) (sym e ∙ ef (getD us i 0))))
+        meets = meets-by (reads factor d) (by-factor d (as-shown k (getD us i 0) (sym e ∙ ef (getD us i 0))))
             (meets-stop (w .even) (w .within) 18);
       }
 
@@ -225,12 +225,12 @@ module _ {ks us : List ℕ} {d i p : ℕ} {l u : List ℕ} where
             (stops (list-then d o) e h);
       }
 
-  module _ {j q : ℕ} {r : Part} {l₁ u₁ : List ℕ} (w : Ready ks us i p l u) (e : r ≡ passed j q)
+  module _ {j q : ℕ} {r : Part} {l₁ u₁ : List ℕ} (w : Ready ks us i p l u) (e : r ≡ partDone j q)
       (h : Parses ks us expr d i p l u r l₁ u₁) where
-    list-passed : {r : Part} {l₂ u₂ : List ℕ} (o : Opening)
+    list-done : {r : Part} {l₂ u₂ : List ℕ} (o : Opening)
         → ((x : Tree) → Meets ks us (list-then d o x) j q l₁ u₁ r l₂ u₂)
         → Parses ks us (list o) d i p l u r l₂ u₂
-    list-passed o g =
+    list-done o g =
         record {
           meets = meets-by (reads (list o) d) (reads-list d (drop i (heldRow ks us)) o)
               (goes-on (list-then d o) w e h g);
@@ -243,7 +243,7 @@ module _ {ks us : List ℕ} {d i p : ℕ} {l u : List ℕ} where
         → ((b : Opening) → wantOf o ≡ suc (wantOf b) → 0 < wantOf b → kindOpening b ≡ kindOpening o
         → Meets ks us (λ t. need 44 t (reads (list b) d)) j q l₁ u₁ r l₂ u₂)
         → Parses ks us (list o) d i p l u r l₂ u₂
-    by-given {r} {l₂} {u₂} o f g = list-passed o λ x. go (give-to o x) (taken o x)
+    by-given {r} {l₂} {u₂} o f g = list-done o λ x. go (give-to o x) (taken o x)
       where
         go : (v : Given) → Taken o v
             → Meets ks us
@@ -313,7 +313,7 @@ module _ {ks us : List ℕ} {d i p : ℕ} {l u : List ℕ} where
             s f. absurd (omega arith)
 
         list-bare : {c : ℕ} → n ≤ 1 → c ≡ 0 → (o : Opening) → wantOf o ≡ n → kindOpening o ≡ c
-            → Parses ks us (list o) d i p l u (passed (j + 1) q) l₁ u₁
+            → Parses ks us (list o) d i p l u (partDone (j + 1) q) l₁ u₁
         list-bare le v o ew ec =
             let b = closer-inside in
             closed le o ew λ x. meets-by (λ u. tell (openDrafts o) (give x u))
@@ -322,7 +322,7 @@ module _ {ks us : List ℕ} {d i p : ℕ} {l u : List ℕ} where
 
         list-last : {c : ℕ} {l₂ u₂ : List ℕ} → n ≤ 1 → (c ≡ 0 → ⊥) → l₂ ≡ set l₁ q c → u₂ ≡ set u₁ q 0
             → (o : Opening) → wantOf o ≡ n → kindOpening o ≡ c
-            → Parses ks us (list o) d i p l u (passed (j + 1) (q + 1)) l₂ u₂
+            → Parses ks us (list o) d i p l u (partDone (j + 1) (q + 1)) l₂ u₂
         list-last {c} le v f g o ew ec =
             let b = closer-inside in
             let s : openDrafts o ≡ draft c 0 ∷ [] = one-draft o (λ y. v (sym ec ∙ y)) ∙ rw ec in
@@ -360,7 +360,7 @@ module _ {ks us : List ℕ} {d i p : ℕ} {l u : List ℕ} {n c j m q : ℕ} {l�
   item-stopped e h = z .all λ b _ _. list-stopped e h b
 
   -- the kind k stands behind it, and s should
-  module _ {j₁ q₁ : ℕ} {r : Part} {l₂ u₂ : List ℕ} (e : r ≡ passed j₁ q₁)
+  module _ {j₁ q₁ : ℕ} {r : Part} {l₂ u₂ : List ℕ} (e : r ≡ partDone j₁ q₁)
       (h : Parses ks us expr d j q l₁ u₁ r l₂ u₂) {k s : ℕ}
       (ek : k ≡ getD ks j₁ 0) (es : s ≡ closerOf m) where
     pub item-shut : (k ≡ s → ⊥) → (o : Opening) → wantOf o ≡ n → kindOpening o ≡ c
@@ -395,10 +395,10 @@ module _ {ks us : List ℕ} {d i p : ℕ} {l u : List ℕ} {n c j m q : ℕ} {l�
 
       -- the closing parenthesis
       pub item-bare : m ≤ 1 → c ≡ 0 → (o : Opening) → wantOf o ≡ n → kindOpening o ≡ c
-          → Parses ks us (list o) d i p l u (passed (j₁ + 1) q₁) l₂ u₂
+          → Parses ks us (list o) d i p l u (partDone (j₁ + 1) q₁) l₂ u₂
       item-bare le v = z .all (list-bare (z .ready) e h m ek es y le v)
 
       pub item-last : {l₃ u₃ : List ℕ} → m ≤ 1 → (c ≡ 0 → ⊥) → l₃ ≡ set l₂ q₁ c → u₃ ≡ set u₂ q₁ 0
           → (o : Opening) → wantOf o ≡ n → kindOpening o ≡ c
-          → Parses ks us (list o) d i p l u (passed (j₁ + 1) (q₁ + 1)) l₃ u₃
+          → Parses ks us (list o) d i p l u (partDone (j₁ + 1) (q₁ + 1)) l₃ u₃
       item-last le v f g = z .all (list-last (z .ready) e h m ek es y le v f g)

@@ -12,13 +12,14 @@ use Rattle.tokens.specs.Symbol.{Symbol, mark}
 use Rattle.drafts.specs.Tree.{Two, plus, minus, times, over, compar, Tree, two, Constant, constantOf, plain, from, Says}
 use Rattle.drafts.specs.Tree.{constants, assignment, state}
 use Rattle.drafts.specs.Kinds.{kindTwo}
+use Rattle.drafts.specs.Kinds.{kindInitial, kindStore, kindRate}
 use Rattle.drafts.specs.Drafts.{Draft, draft, drafted, constantDrafts, initialDraft}
 use Rattle.grammar.specs.Look.{next, rest, byteOf, Op, none, op, addOp, mulOp, signed}
 use Rattle.grammar.specs.Look.{Opening, group, pair, pair-of, triple, triple-of, triple-of-two, Given, full}
 use Rattle.grammar.specs.Look.{wants, give-to}
-use Rattle.grammar.specs.Look.{Shape, Leaf, Paren, Call, NoFactor, shapeOf, startOf}
+use Rattle.grammar.specs.Look.{FactorStart, Leaf, Paren, Call, NoFactor, factorStart, startOf}
 use Rattle.grammar.specs.Grammar.{Mode, expr, term, factor, terms, factors, opened, list}
-use Rattle.grammar.specs.Parser.{End, got, bad, Res, give, stop, tell, onward, bind, when, byOp, byShape, byGiven}
+use Rattle.grammar.specs.Parser.{End, got, bad, Res, give, stop, tell, onward, bind, when, byOp, byFactor, byGiven}
 use Rattle.grammar.specs.Parser.{need}
 use Rattle.grammar.specs.Parser.{behindSign, signDrafts, openDrafts, parse, rank, reads, byStart, byName}
 use Rattle.grammar.specs.Parser.{byNumber, byIntegral}
@@ -26,7 +27,7 @@ use Rattle.grammar.specs.Parser.{signedValue, aNumber, signedNumber, onM
 use Rattle.grammar.specs.Parser.{assigned, rated, started, integrated, equated, statement, ended, entire}
 use Rattle.grammar.proofs.Endings.{here-mark, is-mark}
 use Rattle.grammar.proofs.Looks.{add-here, mul-here, leaf-here, call-here, Bare, bare-value, bare-name}
-use Rattle.grammar.proofs.Looks.{bare-time, as-shaped, start-cases}
+use Rattle.grammar.proofs.Looks.{bare-time, as-starting, start-cases}
 
 -- a front w of s is read, and n drafts are written: with b more there are at most a more than tokens; at a fault none
 -- are due any more, and its code is 18 or 19
@@ -40,7 +41,7 @@ pub record Fits {A : Type 0} (s : List Symbol) (b a : ℕ) (x : Res A) : Type 0 
 
 module _ {A : Type 0} where
   -- what asks less
-  pub fits-mono : {b a : ℕ} {s : List Symbol} {x : Res A} (b′ a′ : ℕ) → Fits s b a x → b′ + a ≤ b + a′ → a ≤ a′
+  fits-mono : {b a : ℕ} {s : List Symbol} {x : Res A} (b′ a′ : ℕ) → Fits s b a x → b′ + a ≤ b + a′ → a ≤ a′
       → Fits s b′ a′ x
   fits-mono {b} {a} {s} {x} b′ a′ h p q = record { ends = go (x .end) (h .ends) }
     where
@@ -49,17 +50,17 @@ module _ {A : Type 0} where
       go (bad c t) r = (r .0, r .1, omega arith, r .3, r .4)
 
   -- nothing is read and nothing written
-  pub fits-give : (s : List Symbol) (e : A) → Fits s 0 0 (give e s)
+  fits-give : (s : List Symbol) (e : A) → Fits s 0 0 (give e s)
   fits-give s e = record { ends = ([], refl, omega arith) }
 
-  pub fits-stop : (s : List Symbol) (b a : ℕ) → Fits {A = A} s b a (stop 18 s)
+  fits-stop : (s : List Symbol) (b a : ℕ) → Fits {A = A} s b a (stop 18 s)
   fits-stop s b a = record { ends = ([], refl, omega arith, omega arith, omega arith) }
 
-  pub fits-deep : (s : List Symbol) (b a : ℕ) → Fits {A = A} s b a (stop 19 s)
+  fits-deep : (s : List Symbol) (b a : ℕ) → Fits {A = A} s b a (stop 19 s)
   fits-deep s b a = record { ends = ([], refl, omega arith, omega arith, omega arith) }
 
   -- behind drafts
-  pub fits-tell : (is : List Draft) (s : List Symbol) (b a : ℕ) (x : Res A) → Fits s b a x
+  fits-tell : (is : List Draft) (s : List Symbol) (b a : ℕ) (x : Res A) → Fits s b a x
       → Fits s b (length is + a) (tell is x)
   fits-tell is s b a x h = record { ends = go (x .end) (h .ends) }
     where
@@ -68,7 +69,7 @@ module _ {A : Type 0} where
       go (bad c t) r = (r .0, r .1, let l = length-append is (x .out) in omega arith, r .3, r .4)
 
   -- behind a token, which pays for a draft
-  pub fits-rest : {t : Symbol} (s : List Symbol) (b a : ℕ) (x : Res A) → s ≡ t ∷ rest s → Fits (rest s) b (suc a) x
+  fits-rest : {t : Symbol} (s : List Symbol) (b a : ℕ) (x : Res A) → s ≡ t ∷ rest s → Fits (rest s) b (suc a) x
       → Fits s b a x
   fits-rest {t} s b a x q h = record { ends = go (x .end) (h .ends) }
     where
@@ -77,7 +78,7 @@ module _ {A : Type 0} where
       go (bad c u) r = (t ∷ r .0, q ∙ ap (λ (z : List Symbol). t ∷ z) (r .1), omega arith, r .3, r .4)
 
   -- at a mark, or else
-  pub fits-mark : (m : ℕ) {s : List Symbol} {b a : ℕ} (x y : Unit {0} → Res A)
+  fits-mark : (m : ℕ) {s : List Symbol} {b a : ℕ} (x y : Unit {0} → Res A)
       → (next s ≡ mark (suc m) → Fits s b a (x tt)) → Fits s b a (y tt)
       → Fits s b a (when (eqb (byteOf (next s)) (suc m)) x y)
   fits-mark m {s} {b} {a} x y g h = go (eqb (byteOf (next s)) (suc m)) refl
@@ -87,12 +88,12 @@ module _ {A : Type 0} where
       go false e = h
 
   -- behind a mark that must stand next
-  pub fits-need : (m : ℕ) (s : List Symbol) (b a : ℕ) (k : List Symbol → Res A) → Fits (rest s) b (suc a) (k (rest s))
+  fits-need : (m : ℕ) (s : List Symbol) (b a : ℕ) (k : List Symbol → Res A) → Fits (rest s) b (suc a) (k (rest s))
       → Fits s b a (need (suc m) s k)
   fits-need m s b a k h = fits-mark m _ _ (λ q. fits-rest s b a (k (rest s)) (here-mark s m q) h) (fits-stop s b a)
 
 -- one after the other
-pub fits-bind : {A B : Type 0} (s : List Symbol) (b c a : ℕ) (x : Res A) (k : A → List Symbol → Res B) → Fits s b a x
+fits-bind : {A B : Type 0} (s : List Symbol) (b c a : ℕ) (x : Res A) (k : A → List Symbol → Res B) → Fits s b a x
     → ((e : A) (t : List Symbol) → Fits t c b (k e t)) → Fits s c a (bind x k)
 unfolding bind
 fits-bind {A} {B} s b c a x k h g = record { ends = go (x .out) (x .end) (h .ends) }
@@ -183,13 +184,13 @@ module _ (f d : ℕ) (ih : (m : Mode) (d : ℕ) (s : List Symbol) → Fits s 0 0
       linked-fits factor (λ e. factors (two o l e)) (draft (kindTwo o) 0 ∷ []) s (omega arith) (mul-here s o h)
 
   -- a factor, by what its token begins
-  factor-fits : (s : List Symbol) (h : Shape) → shapeOf (next s) ≡ h
+  factor-fits : (s : List Symbol) (h : FactorStart) → factorStart (next s) ≡ h
       → Fits s 0 0
-      (byShape h (λ e. tell (drafted e) (give e (rest s))) (λ _. parse f (opened group) d s)
+      (byFactor h (λ e. tell (drafted e) (give e (rest s))) (λ _. parse f (opened group) d s)
       (λ p. when (eqb (byteOf (next (rest s))) 40) (λ _. parse f (opened p) d (rest s)) (λ _. stop 18 (rest s)))
       (λ _. stop 18 s))
   factor-fits s (Leaf e) h =
-      let n = bare-one (as-shaped (next s) h) in
+      let n = bare-one (as-starting (next s) h) in
       fits-rest s 0 0 _ (leaf-here s e h)
       (fits-mono 0 1 (fits-tell (drafted e) (rest s) 0 0 _ (fits-give (rest s) e)) (omega arith) (omega arith))
   factor-fits s Paren h = ih (opened group) d s
@@ -217,13 +218,13 @@ rest-fits [] x h = h
 rest-fits (t ∷ s) x h = fits-rest (t ∷ s) 0 0 x refl (fits-mono 0 1 h (omega arith) (omega arith))
 
 -- in each mode, whatever the count of calls
-pub parse-fits : (f : ℕ) (m : Mode) (d : ℕ) (s : List Symbol) → Fits s 0 0 (parse f m d s)
+parse-fits : (f : ℕ) (m : Mode) (d : ℕ) (s : List Symbol) → Fits s 0 0 (parse f m d s)
 unfolding parse
 parse-fits zero m d s = fits-stop s 0 0
 parse-fits (suc f) expr d s = expr-fits f d (parse-fits f) s (addOp (next s)) refl
 parse-fits (suc f) term d s =
     fits-bind s 0 0 0 (parse f factor d s) _ (parse-fits f factor d s) λ e t. parse-fits f (factors e) d t
-parse-fits (suc f) factor d s = factor-fits f d (parse-fits f) s (shapeOf (next s)) refl
+parse-fits (suc f) factor d s = factor-fits f d (parse-fits f) s (factorStart (next s)) refl
 parse-fits (suc f) (terms l) d s = terms-fits f d (parse-fits f) l s (addOp (next s)) refl
 parse-fits (suc f) (factors l) d s = factors-fits f d (parse-fits f) l s (mulOp (next s)) refl
 parse-fits (suc f) (opened p) zero s = fits-deep s 0 0
@@ -257,7 +258,7 @@ number-fits o s =
     (λ x q. fits-rest s 0 0 _ q (fits-mono 0 1 (fits-give (rest s) _) (omega arith) (omega arith))) no
 
 -- with a sign or without
-pub signed-fits : (s : List Symbol) → Fits s 0 0 (signedNumber s)
+signed-fits : (s : List Symbol) → Fits s 0 0 (signedNumber s)
 unfolding signedNumber
 signed-fits s = go (addOp (next s)) refl
   where
@@ -288,7 +289,7 @@ many-fits (suc f) s =
     (fits-stop s 0 0)
 
 -- an initial
-pub initially-fits : (s : List Symbol) → Fits s 0 0 (initially s)
+initially-fits : (s : List Symbol) → Fits s 0 0 (initially s)
 unfolding initially
 initially-fits s =
     name-fits s 0 0 _ _ (λ k. fits-mono 0 1 (fits-give (rest s) (from k)) (omega arith) (omega arith))
@@ -300,7 +301,7 @@ module _ (f d k : ℕ) where
   unfolding assigned
   assigned-fits s =
       fits-bind s 1 0 1 (parse f expr d s) _ (fits-mono 1 1 (parse-fits f expr d s) (omega arith) (omega arith))
-      λ e t. fits-tell (draft 13 k ∷ []) t 0 0 _ (fits-give t (assignment k e))
+      λ e t. fits-tell (draft kindStore k ∷ []) t 0 0 _ (fits-give t (assignment k e))
 
   integrated-fits : (s : List Symbol) → Fits s 0 1 (integrated f d k s)
   unfolding integrated
@@ -308,12 +309,12 @@ module _ (f d k : ℕ) where
       fits-need 39 s 0 1 (started f d k)
       (fits-bind (rest s) 2 0 2 (initially (rest s)) _
       (fits-mono 2 2 (initially-fits (rest s)) (omega arith) (omega arith)) λ i t.
-      fits-tell (draft 2 k ∷ initialDraft i ∷ []) t 0 0 _
+      fits-tell (draft kindInitial k ∷ initialDraft i ∷ []) t 0 0 _
       (fits-need 43 t 0 0 (rated f d k i)
       (fits-bind (rest t) 0 0 1 (parse f expr d (rest t)) _
       (fits-mono 0 1 (parse-fits f expr d (rest t)) (omega arith) (omega arith)) λ e u.
-      fits-need 40 u 0 0 (λ v. tell (draft 14 k ∷ []) (give (state k i e) v))
-      (fits-tell (draft 14 k ∷ []) (rest u) 0 0 _ (fits-give (rest u) (state k i e))))))
+      fits-need 40 u 0 0 (λ v. tell (draft kindRate k ∷ []) (give (state k i e) v))
+      (fits-tell (draft kindRate k ∷ []) (rest u) 0 0 _ (fits-give (rest u) (state k i e))))))
 
   equated-fits : (s : List Symbol) → Fits s 0 1 (equated f d k s)
   equated-fits s =
@@ -352,7 +353,7 @@ entire-fits f d s = fits-bind s 0 0 0 (statement f d s) ended (statement-fits f 
     end x (t ∷ s) = fits-stop (t ∷ s) 0 0
 
 -- what fits has no more drafts than there are tokens
-pub fits-few : {A : Type 0} (s : List Symbol) (x : Res A) → Fits s 0 0 x → length (x .out) ≤ length s
+fits-few : {A : Type 0} (s : List Symbol) (x : Res A) → Fits s 0 0 x → length (x .out) ≤ length s
 fits-few {A} s x h = go (x .end) (h .ends)
   where
     go : (t : End A) → FitsEnd s 0 0 (length (x .out)) t → length (x .out) ≤ length s

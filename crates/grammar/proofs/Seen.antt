@@ -11,14 +11,14 @@ use lib.Ieee.{Float, binary64, ofBits}
 use lib.ListN.{length, getD, drop, List·getD-eq-default}
 use Rattle.laws.proofs.Tests.{lt-or-ge}
 use Rattle.tokens.specs.Symbol.{CONSTANTS, INTGRL, TIME, INSW, LIMIT, COMPAR, mark}
-use Rattle.tokens.specs.Kinds.{wordKind, lastKind}
+use Rattle.tokens.specs.Kinds.{numberKind, nameKind, wordKind, lastWordKind}
 use Rattle.tokens.specs.Held.{symbolOf, heldRow}
 use Rattle.tokens.proofs.Holding.{held-at}
 use Rattle.grammar.specs.declared.faces.Face.{Face}
 use Rattle.grammar.specs.declared.faces.Face.the-variants.{One, Group, Function, Nothing}
 use Rattle.drafts.specs.Tree.{Tree}
 use Rattle.drafts.specs.Drafts.{draft, drafted}
-use Rattle.grammar.specs.Look.{next, byteOf, addOp, mulOp, Shape, Leaf, Paren, Call, NoFactor, shapeOf}
+use Rattle.grammar.specs.Look.{next, byteOf, addOp, mulOp, FactorStart, Leaf, Paren, Call, NoFactor, factorStart}
 use Rattle.grammar.specs.Look.{Start, Constants, Integral, Named, Valued, Other, startOf}
 use Rattle.grammar.specs.Parser.{Res, byStart, byName, byNumber, byIntegral}
 use Rattle.grammar.specs.Codes.{leafKind, leafArg, faceOf}
@@ -33,9 +33,10 @@ token-at ks us i h = next-at (heldRow ks us) i ∙ held-at ks us i h
 pub stands : (ks : List ℕ) (i : ℕ) → (getD ks i 0 ≡ 0 → ⊥) → i < length ks
 stands ks i h = ⊎-elim (λ l. l) (λ g. absurd (h (List·getD-eq-default ks 0 g))) (lt-or-ge i (length ks))
 
--- what holds of the nine low kinds, and of those above, holds of each
-pub by-kind : (P : ℕ → Type 0) → P 0 → P 1 → P 2 → P 3 → P 4 → P 5 → P 6 → P 7 → P 8
-    → ((k : ℕ) → lastKind < k → P k) → (k : ℕ) → P k
+-- what holds of 0, of each kind up to the last word's, and of those above, holds of each
+by-kind : (P : ℕ → Type 0) → P 0 → P numberKind → P nameKind → P (wordKind CONSTANTS) → P (wordKind INTGRL)
+    → P (wordKind TIME) → P (wordKind INSW) → P (wordKind LIMIT) → P (wordKind COMPAR)
+    → ((k : ℕ) → lastWordKind < k → P k) → (k : ℕ) → P k
 by-kind P a b c d e f g h i j zero = a
 by-kind P a b c d e f g h i j (suc zero) = b
 by-kind P a b c d e f g h i j (suc (suc zero)) = c
@@ -48,19 +49,20 @@ by-kind P a b c d e f g h i j (suc (suc (suc (suc (suc (suc (suc (suc zero))))))
 by-kind P a b c d e f g h i j (suc (suc (suc (suc (suc (suc (suc (suc (suc k))))))))) = j _ (omega arith)
 
 -- above them stands the mark
-high : (k a : ℕ) → lastKind < k → symbolOf k a ≡ mark k
-high k a h = rw (lt-ltb lastKind k h)
+high : (k a : ℕ) → lastWordKind < k → symbolOf k a ≡ mark k
+high k a h = rw (lt-ltb lastWordKind k h)
 
 -- a test of a mark is a test of its kind
-pub mark-test : (k a b : ℕ) → lastKind < b → eqb (byteOf (symbolOf k a)) b ≡ eqb k b
+pub mark-test : (k a b : ℕ) → lastWordKind < b → eqb (byteOf (symbolOf k a)) b ≡ eqb k b
 unfolding byteOf
 mark-test k a b lt =
-    by-kind (λ k. eqb (byteOf (symbolOf k a)) b ≡ eqb k b) refl (low 1 (omega arith)) (low 2 (omega arith))
-    (low 3 (omega arith))
-    (low 4 (omega arith)) (low 5 (omega arith)) (low 6 (omega arith)) (low 7 (omega arith)) (low 8 (omega arith))
+    by-kind (λ k. eqb (byteOf (symbolOf k a)) b ≡ eqb k b) refl (low numberKind (omega arith))
+    (low nameKind (omega arith)) (low (wordKind CONSTANTS) (omega arith)) (low (wordKind INTGRL) (omega arith))
+    (low (wordKind TIME) (omega arith)) (low (wordKind INSW) (omega arith)) (low (wordKind LIMIT) (omega arith))
+    (low (wordKind COMPAR) (omega arith))
     (λ k h. rw (high k a h)) k
   where
-    low : (n : ℕ) → n ≤ lastKind → eqb 0 b ≡ eqb n b
+    low : (n : ℕ) → n ≤ lastWordKind → eqb 0 b ≡ eqb n b
     low n h = ne-eqb 0 b (λ z. omega arith) ∙ sym (ne-eqb n b (λ z. omega arith))
 
 -- operators
@@ -72,26 +74,26 @@ pub mul-seen : (k a : ℕ) → mulOp (symbolOf k a) ≡ mulOp (mark k)
 unfolding byteOf
 mul-seen k a = rw (mark-test k a 42 (omega arith), mark-test k a 47 (omega arith))
 
--- what a token's shape tells of its numbers: one that is a whole factor has one draft
-abbrev Noted : ℕ → Shape → Type 0
+-- what a token begins as a factor tells of its numbers: one that is a whole factor has one draft
+abbrev Noted : ℕ → FactorStart → Type 0
 Noted a (Leaf e) = drafted e ≡ draft (leafKind e) (leafArg (leafKind e) a) ∷ []
 Noted a Paren = Unit {0}
 Noted a (Call p) = Unit {0}
 Noted a NoFactor = Unit {0}
 
-noted : (k a : ℕ) → Noted a (shapeOf (symbolOf k a))
-unfolding shapeOf drafted
-noted k a = by-kind (λ k. Noted a (shapeOf (symbolOf k a))) tt refl refl tt tt refl tt tt tt
+noted : (k a : ℕ) → Noted a (factorStart (symbolOf k a))
+unfolding factorStart drafted
+noted k a = by-kind (λ k. Noted a (factorStart (symbolOf k a))) tt refl refl tt tt refl tt tt tt
     (λ k h. rw (high k a h) (go (eqb k 40))) k
   where
     go : (t : Bool) → Noted a (cond t Paren NoFactor)
     go true = tt
     go false = tt
 
--- so it does where the shape is known
-pub leaf-noted : (k a : ℕ) {e : Tree} → shapeOf (symbolOf k a) ≡ Leaf e
+-- so it does where that is known
+pub leaf-noted : (k a : ℕ) {e : Tree} → factorStart (symbolOf k a) ≡ Leaf e
     → drafted e ≡ draft (leafKind e) (leafArg (leafKind e) a) ∷ []
-leaf-noted k a q = subst (λ (h : Shape). Noted a h) q (noted k a)
+leaf-noted k a q = subst (λ (h : FactorStart). Noted a h) q (noted k a)
 
 -- and of one that opens parentheses its kind
 abbrev Faced : ℕ → Face → Type 0
@@ -100,32 +102,33 @@ Faced k Group = k ≡ 40
 Faced k (Function n c) = (k ≡ 0 → ⊥)
 Faced k Nothing = Unit {0}
 
-faced : (k a : ℕ) → Faced k (faceOf (shapeOf (symbolOf k a)))
-unfolding shapeOf
+faced : (k a : ℕ) → Faced k (faceOf (factorStart (symbolOf k a)))
+unfolding factorStart
 faced k a =
-    by-kind (λ k. Faced k (faceOf (shapeOf (symbolOf k a)))) tt (some 0) (some 1) tt tt (some 4) (some 5) (some 6)
-    (some 7)
+    by-kind (λ k. Faced k (faceOf (factorStart (symbolOf k a)))) tt (some numberKind (omega arith))
+    (some nameKind (omega arith)) tt tt (some (wordKind TIME) (omega arith)) (some (wordKind INSW) (omega arith))
+    (some (wordKind LIMIT) (omega arith)) (some (wordKind COMPAR) (omega arith))
     (λ k h. rw (high k a h) (go k (eqb k 40) refl)) k
   where
-    some : (n : ℕ) → suc n ≡ 0 → ⊥
-    some n z = omega arith
+    some : (n : ℕ) → 0 < n → n ≡ 0 → ⊥
+    some n h z = omega arith
 
     go : (k : ℕ) (t : Bool) → eqb k 40 ≡ t → Faced k (faceOf (cond t Paren NoFactor))
     go k true e = eqb-true k 40 e
     go k false e = tt
 
 -- so it does where the face is known
-pub face-noted : (k a : ℕ) {f : Face} → f ≡ faceOf (shapeOf (symbolOf k a)) → Faced k f
+pub face-noted : (k a : ℕ) {f : Face} → f ≡ faceOf (factorStart (symbolOf k a)) → Faced k f
 face-noted k a q = subst (λ (f : Face). Faced k f) (sym q) (faced k a)
 
 -- and every other kind begins none
-pub no-face : (k a : ℕ) → (k ≡ 1 → ⊥) → (k ≡ 2 → ⊥) → (k ≡ wordKind TIME → ⊥) → (k ≡ 40 → ⊥) → (k ≡ wordKind INSW → ⊥)
-    → (k ≡ wordKind LIMIT → ⊥) → (k ≡ wordKind COMPAR → ⊥) → Nothing ≡ faceOf (shapeOf (symbolOf k a))
-unfolding shapeOf
+pub no-face : (k a : ℕ) → (k ≡ numberKind → ⊥) → (k ≡ nameKind → ⊥) → (k ≡ wordKind TIME → ⊥) → (k ≡ 40 → ⊥) → (k ≡ wordKind INSW → ⊥)
+    → (k ≡ wordKind LIMIT → ⊥) → (k ≡ wordKind COMPAR → ⊥) → Nothing ≡ faceOf (factorStart (symbolOf k a))
+unfolding factorStart
 no-face k a =
     by-kind
-    (λ k. (k ≡ 1 → ⊥) → (k ≡ 2 → ⊥) → (k ≡ 5 → ⊥) → (k ≡ 40 → ⊥) → (k ≡ 6 → ⊥) → (k ≡ 7 → ⊥) → (k ≡ 8 → ⊥)
-    → Nothing ≡ faceOf (shapeOf (symbolOf k a)))
+    (λ k. (k ≡ numberKind → ⊥) → (k ≡ nameKind → ⊥) → (k ≡ wordKind TIME → ⊥) → (k ≡ 40 → ⊥) → (k ≡ wordKind INSW → ⊥)
+    → (k ≡ wordKind LIMIT → ⊥) → (k ≡ wordKind COMPAR → ⊥) → Nothing ≡ faceOf (factorStart (symbolOf k a)))
     (λ m₁ m₂ m₅ m₀ m₆ m₇ m₈. refl) (λ m₁ m₂ m₅ m₀ m₆ m₇ m₈. absurd (m₁ refl)) (λ m₁ m₂ m₅ m₀ m₆ m₇ m₈. absurd (m₂ refl))
     (λ m₁ m₂ m₅ m₀ m₆ m₇ m₈. refl) (λ m₁ m₂ m₅ m₀ m₆ m₇ m₈. refl)
     (λ m₁ m₂ m₅ m₀ m₆ m₇ m₈. absurd (m₅ refl)) (λ m₁ m₂ m₅ m₀ m₆ m₇ m₈. absurd (m₆ refl))
@@ -136,8 +139,8 @@ no-face k a =
 abbrev Started : ℕ → ℕ → Start → Type 0
 Started k a Constants = k ≡ wordKind CONSTANTS
 Started k a Integral = k ≡ wordKind INTGRL
-Started k a (Named n) = (k ≡ 2) × (n ≡ a)
-Started k a (Valued x) = (k ≡ 1) × (x ≡ ofBits binary64 a)
+Started k a (Named n) = (k ≡ nameKind) × (n ≡ a)
+Started k a (Valued x) = (k ≡ numberKind) × (x ≡ ofBits binary64 a)
 Started k a Other = Unit {0}
 
 started : (k a : ℕ) → Started k a (startOf (symbolOf k a))
@@ -148,11 +151,11 @@ started k a =
 
 -- a name, a number and INTGRL are known by their kinds
 module _ {A : Type 0} (k a : ℕ) where
-  pub is-name : (x : ℕ → Res A) (y : Unit {0} → Res A) → k ≡ 2 → byName (startOf (symbolOf k a)) x y ≡ x a
+  pub is-name : (x : ℕ → Res A) (y : Unit {0} → Res A) → k ≡ nameKind → byName (startOf (symbolOf k a)) x y ≡ x a
   unfolding startOf
   is-name x y e = rw e
 
-  pub no-name : (x : ℕ → Res A) (y : Unit {0} → Res A) → (k ≡ 2 → ⊥) → byName (startOf (symbolOf k a)) x y ≡ y tt
+  pub no-name : (x : ℕ → Res A) (y : Unit {0} → Res A) → (k ≡ nameKind → ⊥) → byName (startOf (symbolOf k a)) x y ≡ y tt
   no-name x y n = go (startOf (symbolOf k a)) (started k a)
     where
       go : (p : Start) → Started k a p → byName p x y ≡ y tt
@@ -162,12 +165,12 @@ module _ {A : Type 0} (k a : ℕ) where
       go (Valued v) h = refl
       go Other h = refl
 
-  pub is-number : (x : Float → Res A) (y : Unit {0} → Res A) → k ≡ 1
+  pub is-number : (x : Float → Res A) (y : Unit {0} → Res A) → k ≡ numberKind
       → byNumber (startOf (symbolOf k a)) x y ≡ x (ofBits binary64 a)
   unfolding startOf
   is-number x y e = rw e
 
-  pub no-number : (x : Float → Res A) (y : Unit {0} → Res A) → (k ≡ 1 → ⊥)
+  pub no-number : (x : Float → Res A) (y : Unit {0} → Res A) → (k ≡ numberKind → ⊥)
       → byNumber (startOf (symbolOf k a)) x y ≡ y tt
   no-number x y n = go (startOf (symbolOf k a)) (started k a)
     where
@@ -194,7 +197,7 @@ module _ {A : Type 0} (k a : ℕ) where
       go Other h = refl
 
 -- what begins a statement: a name, a word before constants, or nothing
-pub start-name : (k a : ℕ) → k ≡ 2 → startOf (symbolOf k a) ≡ Named a
+pub start-name : (k a : ℕ) → k ≡ nameKind → startOf (symbolOf k a) ≡ Named a
 unfolding startOf
 start-name k a e = rw e
 
@@ -202,7 +205,7 @@ pub start-words : (k a : ℕ) → k ≡ wordKind CONSTANTS → startOf (symbolOf
 unfolding startOf
 start-words k a e = rw e
 
-pub start-none : {A : Type 0} (k a : ℕ) (c : Unit {0} → Res A) (n : ℕ → Res A) (z : Res A) → (k ≡ 2 → ⊥)
+pub start-none : {A : Type 0} (k a : ℕ) (c : Unit {0} → Res A) (n : ℕ → Res A) (z : Res A) → (k ≡ nameKind → ⊥)
     → (k ≡ wordKind CONSTANTS → ⊥)
     → byStart (startOf (symbolOf k a)) c (λ _. z) n (λ _. z) (λ _. z) ≡ z
 start-none k a c n z p q = go (startOf (symbolOf k a)) (started k a)

@@ -15,17 +15,17 @@ use Rattle.drafts.specs.Drafts.{Draft, draft, drafted}
 use Rattle.grammar.specs.Look.{next, rest, byteOf, Op, none, op, addOp, mulOp, signed}
 use Rattle.grammar.specs.Look.{Opening, group, pair, pair-of, triple, triple-of, triple-of-two, Given, full}
 use Rattle.grammar.specs.Look.{wants, give-to}
-use Rattle.grammar.specs.Look.{Shape, Leaf, Paren, Call, NoFactor, shapeOf}
+use Rattle.grammar.specs.Look.{FactorStart, Leaf, Paren, Call, NoFactor, factorStart}
 use Rattle.grammar.specs.Grammar.{Mode, expr, term, factor, terms, factors, opened, list}
 use Rattle.grammar.specs.Grammar.{Der, unsigned, sign, no-terms, add, a-term, no-factors, mul, a-leaf, grouped}
 use Rattle.grammar.specs.Grammar.{called, opening, last, comma}
-use Rattle.grammar.specs.Parser.{give, stop, tell, bind, when, byOp, byShape, byGiven, need, behindSign}
+use Rattle.grammar.specs.Parser.{give, stop, tell, bind, when, byOp, byFactor, byGiven, need, behindSign}
 use Rattle.grammar.specs.Parser.{signDrafts, openDrafts, parse}
 use Rattle.grammar.specs.Meaning.{Calm}
 use Rattle.grammar.proofs.Endings.{clash, Asked, Out, out-mono, out-tell, out-mark, out-give, out-stop, out-rest}
 use Rattle.grammar.proofs.Endings.{out-bind, out-need}
 use Rattle.grammar.proofs.Endings.{for-depth, here-mark, Begins, Fronts, calm-end, extend, behind, fresh}
-use Rattle.grammar.proofs.Looks.{add-here, mul-here, leaf-here, call-here, as-shaped, sign-drafts, so-far}
+use Rattle.grammar.proofs.Looks.{add-here, mul-here, leaf-here, call-here, as-starting, sign-drafts, so-far}
 use Rattle.grammar.proofs.Looks.{new-drafts, as-gave}
 
 -- what is derived with d levels is derived with more
@@ -52,12 +52,12 @@ abbrev pub nought : Float
 nought = fin false 0 (pos 0)
 
 -- it is a factor
-pub zero-factor : {d : ℕ} → Der factor d (number nought ∷ []) (value nought)
-unfolding shapeOf
+zero-factor : {d : ℕ} → Der factor d (number nought ∷ []) (value nought)
+unfolding factorStart
 zero-factor = a-leaf refl
 
 -- a term
-pub zero-term : {d : ℕ} → Der term d (number nought ∷ []) (value nought)
+zero-term : {d : ℕ} → Der term d (number nought ∷ []) (value nought)
 zero-term = a-term zero-factor no-factors
 
 -- an expression
@@ -85,7 +85,7 @@ end-list p {d} {w} {e} a = go (give-to p e) refl
 -- ---- what is asked of a reading in each mode
 
 -- the drafts of what a mode goes on from: of the tree, or of the expressions that the opening has
-abbrev pub base : Mode → List Draft
+abbrev base : Mode → List Draft
 base expr = []
 base term = []
 base factor = []
@@ -153,7 +153,7 @@ grouped-front d c w r =
     go (a ∷ u) h q = let z = h a u refl q in (z .0, z .1, grouped (z .2))
 
 -- a function's name alone: only with one level more, where none is left
-called-front : (p : Opening) (d c : ℕ) (t : Symbol) → shapeOf t ≡ Call p → (w : List Symbol) → Half p d c w
+called-front : (p : Opening) (d c : ℕ) (t : Symbol) → factorStart t ≡ Call p → (w : List Symbol) → Half p d c w
     → Fronts (Der factor) d c (t ∷ w)
 called-front p d c t k w r =
     let a = r .over in
@@ -258,22 +258,22 @@ module _ (f d : ℕ) (ih : (m : Mode) (d : ℕ) (s : List Symbol) → At m s →
     factors-out l s (op o) h = out-rest _ _ s _ (mul-here s o h) (linked-out known-factors (mul-link l h) (rest s))
 
     -- a factor, by what its token begins
-    factor-out : (s : List Symbol) (h : Shape) → shapeOf (next s) ≡ h
+    factor-out : (s : List Symbol) (h : FactorStart) → factorStart (next s) ≡ h
         → Out (Done factor d) (Via factor d) s
-        (byShape h (λ e. tell (drafted e) (give e (rest s))) (λ _. parse f (opened group) d s)
+        (byFactor h (λ e. tell (drafted e) (give e (rest s))) (λ _. parse f (opened group) d s)
         (λ p. when (eqb (byteOf (next (rest s))) 40) (λ _. parse f (opened p) d (rest s)) (λ _. stop 18 (rest s)))
         (λ _. stop 18 s))
     factor-out s (Leaf e) h =
         out-rest _ _ s _ (leaf-here s e h)
         (out-tell _ _ (drafted e) (rest s) _ (out-give _ _ (rest s) e (a-leaf h, append-nil (drafted e))))
     factor-out s Paren h =
-        out-mono _ _ s _ (ih (opened group) d s (as-shaped (next s) h)) (λ o w e r. (grouped (r .0), r .1)) λ c w.
+        out-mono _ _ s _ (ih (opened group) d s (as-starting (next s) h)) (λ o w e r. (grouped (r .0), r .1)) λ c w.
         grouped-front d c w
     factor-out s (Call p) h =
         out-rest _ _ s _ (call-here s p h)
         (out-mark _ _ 39 (rest s) _ _
         (λ m. out-mono _ _ (rest s) _ (ih (opened p) d (rest s) m)
-        (λ o w e r. (called h (r .0), rw (new-drafts (as-shaped (next s) h)) at (r .1))) λ c w. called-front p d c
+        (λ o w e r. (called h (r .0), rw (new-drafts (as-starting (next s) h)) at (r .1))) λ c w. called-front p d c
         (next s) h w)
         (out-stop _ _ (rest s) (called-front p d 18 (next s) h [] (zero-half p d 18))))
     factor-out s NoFactor h = out-stop _ _ s (fresh [] λ D le. (_, _, zero-factor))
@@ -313,7 +313,7 @@ unfolding parse
 sound zero m d s h = out-stop _ _ s (unread m d)
 sound (suc f) expr d s h = expr-out f d (sound f) s (addOp (next s)) refl
 sound (suc f) term d s h = linked-out (known-factors f d (sound f)) term-link s
-sound (suc f) factor d s h = factor-out f d (sound f) s (shapeOf (next s)) refl
+sound (suc f) factor d s h = factor-out f d (sound f) s (factorStart (next s)) refl
 sound (suc f) (terms l) d s h = terms-out f d (sound f) l s (addOp (next s)) refl
 sound (suc f) (factors l) d s h = factors-out f d (sound f) l s (mulOp (next s)) refl
 sound (suc f) (opened p) zero s h = record { ends = ([], refl, zero-half p 0 19, for-depth h) }

@@ -1,24 +1,21 @@
 -- How many values stand at once while a tree's postfix runs: with d levels at most 3 + 4 · d, so the stack's places
--- suffice; and one row fills them.
-use Prim.Native.Nat.{ℕ, zero, suc, _+_, _*_, _≤_, max}
+-- suffice.
+use Prim.Native.Nat.{ℕ, _+_, _*_, _≤_, max}
 use mathlib.Core.Path.{_≡_, refl, subst}
-use mathlib.Core.List.{List, [], _∷_, _++_}
+use mathlib.Core.List.{List}
 use native.Mathlib.Omega.{arith}
 use Rattle.limits.specs.Limits.{levels, stackPlaces}
-use Rattle.tokens.specs.Symbol.{INSW, Symbol, mark, number, name, word}
-use Rattle.drafts.specs.Tree.{Two, plus, minus, times, over, compar, Tree}
-use Rattle.drafts.specs.Tree.{Says}
+use Rattle.tokens.specs.Symbol.{Symbol}
+use Rattle.drafts.specs.Tree.{Two, plus, minus, times, over, compar, Tree, Says}
 use Rattle.drafts.specs.Items.{peak, peakOf}
-use Rattle.grammar.specs.Look.{next, rest, byteOf, op, signed, shapeOf, startOf}
+use Rattle.grammar.specs.Look.{op, signed}
 use Rattle.grammar.specs.Look.{Opening, group, pair, pair-of, triple, triple-of, triple-of-two, Given, full}
 use Rattle.grammar.specs.Look.{wants, give-to}
 use Rattle.grammar.specs.Grammar.{Mode, expr, term, factor, terms, factors, opened, list}
 use Rattle.grammar.specs.Grammar.{Der, unsigned, sign, no-terms, add, a-term, no-factors, mul, a-leaf, grouped}
 use Rattle.grammar.specs.Grammar.{called, opening, last, comma}
 use Rattle.grammar.specs.Grammar.{Derives, of-constants, of-assignment, of-state}
-use Rattle.grammar.specs.Parser.{Read, read, fault, bind, parse, assigned, statement, entire, readRow}
-use Rattle.grammar.proofs.Looks.{Bare, bare-value, bare-name, bare-time, New, new-pair, new-triple, as-shaped}
-use Rattle.grammar.proofs.Sound.{nought}
+use Rattle.grammar.proofs.Looks.{Bare, bare-value, bare-name, bare-time, New, new-pair, new-triple, as-starting}
 
 -- ---- openings
 
@@ -103,9 +100,9 @@ stack (add h a b) p = stack b (let x = stack a tt in omega arith)
 stack (a-term a b) p = stack b (let x = stack a tt in omega arith)
 stack no-factors p = p
 stack (mul h a b) p = stack b (let x = stack a tt in omega arith)
-stack (a-leaf {t = t} h) p = rw (bare-peak (as-shaped t h)) (omega arith)
+stack (a-leaf {t = t} h) p = rw (bare-peak (as-starting t h)) (omega arith)
 stack (grouped a) p = stack a (omega arith)
-stack (called {t = t} h a) p = stack a (rw (new-peak (as-shaped t h)) (omega arith))
+stack (called {t = t} h a) p = stack a (rw (new-peak (as-starting t h)) (omega arith))
 stack (opening a) p = let x = stack a (omega arith) in omega arith
 stack (last {p = q} {e = e} h a) p = let x = stack a tt in let y = as-raised q e h in omega arith
 stack (comma {p = q} {e = e} h a b) p = stack b (let x = stack a tt in let y = as-raised q e h in omega arith)
@@ -119,23 +116,3 @@ stack-of (of-state i a) = stack a tt
 -- the places of the stack suffice
 pub suffices : {w : List Symbol} {x : Says} → Derives levels w x → peakOf x ≤ stackPlaces
 suffices a = let h = stack-of a in omega arith
-
--- ---- and are reached
-
--- 0+0*INSW(0,0, .. ) n times, with 0+0*0 inside
-unfoldable pub nested : ℕ → List Symbol
-nested zero = number nought ∷ mark 43 ∷ number nought ∷ mark 42 ∷ number nought ∷ []
-nested (suc n) =
-    number nought ∷ mark 43 ∷ number nought ∷ mark 42 ∷ word INSW ∷ mark 40 ∷ number nought ∷ mark 44 ∷ number
-    nought ∷ mark 44
-    ∷ (nested n ++ mark 41 ∷ [])
-
--- of what is read, 0 of a fault
-abbrev pub peakRead : Read → ℕ
-peakRead (read x) = peakOf x
-peakRead (fault c i) = 0
-
--- with as many as there are levels it fills the stack
-pub reached : peakRead (readRow (name 1 ∷ mark 61 ∷ nested levels)) ≡ stackPlaces
-unfolding readRow entire statement assigned parse bind byteOf shapeOf startOf give-to next rest nested peak
-reached = refl

@@ -9,19 +9,20 @@ use lib.ListN.{length, getD, set, length-set, drop, length-drop}
 use Rattle.laws.proofs.Tests.{for-suc}
 use Rattle.limits.specs.Limits.{levels}
 use Rattle.tokens.specs.Symbol.{CONSTANTS, INTGRL, Symbol}
-use Rattle.tokens.specs.Kinds.{wordKind}
+use Rattle.tokens.specs.Kinds.{nameKind, wordKind}
 use Rattle.tokens.specs.Held.{heldRow}
 use Rattle.tokens.proofs.Holding.{held-length}
 use Rattle.grammar.specs.declared.expressions.Part.{Part}
 use Rattle.grammar.specs.declared.forms.Value.the-variants.{Found, Missing}
 use Rattle.drafts.specs.Tree.{Tree, Constant, constantOf, Initial, Says, constants, assignment, state}
+use Rattle.drafts.specs.Kinds.{kindConstant, kindInitial, kindNumber, kindStore, kindRate}
 use Rattle.drafts.specs.Drafts.{draft, constantDrafts, initialDraft}
 use Rattle.grammar.specs.Look.{rest}
 use Rattle.grammar.specs.Grammar.{expr}
 use Rattle.grammar.specs.Parser.{Res, give, tell, bind, need, parse, reads}
 use Rattle.grammar.specs.Parser.{signedNumber, onMore, valued, many, initially, assigned, rated, started}
 use Rattle.grammar.specs.Parser.{integrated, equated, statement, calls}
-use Rattle.grammar.specs.Contract.{Ready, Within, passed, stopped, Meets, Parses, ParsesMany, numberAt, initialAt}
+use Rattle.grammar.specs.Contract.{Ready, Within, partDone, stopped, Meets, Parses, ParsesMany, numberAt, initialAt}
 use Rattle.grammar.proofs.Clauses.{to-reads}
 use Rattle.grammar.proofs.Seen.{token-at, stands, is-name, no-name, is-integral, no-integral, start-name}
 use Rattle.grammar.proofs.Seen.{start-words, start-none}
@@ -77,7 +78,7 @@ comma-inside ks j {c} e z = stands ks j λ y. let v : c ≡ 0 = e ∙ y in omega
 
 module _ {ks us : List ℕ} {i p m : ℕ} {l u : List ℕ} (w : Ready ks us i p l u) (em : m ≡ getD ks i 0) where
   -- no name
-  pub const-none : (m ≡ 2 → ⊥) → ParsesMany ks us i p l u (stopped 18 i) l u
+  pub const-none : (m ≡ nameKind → ⊥) → ParsesMany ks us i p l u (stopped 18 i) l u
   unfolding many
   const-none n =
       record {
@@ -87,7 +88,7 @@ module _ {ks us : List ℕ} {i p m : ℕ} {l u : List ℕ} (w : Ready ks us i p 
             (meets-stop (w .even) (w .within) 18);
       }
 
-  module _ (named : m ≡ 2) where
+  module _ (named : m ≡ nameKind) where
     pub name-inside : i < length ks
     name-inside = stands ks i λ z. let y : m ≡ 0 = em ∙ z in omega arith
 
@@ -133,17 +134,17 @@ module _ {ks us : List ℕ} {i p m : ℕ} {l u : List ℕ} (w : Ready ks us i p 
         const-missing h = const-equals λ f le. number-stops const-within _ h
 
         module _ {k a j : ℕ} (h : Found k a j ≡ numberAt ks us (i + 2)) where
-          value : Valued-at (λ x. draft 0 (toBits binary64 x)) signedNumber ks us (i + 2) k a j
+          value : Valued-at (λ x. draft kindNumber (toBits binary64 x)) signedNumber ks us (i + 2) k a j
           value = number-found const-within h
 
           pub const-on : Two-on ks us p j l u
           const-on = let v = value in two-on w j (let y = v .on in omega arith) (v .inside)
 
-          pub const-second : {l₁ u₁ : List ℕ} → l₁ ≡ set l p 1 → u₁ ≡ set u p (getD us i 0)
+          pub const-second : {l₁ u₁ : List ℕ} → l₁ ≡ set l p kindConstant → u₁ ≡ set u p (getD us i 0)
               → (p + 1 < length l₁) × (p + 1 < length u₁)
-          const-second x y = const-on .second 1 (getD us i 0) x y
+          const-second x y = const-on .second kindConstant (getD us i 0) x y
 
-          module _ {c : ℕ} (ec : c ≡ getD ks j 0) {l₁ u₁ l₂ u₂ : List ℕ} (x : l₁ ≡ set l p 1)
+          module _ {c : ℕ} (ec : c ≡ getD ks j 0) {l₁ u₁ l₂ u₂ : List ℕ} (x : l₁ ≡ set l p kindConstant)
               (y : u₁ ≡ set u p (getD us i 0))
               (x′ : l₂ ≡ set l₁ (p + 1) k) (y′ : u₂ ≡ set u₁ (p + 1) a) where
             -- its two drafts
@@ -155,11 +156,11 @@ module _ {ks us : List ℕ} {i p m : ℕ} {l u : List ℕ} (w : Ready ks us i p 
                 let n = getD us i 0 in
                 const-equals λ f le. value-then
                 (λ z t. tell (constantDrafts (constantOf n z)) (onMore (many f) (constantOf n z) t)) v
-                (two-drafts 1 n 0 (toBits binary64 (v .what)) x y (rw (← (v .kind)) x′) (rw (← (v .arg)) y′)
+                (two-drafts kindConstant n kindNumber (toBits binary64 (v .what)) x y (rw (← (v .kind)) x′) (rw (← (v .arg)) y′)
                 (g f (constantOf n (v .what)) le))
 
             -- the last
-            pub const-last : (c ≡ 44 → ⊥) → ParsesMany ks us i p l u (passed j (p + 2)) l₂ u₂
+            pub const-last : (c ≡ 44 → ⊥) → ParsesMany ks us i p l u (partDone j (p + 2)) l₂ u₂
             const-last n =
                 const-valued λ f z le. meets-else (λ s. bind (many f (rest s)) λ cs t. give (z ∷ cs) t) 44 (w .even)
                 (omega arith) (λ q. n (ec ∙ q))
@@ -171,7 +172,7 @@ module _ {ks us : List ℕ} {i p m : ℕ} {l u : List ℕ} (w : Ready ks us i p 
             const-next m q =
                 let d = comma-inside ks j ec q in
                 let b = value .on in
-                (omega arith, const-on .ready 1 (getD us i 0) k a x y x′ y′ d)
+                (omega arith, const-on .ready kindConstant (getD us i 0) k a x y x′ y′ d)
 
             pub const-more : {r : Part} {l₃ u₃ : List ℕ} → c ≡ 44 → ParsesMany ks us (j + 1) (p + 2) l₂ u₂ r l₃ u₃
                 → ParsesMany ks us i p l u r l₃ u₃
@@ -201,7 +202,7 @@ ready-less p w =
 
 -- what follows the expression
 abbrev store-then : ℕ → Tree → List Symbol → Res Says
-store-then key e t = tell (draft 13 key ∷ []) (give (assignment key e) t)
+store-then key e t = tell (draft kindStore key ∷ []) (give (assignment key e) t)
 
 module _ {ks us : List ℕ} {i p : ℕ} {l u : List ℕ} {r : Part} {l₁ u₁ : List ℕ} (key : ℕ) (w : Ready ks us i (p + 1) l u)
     (h : Parses ks us expr levels i p l u r l₁ u₁) where
@@ -217,7 +218,7 @@ module _ {ks us : List ℕ} {i p : ℕ} {l u : List ℕ} {r : Part} {l₁ u₁ :
   pub assign-stopped : (r .code ≡ 0 → ⊥) → Meets ks us (assigned (calls (heldRow ks us)) levels key) i p l u r l₁ u₁
   assign-stopped e = assign-by (stops (store-then key) e h)
 
-  module _ {j q : ℕ} (e : r ≡ passed j q) where
+  module _ {j q : ℕ} (e : r ≡ partDone j q) where
     pub assign-room : (q < length l₁) × (q < length u₁)
     assign-room =
         let a = after assign-ready e h in
@@ -227,19 +228,19 @@ module _ {ks us : List ℕ} {i p : ℕ} {l u : List ℕ} {r : Part} {l₁ u₁ :
     pub assign-under : q < length l
     assign-under = let a = after assign-ready e h in let b = assign-room in omega arith
 
-    pub assign-passed : {l₂ u₂ : List ℕ} → l₂ ≡ set l₁ q 13 → u₂ ≡ set u₁ q key
-        → Meets ks us (assigned (calls (heldRow ks us)) levels key) i p l u (passed j (q + 1)) l₂ u₂
-    assign-passed x y =
+    pub assign-done : {l₂ u₂ : List ℕ} → l₂ ≡ set l₁ q kindStore → u₂ ≡ set u₁ q key
+        → Meets ks us (assigned (calls (heldRow ks us)) levels key) i p l u (partDone j (q + 1)) l₂ u₂
+    assign-done x y =
         let a = after assign-ready e h in
         assign-by
-        (goes-on (store-then key) assign-ready e h λ z. meets-tell 13 key x y
+        (goes-on (store-then key) assign-ready e h λ z. meets-tell kindStore key x y
         (meets-give (w .even) (a .inside) (assignment key z)))
 
 -- ---- a state
 
 -- what follows the expression of the rate
 abbrev rate-then : ℕ → Initial → Tree → List Symbol → Res Says
-rate-then key n e t = need 41 t λ u. tell (draft 14 key ∷ []) (give (state key n e) u)
+rate-then key n e t = need 41 t λ u. tell (draft kindRate key ∷ []) (give (state key n e) u)
 
 module _ {ks us : List ℕ} {i p : ℕ} {l u : List ℕ} {r : Part} {l₁ u₁ : List ℕ} (key : ℕ) (w : Ready ks us i p l u)
     (h : Parses ks us expr levels i p l u r l₁ u₁) where
@@ -252,13 +253,13 @@ module _ {ks us : List ℕ} {i p : ℕ} {l u : List ℕ} {r : Part} {l₁ u₁ :
       → Meets ks us (rated (calls (heldRow ks us)) levels key n) i p l u r l₁ u₁
   rate-stopped e n = rate-by n (stops (rate-then key n) e h)
 
-  module _ {j q k : ℕ} (e : r ≡ passed j q) (ek : k ≡ getD ks j 0) where
+  module _ {j q k : ℕ} (e : r ≡ partDone j q) (ek : k ≡ getD ks j 0) where
     pub rate-shut : (k ≡ 41 → ⊥) → (n : Initial)
         → Meets ks us (rated (calls (heldRow ks us)) levels key n) i p l u (stopped 18 j) l₁ u₁
     rate-shut z n =
         let a = after w e h in
         rate-by n (goes-on (rate-then key n) w e h λ x.
-        meets-shut (λ u. tell (draft 14 key ∷ []) (give (state key n x) u)) 41 (w .even) (a .inside) (omega arith) λ y.
+        meets-shut (λ u. tell (draft kindRate key ∷ []) (give (state key n x) u)) 41 (w .even) (a .inside) (omega arith) λ y.
         z (ek ∙ y))
 
     module _ (z : k ≡ 41) where
@@ -272,14 +273,14 @@ module _ {ks us : List ℕ} {i p : ℕ} {l u : List ℕ} {r : Part} {l₁ u₁ :
       pub rate-under : q < length l
       rate-under = let a = after w e h in let b = rate-room in omega arith
 
-      pub rate-passed : {l₂ u₂ : List ℕ} → l₂ ≡ set l₁ q 14 → u₂ ≡ set u₁ q key
+      pub rate-done : {l₂ u₂ : List ℕ} → l₂ ≡ set l₁ q kindRate → u₂ ≡ set u₁ q key
           → (n : Initial) → Meets ks us (rated (calls (heldRow ks us)) levels key n) i p l u
-          (passed (j + 1) (q + 1)) l₂ u₂
-      rate-passed x y n =
+          (partDone (j + 1) (q + 1)) l₂ u₂
+      rate-done x y n =
           let b = rate-inside in
           rate-by n (goes-on (rate-then key n) w e h λ v.
           meets-need 41 (w .even) (omega arith) (sym ek ∙ z)
-          (meets-tell 14 key x y (meets-give (w .even) (omega arith) (state key n v))))
+          (meets-tell kindRate key x y (meets-give (w .even) (omega arith) (state key n v))))
 
 module _ {ks us : List ℕ} {i p m : ℕ} {l u : List ℕ} (key : ℕ) (w : Ready ks us i p l u) (em : m ≡ getD ks i 0) where
   -- no opening parenthesis
@@ -289,7 +290,7 @@ module _ {ks us : List ℕ} {i p m : ℕ} {l u : List ℕ} (key : ℕ) (w : Read
       meets-shut (started (calls (heldRow ks us)) levels key) 40 (w .even) (w .within) (omega arith) λ z. n (em ∙ z)
 
   module _ (there : m ≡ 40) where
-    pub open-inside : i < length ks
+    open-inside : i < length ks
     open-inside = stands ks i λ z. let y : m ≡ 0 = em ∙ z in omega arith
 
     pub state-within : Within ks us (i + 1)
@@ -313,11 +314,11 @@ module _ {ks us : List ℕ} {i p m : ℕ} {l u : List ℕ} (key : ℕ) (w : Read
       pub state-on : Two-on ks us p j l u
       state-on = let v = start in two-on w j (let y = v .on in omega arith) (v .inside)
 
-      pub state-second : {l₁ u₁ : List ℕ} → l₁ ≡ set l p 2 → u₁ ≡ set u p key
+      pub state-second : {l₁ u₁ : List ℕ} → l₁ ≡ set l p kindInitial → u₁ ≡ set u p key
           → (p + 1 < length l₁) × (p + 1 < length u₁)
-      state-second x y = state-on .second 2 key x y
+      state-second x y = state-on .second kindInitial key x y
 
-      module _ {c : ℕ} (ec : c ≡ getD ks j 0) {l₁ u₁ l₂ u₂ : List ℕ} (x : l₁ ≡ set l p 2) (y : u₁ ≡ set u p key)
+      module _ {c : ℕ} (ec : c ≡ getD ks j 0) {l₁ u₁ l₂ u₂ : List ℕ} (x : l₁ ≡ set l p kindInitial) (y : u₁ ≡ set u p key)
           (x′ : l₂ ≡ set l₁ (p + 1) k)
           (y′ : u₂ ≡ set u₁ (p + 1) a) where
         -- the two drafts of the initial
@@ -330,8 +331,8 @@ module _ {ks us : List ℕ} {i p m : ℕ} {l u : List ℕ} (key : ℕ) (w : Read
             let f = calls (heldRow ks us) in
             let d = initialDraft (v .what) in
             state-open
-            (value-then (λ n t. tell (draft 2 key ∷ initialDraft n ∷ []) (need 44 t (rated f levels key n))) v
-            (two-drafts 2 key (d .kind) (d .arg) x y (rw (← (v .kind)) x′) (rw (← (v .arg)) y′) (g (v .what))))
+            (value-then (λ n t. tell (draft kindInitial key ∷ initialDraft n ∷ []) (need 44 t (rated f levels key n))) v
+            (two-drafts kindInitial key (d .kind) (d .arg) x y (rw (← (v .kind)) x′) (rw (← (v .arg)) y′) (g (v .what))))
 
         -- no comma
         pub state-alone : (c ≡ 44 → ⊥) → Meets ks us (integrated (calls (heldRow ks us)) levels key) i p l u
@@ -342,7 +343,7 @@ module _ {ks us : List ℕ} {i p m : ℕ} {l u : List ℕ} (key : ℕ) (w : Read
 
         -- and the rate
         pub state-next : c ≡ 44 → Ready ks us (j + 1) (p + 2) l₂ u₂
-        state-next z = state-on .ready 2 key k a x y x′ y′ (comma-inside ks j ec z)
+        state-next z = state-on .ready kindInitial key k a x y x′ y′ (comma-inside ks j ec z)
 
         pub state-rated : {r : Part} {l₃ u₃ : List ℕ} → c ≡ 44
             → ((n : Initial) → Meets ks us (rated (calls (heldRow ks us)) levels key n) (j + 1) (p + 2) l₂ u₂ r l₃ u₃)
@@ -353,7 +354,7 @@ module _ {ks us : List ℕ} {i p m : ℕ} {l u : List ℕ} (key : ℕ) (w : Read
 
 module _ {ks us : List ℕ} {p k : ℕ} {l u : List ℕ} (w : Ready ks us 0 p l u) (ek : k ≡ getD ks 0 0) where
   -- neither a name nor a word before constants
-  pub begins-none : (k ≡ 2 → ⊥) → (k ≡ wordKind CONSTANTS → ⊥)
+  pub begins-none : (k ≡ nameKind → ⊥) → (k ≡ wordKind CONSTANTS → ⊥)
       → Meets ks us (statement (calls (heldRow ks us)) levels) 0 p l u (stopped 18 0) l u
   unfolding statement
   begins-none n m =
@@ -383,7 +384,7 @@ module _ {ks us : List ℕ} {p k : ℕ} {l u : List ℕ} (w : Ready ks us 0 p l 
       (rw (token-at ks us 0 (w .even), start-words (getD ks 0 0) (getD us 0 0) (sym ek ∙ h)))
       (meets-rest (meets-map constants (g .meets f (omega arith))))
 
-  module _ (named : k ≡ 2) where
+  module _ (named : k ≡ nameKind) where
     pub first-inside : 0 < length ks
     first-inside = stands ks 0 λ z. let y : k ≡ 0 = ek ∙ z in omega arith
 

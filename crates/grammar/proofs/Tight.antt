@@ -9,7 +9,7 @@ use lib.Dec.{eqb}
 use lib.ListN.{length}
 use Rattle.tokens.specs.Symbol.{INTGRL, INSW, Symbol, mark, name, word}
 use Rattle.drafts.specs.Tree.{Tree, insw, Says, assignment}
-use Rattle.grammar.specs.Look.{next, rest, byteOf, group, triple, give-to, shapeOf, Integral, startOf}
+use Rattle.grammar.specs.Look.{next, rest, byteOf, group, triple, give-to, factorStart, Integral, startOf}
 use Rattle.grammar.specs.Grammar.{expr, term, factor, Der, unsigned, no-terms, a-term, no-factors, grouped}
 use Rattle.grammar.specs.Grammar.{called, opening, last}
 use Rattle.grammar.specs.Grammar.{Derives, of-constants, of-assignment, of-state}
@@ -29,7 +29,7 @@ single {d} {w} {e} a = subst (λ (z : List Symbol). Der expr d z e) (append-nil 
 
 -- each opening takes one level, INSW one more
 inside-begins : (n : ℕ) → Begins (Der expr) (suc n) (inside n [])
-unfolding shapeOf give-to
+unfolding factorStart give-to
 inside-begins zero = let z = zero-list (triple insw) in (mark 40 ∷ z .0, z .1, single (called refl (opening (z .2))))
 inside-begins (suc n) =
     let z = inside-begins n in (
@@ -50,14 +50,14 @@ loose n =
 -- where reading an expression stops, so does reading it in parentheses
 in-parens : (f n c : ℕ) (s r : List Symbol) → parse f expr n s .end ≡ bad c r
     → parse (suc (suc (suc (suc (suc f))))) expr (suc n) (mark 40 ∷ s) .end ≡ bad c r
-unfolding parse next rest byteOf shapeOf
+unfolding parse next rest byteOf factorStart
 in-parens f n c s r h =
     bind-bad (parse (suc (suc (suc (suc f)))) term (suc n) (mark 40 ∷ s)) _
     (bind-bad (parse (suc (suc (suc f))) factor (suc n) (mark 40 ∷ s)) _ (bind-bad (parse f expr n s) _ h))
 
 -- reading stops behind INSW, whatever stands there and however many the calls
 stuck : (n k : ℕ) (r : List Symbol) → (f : ℕ) × (c : ℕ) × (k < f) × (parse f expr n (inside n r) .end ≡ bad c r)
-unfolding parse next rest byteOf shapeOf bind
+unfolding parse next rest byteOf factorStart bind
 stuck zero k r = go (eqb (byteOf (next r)) 40) refl
   where
     go : (b : Bool) → eqb (byteOf (next r)) 40 ≡ b

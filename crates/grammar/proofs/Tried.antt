@@ -10,7 +10,7 @@ use Rattle.limits.specs.Limits.{levels}
 use Rattle.tokens.specs.Symbol.{CONSTANTS, INTGRL, TIME, INSW, COMPAR, Symbol, mark, number, name, word}
 use Rattle.drafts.specs.Tree.{times, insw, value, named, time, negated, two, three, constantOf, from, constants}
 use Rattle.drafts.specs.Tree.{assignment, state}
-use Rattle.grammar.specs.Look.{next, rest, byteOf, give-to, shapeOf, startOf}
+use Rattle.grammar.specs.Look.{next, rest, byteOf, give-to, factorStart, startOf}
 use Rattle.grammar.specs.Parser.{Read, read, fault, bind, parse, many, initially, signedNumber}
 use Rattle.grammar.specs.Parser.{assigned, integrated, statement, entire, readRow}
 
@@ -73,6 +73,6 @@ wanted =
 
 -- each row is answered as wanted
 tried : map readRow rows ≡ wanted
-unfolding readRow entire statement integrated assigned many initially signedNumber parse bind byteOf shapeOf startOf
+unfolding readRow entire statement integrated assigned many initially signedNumber parse bind byteOf factorStart startOf
     give-to next rest rows wanted neg
 tried = refl

@@ -10,12 +10,14 @@ use lib.Dec.{eqb}
 use lib.Ieee.{Float, binary64, toBits, ofBits, neg}
 use lib.ListN.{length, getD, drop, length-drop, length-append}
 use Rattle.tokens.specs.Symbol.{Symbol, mark}
+use Rattle.tokens.specs.Kinds.{numberKind, nameKind}
 use Rattle.tokens.specs.Held.{heldRow}
 use Rattle.tokens.proofs.Holding.{held-length}
 use Rattle.grammar.specs.declared.expressions.Part.{Part}
 use Rattle.grammar.specs.declared.forms.Value.{Value}
 use Rattle.grammar.specs.declared.forms.Value.the-variants.{Found, Missing}
 use Rattle.drafts.specs.Tree.{plus, Initial, plain, from}
+use Rattle.drafts.specs.Kinds.{kindNumber, kindFrom}
 use Rattle.drafts.specs.Drafts.{Draft, draft, initialDraft}
 use Rattle.grammar.specs.Look.{next, rest, byteOf, Op, none, op, addOp, startOf, Start, Constants, Integral}
 use Rattle.grammar.specs.Look.{Named, Valued, Other}
@@ -26,7 +28,7 @@ use Rattle.grammar.specs.Codes.{skipOf}
 use Rattle.grammar.specs.Contract.{Within, parseOutcome, wrote, stopped, partWrote, Meets, valueOf, numberAt}
 use Rattle.grammar.specs.Contract.{initialAt}
 use Rattle.grammar.proofs.Endings.{clash, Asked, Before, Out, OutEnd}
-use Rattle.grammar.proofs.Whole.{signed-out, initially-out}
+use Rattle.grammar.proofs.StatementsSound.{signed-out, initially-out}
 use Rattle.grammar.proofs.Clauses.{rest-at, left-at}
 use Rattle.grammar.proofs.Seen.{token-at, stands, is-name, no-name, is-number, no-number}
 use Rattle.grammar.proofs.Meets.{place-is, bind-wrote}
@@ -50,11 +52,11 @@ module _ {ks us : List ℕ} {i k s m : ℕ} (w : Within ks us i) (ek : k ≡ get
   unfolding signedNumber
   behind = rw (sign-at ks us i k (w .even) ek, es, ← behind-at (heldRow ks us) i (addOp (mark k)))
 
-  pub number-within : i + s ≤ length ks
+  number-within : i + s ≤ length ks
   number-within = skip-within ks i k s (w .within) ek es
 
   -- none: it is missing there
-  pub number-missing : (m ≡ 1 → ⊥) → Missing (i + s) ≡ numberAt ks us i
+  pub number-missing : (m ≡ numberKind → ⊥) → Missing (i + s) ≡ numberAt ks us i
   number-missing n =
       let row = heldRow ks us in
       rw (
@@ -66,11 +68,11 @@ module _ {ks us : List ℕ} {i k s m : ℕ} (w : Within ks us i) (ek : k ≡ get
       (ap Missing (sym (place-is ks us (i + s) (w .even) number-within)))
 
   -- one: its bits
-  pub number-inside : m ≡ 1 → i + s < length ks
+  pub number-inside : m ≡ numberKind → i + s < length ks
   number-inside e = stands ks (i + s) λ z. let y : m ≡ 0 = em ∙ z in omega arith
 
-  found : (b : ℕ) → m ≡ 1 → b ≡ toBits binary64 (signedValue (addOp (mark k)) (ofBits binary64 (getD us (i + s) 0)))
-      → Found 0 b (i + s + 1) ≡ numberAt ks us i
+  found : (b : ℕ) → m ≡ numberKind → b ≡ toBits binary64 (signedValue (addOp (mark k)) (ofBits binary64 (getD us (i + s) 0)))
+      → Found kindNumber b (i + s + 1) ≡ numberAt ks us i
   found b e h =
       let row = heldRow ks us in
       let a = number-inside e in
@@ -84,23 +86,23 @@ module _ {ks us : List ℕ} {i k s m : ℕ} (w : Within ks us i) (ek : k ≡ get
         h,
       )
 
-  pub number-plain : {b : ℕ} {x : Float} → m ≡ 1 → (k ≡ 45 → ⊥) → x ≡ ofBits binary64 (getD us (i + s) 0)
+  pub number-plain : {b : ℕ} {x : Float} → m ≡ numberKind → (k ≡ 45 → ⊥) → x ≡ ofBits binary64 (getD us (i + s) 0)
       → b ≡ toBits binary64 x
-      → Found 0 b (i + s + 1) ≡ numberAt ks us i
+      → Found kindNumber b (i + s + 1) ≡ numberAt ks us i
   number-plain {b} {x} e n ex eb = found b e (eb ∙ ap (toBits binary64) (ex ∙ sym (plain-value k _ n)))
 
-  pub number-minus : {b : ℕ} {x : Float} → m ≡ 1 → k ≡ 45 → x ≡ ofBits binary64 (getD us (i + s) 0)
+  pub number-minus : {b : ℕ} {x : Float} → m ≡ numberKind → k ≡ 45 → x ≡ ofBits binary64 (getD us (i + s) 0)
       → b ≡ toBits binary64 (neg x)
-      → Found 0 b (i + s + 1) ≡ numberAt ks us i
+      → Found kindNumber b (i + s + 1) ≡ numberAt ks us i
   unfolding byteOf
   number-minus {b} {x} e z ex eb = found b e (rw z (eb ∙ ap (λ (y : Float). toBits binary64 (neg y)) ex))
 
 module _ {ks us : List ℕ} {i m : ℕ} (w : Within ks us i) (em : m ≡ getD ks i 0) where
   -- an initial that is a name
-  pub name-inside : m ≡ 2 → i < length ks
+  pub name-inside : m ≡ nameKind → i < length ks
   name-inside e = stands ks i λ z. let y : m ≡ 0 = em ∙ z in omega arith
 
-  pub initial-name : m ≡ 2 → Found 16 (getD us i 0) (i + 1) ≡ initialAt ks us i
+  pub initial-name : m ≡ nameKind → Found kindFrom (getD us i 0) (i + 1) ≡ initialAt ks us i
   unfolding initially
   initial-name e =
       let a = name-inside e in
@@ -113,13 +115,13 @@ module _ {ks us : List ℕ} {i m : ℕ} (w : Within ks us i) (em : m ≡ getD ks
       )
 
   -- or a number
-  pub initial-number : {r : Value} → (m ≡ 2 → ⊥) → r ≡ numberAt ks us i → r ≡ initialAt ks us i
+  pub initial-number : {r : Value} → (m ≡ nameKind → ⊥) → r ≡ numberAt ks us i → r ≡ initialAt ks us i
   unfolding initially bind
   initial-number n h =
       rw (token-at ks us i (w .even), no-name {A = Initial} (getD ks i 0) (getD us i 0) _ _ (λ z. n (em ∙ z)))
       (h ∙ go (signedNumber (drop i (heldRow ks us)) .out) (signedNumber (drop i (heldRow ks us)) .end))
     where
-      go : (o : List Draft) (t : End Float) → valueOf (λ x. draft 0 (toBits binary64 x)) (length ks) t
+      go : (o : List Draft) (t : End Float) → valueOf (λ x. draft kindNumber (toBits binary64 x)) (length ks) t
           ≡ valueOf initialDraft (length ks) (onward o t (λ x t. give (plain x) t) .end)
       go o (got x t) = refl
       go o (bad c t) = refl
@@ -240,10 +242,10 @@ module _ {A : Type 0} (f : A → Draft) (x : List Symbol → Res A) {L : Asked A
 
 module _ {ks us : List ℕ} {i : ℕ} (w : Within ks us i) where
   pub number-found : {k a j : ℕ} → Found k a j ≡ numberAt ks us i
-      → Valued-at (λ x. draft 0 (toBits binary64 x)) signedNumber ks us i k a j
+      → Valued-at (λ x. draft kindNumber (toBits binary64 x)) signedNumber ks us i k a j
   number-found h =
       let s = drop i (heldRow ks us) in
-      valued-at (λ x. draft 0 (toBits binary64 x)) signedNumber (λ o v x r. signed-size (r .0)) w (signed-out 0 s)
+      valued-at (λ x. draft kindNumber (toBits binary64 x)) signedNumber (λ o v x r. signed-size (r .0)) w (signed-out 0 s)
       (quiet-signed s) h
 
   pub initial-found : {k a j : ℕ} → Found k a j ≡ initialAt ks us i → Valued-at initialDraft initially ks us i k a j
@@ -256,7 +258,7 @@ module _ {ks us : List ℕ} {i : ℕ} (w : Within ks us i) where
       → Meets ks us (λ s. bind (signedNumber s) k) i p l u (stopped 18 j) l u
   number-stops k h =
       let s = drop i (heldRow ks us) in
-      missing-at (λ x. draft 0 (toBits binary64 x)) signedNumber (λ o v x r. signed-size (r .0)) w (signed-out 0 s)
+      missing-at (λ x. draft kindNumber (toBits binary64 x)) signedNumber (λ o v x r. signed-size (r .0)) w (signed-out 0 s)
       (quiet-signed s) k h
 
   pub initial-stops : {B : Type 0} {j p : ℕ} {l u : List ℕ} (k : Initial → List Symbol → Res B)

@@ -17,19 +17,20 @@ use Rattle.tokens.proofs.Holding.{held-length}
 use Rattle.grammar.specs.declared.expressions.Part.{Part}
 use Rattle.drafts.specs.Tree.{Two, plus, minus, times, over, compar, Tree, time, two}
 use Rattle.drafts.specs.Kinds.{kindTwo}
+use Rattle.drafts.specs.Kinds.{kindNegate}
 use Rattle.drafts.specs.Drafts.{Draft, draft}
 use Rattle.grammar.specs.Look.{next, rest, byteOf, Op, none, op, addOp, mulOp, isMinus, signed}
 use Rattle.grammar.specs.Grammar.{Mode, expr, term, factor, terms, factors}
 use Rattle.grammar.specs.Parser.{Res, give, tell, bind, byOp, behindSign, signDrafts, reads}
 use Rattle.grammar.specs.Codes.{kindOp, skipOf}
-use Rattle.grammar.specs.Contract.{opDrafts, PutsOp, Ready, passed, Meets, Parses}
+use Rattle.grammar.specs.Contract.{opDrafts, PutsOp, Ready, partDone, Meets, Parses}
 use Rattle.grammar.proofs.Endings.{clash}
 use Rattle.grammar.proofs.Clauses.{rest-at, reads-expr, reads-terms, reads-term, reads-factors}
 use Rattle.grammar.proofs.Room.{reads-fits}
 use Rattle.grammar.proofs.Seen.{token-at, stands, add-seen, mul-seen}
 use Rattle.grammar.proofs.Meets.{went, meets-by, meets-rest, meets-give, meets-op, meets-bad, meets-bind}
 
--- ---- a part that has passed
+-- ---- a part that is done
 
 -- it has gone from i to j and from p to q, with at most one draft for each token, and the buffers keep their lengths
 pub record After (n i p : ℕ) (l u : List ℕ) (j q : ℕ) (l₁ u₁ : List ℕ) : Type 0 where
@@ -40,7 +41,7 @@ pub record After (n i p : ℕ) (l u : List ℕ) (j q : ℕ) (l₁ u₁ : List �
   pub long-args : length u₁ ≡ length u
 
 module _ {ks us : List ℕ} {m : Mode} {d i p j q : ℕ} {l u : List ℕ} {r : Part} {l₁ u₁ : List ℕ} where
-  pub after : Ready ks us i p l u → r ≡ passed j q → Parses ks us m d i p l u r l₁ u₁
+  pub after : Ready ks us i p l u → r ≡ partDone j q → Parses ks us m d i p l u r l₁ u₁
       → After (length ks) i p l u j q l₁ u₁
   after w e h =
       let row = heldRow ks us in
@@ -64,7 +65,7 @@ module _ {B : Type 0} {ks us : List ℕ} {m : Mode} {d i p : ℕ} {l u : List �
   stops e h = meets-bad k e (h .meets)
 
   -- what follows a part goes on from where it ends
-  pub goes-on : {j q : ℕ} {r r₁ : Part} {l₁ u₁ l₂ u₂ : List ℕ} → Ready ks us i p l u → r₁ ≡ passed j q
+  pub goes-on : {j q : ℕ} {r r₁ : Part} {l₁ u₁ l₂ u₂ : List ℕ} → Ready ks us i p l u → r₁ ≡ partDone j q
       → Parses ks us m d i p l u r₁ l₁ u₁
       → ((e : Tree) → Meets ks us (k e) j q l₁ u₁ r l₂ u₂) → Meets ks us (λ s. bind (reads m d s) k) i p l u r l₂ u₂
   goes-on w e h g = meets-bind k (reads-fits m d (drop i (heldRow ks us))) (w .even) (w .within) e (h .meets) λ x _. g x
@@ -96,7 +97,7 @@ sign-pays : (o : Op) → length (signDrafts o) ≤ skipOf o
 sign-pays none = omega arith
 sign-pays (op o) = go (isMinus o)
   where
-    go : (t : Bool) → length (cond t (draft 9 0 ∷ []) []) ≤ 1
+    go : (t : Bool) → length (cond t (draft kindNegate 0 ∷ []) []) ≤ 1
     go true = omega arith
     go false = omega arith
 
@@ -128,7 +129,7 @@ chain-then d chain is f e t = tell is (reads (chain (f e)) d t)
 
 -- a chain of parts, with the look at its operators
 pub record Chain (look : Symbol → Op) (part : Mode) (chain : Tree → Mode) : Type 0 where
-  pub clause : (d : ℕ) (s : List Symbol) (l : Tree) → reads (chain l) d s
+  clause : (d : ℕ) (s : List Symbol) (l : Tree) → reads (chain l) d s
       ≡ byOp (look (next s)) (λ _. give l s) λ o. bind (reads part d (rest s))
       (chain-then d chain (draft (kindTwo o) 0 ∷ []) (two o l))
   pub seen : (k a : ℕ) → look (symbolOf k a) ≡ look (mark k)
@@ -171,7 +172,7 @@ module _ {look : Symbol → Op} {part : Mode} {chain : Tree → Mode}
       ∙ ap (λ (x : ℕ). look (mark x)) (sym ek)
 
   -- no operator: it ends
-  chain-end : {d : ℕ} → o ≡ 0 → (x : Tree) → Parses ks us (chain x) d i p l u (passed i p) l u
+  chain-end : {d : ℕ} → o ≡ 0 → (x : Tree) → Parses ks us (chain x) d i p l u (partDone i p) l u
   chain-end {d} z x =
       let row = heldRow ks us in
       let n = look-at ∙ no-op (look (mark k)) (sym eo ∙ z) in
@@ -299,7 +300,7 @@ module _ {ks us : List ℕ} {m part : Mode} {chain : Tree → Mode} {d i p : ℕ
       → Parses ks us m d i p l u r l₂ u₂
   part-stopped e h = z .onward λ x. stops (chain-then d chain (opDrafts o) (z .joins x)) e h
 
-  module _ {j₁ q₁ : ℕ} {r : Part} {l₂ u₂ : List ℕ} (e : r ≡ passed j₁ q₁)
+  module _ {j₁ q₁ : ℕ} {r : Part} {l₂ u₂ : List ℕ} (e : r ≡ partDone j₁ q₁)
       (h : Parses ks us part d j q l₁ u₁ r l₂ u₂) where
     -- there is room for the operator's draft
     pub op-room : (q₁ + length (opDrafts o) ≤ length l₂) × (q₁ + length (opDrafts o) ≤ length u₂)
@@ -339,7 +340,7 @@ module _ {ks us : List ℕ} {m part : Mode} {chain : Tree → Mode} {d i p : ℕ
       module _ {look : Symbol → Op} (c : Chain look part chain) {k o₁ : ℕ} (ek : k ≡ getD ks j₁ 0)
           (eo : o₁ ≡ kindOp (look (mark k))) where
         -- no operator: the whole ends
-        pub part-last : o₁ ≡ 0 → Parses ks us m d i p l u (passed j₁ q₂) l₃ u₃
+        pub part-last : o₁ ≡ 0 → Parses ks us m d i p l u (partDone j₁ q₂) l₃ u₃
         part-last n = op-whole λ x. chain-end c op-ready ek eo n x
 
         module _ (n : o₁ ≡ 0 → ⊥) where

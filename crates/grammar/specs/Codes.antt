@@ -8,7 +8,7 @@ use Rattle.grammar.specs.declared.faces.Face.the-variants.{One, Group, F
 use Rattle.drafts.specs.Tree.{compar, Tree, value, named, time, negated, two, three}
 use Rattle.drafts.specs.Kinds.{kindPush, kindFetch, kindClock, kindTwo, kindThree}
 use Rattle.grammar.specs.Look.{Op, none, op, Opening, group, pair, pair-of, triple, triple-of, triple-of-two}
-use Rattle.grammar.specs.Look.{Shape, Leaf, Paren, Call, NoFactor}
+use Rattle.grammar.specs.Look.{FactorStart, Leaf, Paren, Call, NoFactor}
 
 -- the kind of an operator's draft, 0 of none
 abbrev pub kindOp : Op → ℕ
@@ -54,7 +54,7 @@ abbrev pub leafArg : ℕ → ℕ → ℕ
 leafArg k a = cond (eqb k kindPush) (toBits binary64 (ofBits binary64 a)) (cond (eqb k kindFetch) a 0)
 
 -- what a token begins as a factor
-abbrev pub faceOf : Shape → Face
+abbrev pub faceOf : FactorStart → Face
 faceOf (Leaf e) = One (leafKind e)
 faceOf Paren = Group
 faceOf (Call p) = Function (wantOf p) (kindOpening p)

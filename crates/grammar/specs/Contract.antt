@@ -83,17 +83,17 @@ pub record Within (ks us : List ℕ) (i : ℕ) : Type 0 where
   pub even : length us ≡ length ks
   pub within : i ≤ length ks
 
--- a part that has passed, with the places of the next token and of the next draft; and one that stops with the code c
+-- a part that is done, with the places of the next token and of the next draft; and one that stops with the code c
 -- at the token's place i
-abbrev pub passed : ℕ → ℕ → Part
-passed i q = record { code = 0; next = i; place = q }
+abbrev pub partDone : ℕ → ℕ → Part
+partDone i q = record { code = 0; next = i; place = q }
 
 abbrev pub stopped : ℕ → ℕ → Part
 stopped c i = record { code = c; next = i; place = 0 }
 
 -- how reading ends, by places among n tokens, with the place q of the next draft
 abbrev pub partOf : {A : Type 0} → ℕ → ℕ → End A → Part
-partOf n q (got e t) = passed (n - length t) q
+partOf n q (got e t) = partDone (n - length t) q
 partOf n q (bad c t) = stopped c (n - length t)
 
 abbrev pub partWrote : {A : Type 0} → ℕ → Res A → ℕ → List ℕ → List ℕ → ParseOutcome Part

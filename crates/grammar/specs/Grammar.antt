@@ -11,7 +11,7 @@ use Rattle.tokens.specs.Symbol.{INTGRL, Symbol, mark, number, name, word}
 use Rattle.drafts.specs.Tree.{Two, Tree, two, Constant, constantOf, Initial, plain, from, Says, constants, assignment}
 use Rattle.drafts.specs.Tree.{state}
 use Rattle.grammar.specs.Look.{op, addOp, mulOp, isMinus, signed, Opening, group, full, wants, give-to}
-use Rattle.grammar.specs.Look.{Leaf, Call, shapeOf, Constants, startOf}
+use Rattle.grammar.specs.Look.{Leaf, Call, factorStart, Constants, startOf}
 
 pub data Mode : Type 0 where
   expr term factor : Mode
@@ -34,9 +34,9 @@ pub data Der : Mode → ℕ → List Symbol → Tree → Type 0 where
       → mulOp t ≡ op o → Der factor d w e → Der (factors (two o l e)) d v x → Der (factors l) d (t ∷ w ++ v) x
   -- Factor: number, name, TIME; an expression in parentheses; a function and as many expressions in parentheses as it
   -- wants
-  a-leaf : {d : ℕ} {t : Symbol} {e : Tree} → shapeOf t ≡ Leaf e → Der factor d (t ∷ []) e
+  a-leaf : {d : ℕ} {t : Symbol} {e : Tree} → factorStart t ≡ Leaf e → Der factor d (t ∷ []) e
   grouped : {d : ℕ} {w : List Symbol} {e : Tree} → Der (opened group) d w e → Der factor d w e
-  called : {d : ℕ} {p : Opening} {t : Symbol} {w : List Symbol} {e : Tree} → shapeOf t ≡ Call p → Der (opened p) d w e
+  called : {d : ℕ} {p : Opening} {t : Symbol} {w : List Symbol} {e : Tree} → factorStart t ≡ Call p → Der (opened p) d w e
       → Der factor d (t ∷ w) e
   -- an opening is one level more; its expressions stand with commas between, and a closing mark behind the last
   opening : {d : ℕ} {p : Opening} {w : List Symbol} {e : Tree} → Der (list p) d w e

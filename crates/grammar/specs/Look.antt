@@ -77,22 +77,22 @@ give-to (triple-of-two o a b) e = full (three o a b e)
 
 -- ---- what a token begins as a factor: all of it; an expression in parentheses; a function; nothing
 
-pub data Shape : Type 0 where
-  Leaf : Tree → Shape
-  Paren : Shape
-  Call : Opening → Shape
-  NoFactor : Shape
+pub data FactorStart : Type 0 where
+  Leaf : Tree → FactorStart
+  Paren : FactorStart
+  Call : Opening → FactorStart
+  NoFactor : FactorStart
 
-unfoldable pub shapeOf : Symbol → Shape
-shapeOf (mark b) = cond (eqb b 40) Paren NoFactor
-shapeOf (number x) = Leaf (value x)
-shapeOf (name k) = Leaf (named k)
-shapeOf (word CONSTANTS) = NoFactor
-shapeOf (word INTGRL) = NoFactor
-shapeOf (word TIME) = Leaf time
-shapeOf (word INSW) = Call (triple insw)
-shapeOf (word LIMIT) = Call (triple limit)
-shapeOf (word COMPAR) = Call pair
+unfoldable pub factorStart : Symbol → FactorStart
+factorStart (mark b) = cond (eqb b 40) Paren NoFactor
+factorStart (number x) = Leaf (value x)
+factorStart (name k) = Leaf (named k)
+factorStart (word CONSTANTS) = NoFactor
+factorStart (word INTGRL) = NoFactor
+factorStart (word TIME) = Leaf time
+factorStart (word INSW) = Call (triple insw)
+factorStart (word LIMIT) = Call (triple limit)
+factorStart (word COMPAR) = Call pair
 
 -- ---- what a token begins as a statement or in one
 

@@ -8,7 +8,7 @@ use lib.ListN.{length, getD, take, replicate}
 use Rattle.limits.specs.Limits.{levels}
 use Rattle.tokens.specs.Symbol.{INSW, Symbol, mark, name, word}
 use Rattle.drafts.specs.Tree.{Says}
-use Rattle.grammar.specs.Look.{Opening, Call, shapeOf}
+use Rattle.grammar.specs.Look.{Opening, Call, factorStart}
 use Rattle.grammar.specs.Grammar.{Derives}
 use Rattle.grammar.specs.Parser.{read, fault, readRow}
 
@@ -21,7 +21,7 @@ pub record Front (d : ℕ) (w : List Symbol) : Type 0 where
 
 -- the last of the tokens w is no function's name
 abbrev pub Calm : List Symbol → Type 0
-Calm w = (v : List Symbol) (t : Symbol) (p : Opening) → w ≡ v ++ t ∷ [] → shapeOf t ≡ Call p → ⊥
+Calm w = (v : List Symbol) (t : Symbol) (p : Opening) → w ≡ v ++ t ∷ [] → factorStart t ≡ Call p → ⊥
 
 -- at place i stands an opening that the grammar allows, with one level more than there are and not with those
 pub record TooDeep (row : List Symbol) (i : ℕ) : Type 0 where

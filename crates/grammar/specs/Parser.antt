@@ -14,7 +14,7 @@ use Rattle.drafts.specs.Drafts.{Draft, draft, drafted, constantDrafts, initialD
 use Rattle.grammar.specs.Look.{next, rest, byteOf, Op, none, op, addOp, mulOp, isMinus, signed, Given, full}
 use Rattle.grammar.specs.Look.{wants, give-to}
 use Rattle.grammar.specs.Look.{Opening, group, pair, pair-of, triple, triple-of, triple-of-two}
-use Rattle.grammar.specs.Look.{Shape, Leaf, Paren, Call, NoFactor, shapeOf, Start, Constants, Integral, Named}
+use Rattle.grammar.specs.Look.{FactorStart, Leaf, Paren, Call, NoFactor, factorStart, Start, Constants, Integral, Named}
 use Rattle.grammar.specs.Look.{Valued, Other, startOf}
 use Rattle.grammar.specs.Grammar.{Mode, expr, term, factor, terms, factors, opened, list}
 
@@ -56,12 +56,12 @@ abbrev pub byOp : {A : Type 0} → Op → (Unit {0} → Res A) → (Two → Res 
 byOp none x y = x tt
 byOp (op o) x y = y o
 
-abbrev pub byShape : {A : Type 0} → Shape → (Tree → Res A) → (Unit {0} → Res A) → (Opening → Res A) → (Unit {0} → Res A)
+abbrev pub byFactor : {A : Type 0} → FactorStart → (Tree → Res A) → (Unit {0} → Res A) → (Opening → Res A) → (Unit {0} → Res A)
     → Res A
-byShape (Leaf e) x p y z = x e
-byShape Paren x p y z = p tt
-byShape (Call o) x p y z = y o
-byShape NoFactor x p y z = z tt
+byFactor (Leaf e) x p y z = x e
+byFactor Paren x p y z = p tt
+byFactor (Call o) x p y z = y o
+byFactor NoFactor x p y z = z tt
 
 abbrev pub byGiven : {A : Type 0} → Given → (Tree → Res A) → (Opening → Res A) → Res A
 byGiven (full x) w z = w x
@@ -103,7 +103,7 @@ step call (factors l) d s =
     byOp (mulOp (next s)) (λ _. give l s) λ o. bind (call factor d (rest s)) λ e t. tell (draft (kindTwo o) 0 ∷ [])
     (call (factors (two o l e)) d t)
 step call factor d s =
-    byShape (shapeOf (next s))
+    byFactor (factorStart (next s))
     (λ e. tell (drafted e) (give e (rest s)))
     (λ _. call (opened group) d s)
     (λ p. when (eqb (byteOf (next (rest s))) 40) (λ _. call (opened p) d (rest s)) (λ _. stop 18 (rest s)))

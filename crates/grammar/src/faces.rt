@@ -3,7 +3,7 @@ ghost use mathlib.Core.Path.{_≡_};
 ghost use Prim.Native.Nat.{ℕ};
 ghost use Rattle.tokens.specs.Symbol.{mark};
 ghost use Rattle.tokens.specs.Held.{symbolOf};
-ghost use Rattle.grammar.specs.Look.{addOp, mulOp, shapeOf};
+ghost use Rattle.grammar.specs.Look.{addOp, mulOp, factorStart};
 ghost use Rattle.grammar.specs.Parser.{signDrafts};
 ghost use Rattle.grammar.specs.Codes.{kindOp, skipOf, closerOf, leafArg, faceOf};
 ghost use Rattle.grammar.specs.Contract.{opDrafts};
@@ -80,7 +80,7 @@ pub enum Face {
 
 // What a token begins as a factor.
 pub(crate) fn face_of(k: u8) -> Face
-    ensures { λ r. ⌜ ((a : ℕ) → r ≡ faceOf (shapeOf (symbolOf k a))) ⌝ }
+    ensures { λ r. ⌜ ((a : ℕ) → r ≡ faceOf (factorStart (symbolOf k a))) ⌝ }
 {
     match k {
         NUMBER => Face::One { kind: PUSH },

@@ -14,7 +14,7 @@ use Rattle.drafts.specs.Tree.{Constant, Initial, plain, from}
 use Rattle.drafts.specs.Tree.{Says, constants, assignment, state}
 use Rattle.grammar.specs.Look.{op, isMinus, signed, Opening, group, pair, pair-of, triple, triple-of, triple-of-two}
 use Rattle.grammar.specs.Look.{Given, full, wants, give-to}
-use Rattle.grammar.specs.Look.{Shape, Leaf, Paren, Call, NoFactor, shapeOf}
+use Rattle.grammar.specs.Look.{FactorStart, Leaf, Paren, Call, NoFactor, factorStart}
 use Rattle.grammar.specs.Grammar.{Mode, expr, term, factor, terms, factors, opened, list}
 use Rattle.grammar.specs.Grammar.{Der, unsigned, sign, no-terms, add, a-term, no-factors, mul, a-leaf, grouped, called}
 use Rattle.grammar.specs.Grammar.{opening, last, comma}
@@ -54,7 +54,7 @@ DoubleGiven (full e) = Doubles e
 DoubleGiven (wants p) = DoubleOpening p
 
 -- of what a token begins
-abbrev DoubleShape : Shape → Type 0
+abbrev DoubleShape : FactorStart → Type 0
 DoubleShape (Leaf e) = Doubles e
 DoubleShape Paren = Unit {0}
 DoubleShape (Call p) = DoubleOpening p
@@ -106,8 +106,8 @@ as-given : (p : Opening) (e : Tree) {g : Given} → give-to p e ≡ g → Double
 as-given p e q h k = subst DoubleGiven q (double-given p e h k)
 
 -- a token by its shape
-double-shape : (t : Symbol) → DoubleToken t → DoubleShape (shapeOf t)
-unfolding shapeOf
+double-shape : (t : Symbol) → DoubleToken t → DoubleShape (factorStart t)
+unfolding factorStart
 double-shape (mark b) h = cond-ind DoubleShape (eqb b 40) Paren NoFactor (λ _. tt) (λ _. tt)
 double-shape (number x) h = h
 double-shape (name k) h = tt
@@ -119,7 +119,7 @@ double-shape (word LIMIT) h = tt
 double-shape (word COMPAR) h = tt
 
 -- so it is where the shape is known
-as-shape : (t : Symbol) {h : Shape} → shapeOf t ≡ h → DoubleToken t → DoubleShape h
+as-shape : (t : Symbol) {h : FactorStart} → factorStart t ≡ h → DoubleToken t → DoubleShape h
 as-shape t q h = subst DoubleShape q (double-shape t h)
 
 -- of tokens that are doubles a tree of doubles

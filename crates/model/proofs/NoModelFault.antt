@@ -15,7 +15,8 @@ use Rattle.laws.proofs.Sums.{numbers-once}
 use Rattle.drafts.specs.Tree.{Tree, names, from, state}
 use Rattle.sheet.specs.Sheet.{Numbered, Fault}
 use Rattle.order.specs.Order.{unsortable}
-use Rattle.order.proofs.FirstOrder.{Sortable, order-is-first}
+use Rattle.order.specs.Order.{Sortable}
+use Rattle.order.proofs.FirstOrder.{order-is-first}
 use Rattle.model.specs.Definitions.{Def, definitions, keys, equationAt, equationCount}
 use Rattle.model.specs.Faults.{faults21, constantKeys, within, nameFault, nameFaultOf, nameFaults, usesIn}
 use Rattle.model.specs.Faults.{fault24, faults24, orElse, modelFaults}

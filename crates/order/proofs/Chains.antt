@@ -1,7 +1,7 @@
 -- Unsortable, as a test by chains and as what the greedy order leaves over.
 use mathlib.Core.Path.{_≡_, refl}
 use mathlib.Core.Bool.{Bool, true, false, _&&_}
-use mathlib.Core.Logic.{_⊎_, ⊎-elim, _↔_}
+use mathlib.Core.Logic.{⊎-elim, _↔_}
 use mathlib.Core.List.{List, [], _∷_}
 use Prim.Native.Nat.{ℕ, zero, suc, _<_}
 use native.Mathlib.Nat.{eq-or-lt-of-le}
@@ -17,14 +17,14 @@ use Rattle.order.specs.Greedy.{order, leftOver}
 use Rattle.order.proofs.Sorting.{left-over-iff}
 
 -- ---- `any`
-pub any-true : (k : ℕ) (f : ℕ → Bool) → any k f ≡ true → (j : ℕ) × (j < k) × (f j ≡ true)
+any-true : (k : ℕ) (f : ℕ → Bool) → any k f ≡ true → (j : ℕ) × (j < k) × (f j ≡ true)
 unfolding any
 any-true zero f e = absurd (not-both e refl)
 any-true (suc k) f e =
     ⊎-elim (λ t. (k, omega arith, t)) (λ t. let r = any-true k f t in (r .0, omega arith, r .2))
     (or-true (f k) (any k f) e)
 
-pub any-intro : (k : ℕ) (f : ℕ → Bool) (j : ℕ) → j < k → f j ≡ true → any k f ≡ true
+any-intro : (k : ℕ) (f : ℕ → Bool) (j : ℕ) → j < k → f j ≡ true → any k f ≡ true
 unfolding any
 any-intro zero f j h e = absurd (omega arith)
 any-intro (suc k) f j h e =
@@ -33,7 +33,7 @@ any-intro (suc k) f j h e =
 
 module _ (n : ℕ) (uses : ℕ → ℕ → Bool) where
   -- the test finds a chain of k behind i exactly if there is one
-  pub chained-chain : (k i : ℕ) → chained n uses k i ≡ true → (l : List ℕ) × (length l ≡ k) × Chain n uses i l
+  chained-chain : (k i : ℕ) → chained n uses k i ≡ true → (l : List ℕ) × (length l ≡ k) × Chain n uses i l
   unfolding chained
   chained-chain zero i e = ([], refl, ltb-true i n e)
   chained-chain (suc k) i e =
@@ -47,7 +47,7 @@ module _ (n : ℕ) (uses : ℕ → ℕ → Bool) where
   chain-member j [] c = c
   chain-member j (k ∷ l) c = c .0
 
-  pub chain-chained : (i : ℕ) (l : List ℕ) → Chain n uses i l → chained n uses (length l) i ≡ true
+  chain-chained : (i : ℕ) (l : List ℕ) → Chain n uses i l → chained n uses (length l) i ≡ true
   unfolding chained
   chain-chained i [] c = lt-ltb i n c
   chain-chained i (j ∷ l) c =

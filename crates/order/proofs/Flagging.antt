@@ -12,30 +12,30 @@ use Rattle.limits.specs.Limits.{mostStatements}
 use Rattle.laws.proofs.Tests.{lt-or-ge, eq-or-ne, and-true, and-both, not-both}
 use Rattle.laws.proofs.Members.{in-has}
 use Rattle.order.specs.Table.{usedOf, usesIn, Fit}
-use Rattle.order.specs.Marks.{marked, openAt, freeIn, readyIn, none, flag, Cursors, Flags, Settles, zeros}
+use Rattle.order.specs.Marks.{placedIn, openAt, freeIn, readyIn, none, flag, Cursors, Flags, Settles, zeros}
 use Rattle.order.specs.Greedy.{first}
 use Rattle.order.proofs.Searches.{first-from}
 use Rattle.order.proofs.Tables.{in-part}
 use Rattle.order.proofs.Sorting.{all-true, all-intro, first-hit}
-use Rattle.order.proofs.Marking.{ready-marked, ready-unmarked, free-not, goal-used, goal-open, goal-end}
+use Rattle.order.proofs.Marking.{ready-placed, ready-unplaced, free-not, goal-used, goal-open, goal-end}
 use Rattle.order.proofs.Marking.{goal-moves, cursors-none}
 
 -- ---- one more mark
 module _ (n : ℕ) (s u m : List ℕ) (j : ℕ) (lm : j < length m) where
-  -- who was marked is
-  marked-more : (x : ℕ) → marked m x ≡ true → marked (set m j 1) x ≡ true
-  marked-more x h =
+  -- who was placed is
+  placed-more : (x : ℕ) → placedIn m x ≡ true → placedIn (set m j 1) x ≡ true
+  placed-more x h =
       ⊎-elim (λ (e : x ≡ j). rw (e, getD-set-same m j 1 0 lm)) (λ e. rw (getD-set-other m j x 1 0 e) h) (eq-or-ne x j)
 
   -- who was ready is, but for j
-  pub ready-more : (i : ℕ) → (i ≡ j → ⊥) → readyIn n s u m i ≡ true → readyIn n s u (set m j 1) i ≡ true
+  ready-more : (i : ℕ) → (i ≡ j → ⊥) → readyIn n s u m i ≡ true → readyIn n s u (set m j 1) i ≡ true
   unfolding readyIn
   ready-more i e h =
-      let b = and-true (not (marked m i)) (freeIn n s u m i) h in
-      and-both (not (marked (set m j 1) i)) (freeIn n s u (set m j 1) i) (rw (getD-set-other m j i 1 0 e) (b .0))
-      (all-intro n (λ x. not (usesIn s u i x) || marked (set m j 1) x)
-      (λ x l. more (usesIn s u i x) (marked m x) (marked-more x)
-      (all-true n (λ y. not (usesIn s u i y) || marked m y) (b .1) x l)))
+      let b = and-true (not (placedIn m i)) (freeIn n s u m i) h in
+      and-both (not (placedIn (set m j 1) i)) (freeIn n s u (set m j 1) i) (rw (getD-set-other m j i 1 0 e) (b .0))
+      (all-intro n (λ x. not (usesIn s u i x) || placedIn (set m j 1) x)
+      (λ x l. more (usesIn s u i x) (placedIn m x) (placed-more x)
+      (all-true n (λ y. not (usesIn s u i y) || placedIn m y) (b .1) x l)))
     where
       more : (a b : Bool) {c : Bool} → (b ≡ true → c ≡ true) → (not a || b) ≡ true → (not a || c) ≡ true
       more true b f z = f z
@@ -49,14 +49,14 @@ module _ {n : ℕ} {s u m f v : List ℕ} (t : Fit n s u) where
       ⊎-elim (λ (a : 0 < getD f i 0). lt-ltb 0 (getD f i 0) a ∙ sym (g .flagged i hi a .0))
       (λ a. le-ltb 0 (getD f i 0) a
       ∙ sym
-      (⊎-elim (λ (b : 0 < getD m i 0). ready-marked n s u m i (λ z. omega arith))
+      (⊎-elim (λ (b : 0 < getD m i 0). ready-placed n s u m i (λ z. omega arith))
       (λ b. held (omega arith) (omega arith))
       (lt-or-ge 0 (getD m i 0)))) (lt-or-ge 0 (getD f i 0))
     where
       held : getD m i 0 ≡ 0 → getD f i 0 ≡ 0 → readyIn n s u m i ≡ false
       held a b =
           let w = g .blocked i hi a b in
-          ready-unmarked n s u m i a
+          ready-unplaced n s u m i a
           ∙ free-not n s u m i (getD v i 0) (w .1) (w .0) (omega (arith, w .2 (free i hi (w .0))))
 
   -- then p is none
@@ -69,7 +69,7 @@ module _ {n : ℕ} {s u m f v : List ℕ} (t : Fit n s u) where
         blocked = λ i hi a b. let w = g .blocked i hi a b in (w .0, w .1, λ _. w .2 (free i hi));
       }
 
-  -- who waits for p is neither marked nor flagged
+  -- who waits for p is neither placed nor flagged
   pub waits-open : {p x : ℕ} → Flags n n s u m f v p → p < n → x < n → getD v x 0 ≡ p
       → (getD m x 0 ≡ 0) × (getD f x 0 ≡ 0)
   waits-open {p} {x} g hp hx w = (
@@ -79,7 +79,7 @@ module _ {n : ℕ} {s u m f v : List ℕ} (t : Fit n s u) where
         (lt-or-ge 0 (getD f x 0)),
   )
 
-  -- ---- j, which is flagged, is marked
+  -- ---- j, which is flagged, is placed
   pub flags-mark : Flags n n s u m f v none → (j : ℕ) → j < n → 0 < getD f j 0 → j < length m
       → Flags n n s u (set m j 1) (set f j 0) v j
   flags-mark g j hj a lm =
@@ -149,7 +149,7 @@ module _ {n : ℕ} {s u m f v : List ℕ} (t : Fit n s u) where
               (λ e. rw (other i e) (g .blocked i (up i hi e) b d)) (eq-or-ne i x);
         }
 
--- ---- what `settle` works out of statement i, which is not marked: the place k that its cursor moves to
+-- ---- what `settle` works out of statement i, which is not placed: the place k that its cursor moves to
 module _ {n : ℕ} {s u m c : List ℕ} (t : Fit n s u) (g : Cursors n s u m c) (i : ℕ) (hi : i < n) (z : getD m i 0 ≡ 0)
     (a b d k : ℕ) (ea : a ≡ getD s i 0) (eb : b ≡ getD s (i + 1) 0) (ed : d ≡ getD c i 0)
     (ek : k ≡ first (openAt u m) (b - (a + d)) (a + d)) where
@@ -158,7 +158,7 @@ module _ {n : ℕ} {s u m c : List ℕ} (t : Fit n s u) (g : Cursors n s u m c) 
   settled-ready le =
       record {
         moved = g;
-        flag-is = sym (ready-unmarked n s u m i z ∙ goal-end n s u m c t g i hi (rw (ek, ea, eb, ed) at le));
+        flag-is = sym (ready-unplaced n s u m i z ∙ goal-end n s u m c t g i hi (rw (ek, ea, eb, ed) at le));
         kept = λ _. (refl, refl, refl);
         hung = λ e. absurd (not-both refl e);
       }
@@ -177,11 +177,11 @@ module _ {n : ℕ} {s u m c : List ℕ} (t : Fit n s u) (g : Cursors n s u m c) 
         let hit : openAt u m k ≡ true =
         rw (← ek) at (first-hit (openAt u m) (b - (a + d)) (a + d) (omega (arith, ek))) in
         let free : getD m (getD u k 0) 0 ≤ 0 =
-        ltb-false 0 (getD m (getD u k 0) 0) (not-true (marked m (getD u k 0)) hit) in
+        ltb-false 0 (getD m (getD u k 0) 0) (not-true (placedIn m (getD u k 0)) hit) in
         let uses : usesIn s u i (getD u k 0) ≡ true = rw (ek, ea, eb, ed) (goal-used n s u m c t g i hi o) in
         record {
           moved = rw (ek, ea, eb, ed) (goal-moves n s u m c t g i hi);
-          flag-is = sym (ready-unmarked n s u m i z ∙ goal-open n s u m c t g i hi o);
+          flag-is = sym (ready-unplaced n s u m i z ∙ goal-open n s u m c t g i hi o);
           kept = λ f. absurd (not-both f refl);
           hung = λ _. (j, rw ej wait-below, rw ej uses, rw ej (omega (arith, free)), e .0, e .1, e .2);
         }
@@ -190,19 +190,19 @@ module _ {n : ℕ} {s u m c : List ℕ} (t : Fit n s u) (g : Cursors n s u m c) 
 module _ {n : ℕ} {s u m c : List ℕ} (t : Fit n s u) (g : Cursors n s u m c) (i : ℕ) (hi : i < n)
     (z : getD m i 0 ≡ 0) {h l v : List ℕ} where
   -- there is none
-  pub first-ready : getD s (i + 1) 0 ≤ getD s i 0 → Settles n s u m i true c h l v h l v
+  first-ready : getD s (i + 1) 0 ≤ getD s i 0 → Settles n s u m i true c h l v h l v
   first-ready le =
       let a = getD s i 0 + getD c i 0 in
       let e = first-from (openAt u m) (getD s (i + 1) 0 - a) a in
       record {
         moved = g;
-        flag-is = sym (ready-unmarked n s u m i z ∙ goal-end n s u m c t g i hi (omega arith));
+        flag-is = sym (ready-unplaced n s u m i z ∙ goal-end n s u m c t g i hi (omega arith));
         kept = λ _. (refl, refl, refl);
         hung = λ f. absurd (not-both refl f);
       }
 
-  -- or the statement there is not marked
-  pub first-wait : getD s i 0 < getD s (i + 1) 0 → {h′ l′ v′ : List ℕ} (j : ℕ) → j ≡ getD u (getD s i 0) 0
+  -- or the statement there is not placed
+  first-wait : getD s i 0 < getD s (i + 1) 0 → {h′ l′ v′ : List ℕ} (j : ℕ) → j ≡ getD u (getD s i 0) 0
       → getD m j 0 ≡ 0
       → (h′ ≡ set h j i) × (l′ ≡ set l i (getD h j 0)) × (v′ ≡ set v i j) → Settles n s u m i false c h l v h′ l′ v′
   first-wait lt j ej mj e =
@@ -213,12 +213,12 @@ module _ {n : ℕ} {s u m c : List ℕ} (t : Fit n s u) (g : Cursors n s u m c) 
       let hj : j < n = rw ej (t .below a (omega arith)) in
       record {
         moved = g;
-        flag-is = sym (ready-unmarked n s u m i z ∙ free-not n s u m i j uses hj (omega arith));
+        flag-is = sym (ready-unplaced n s u m i z ∙ free-not n s u m i j uses hj (omega arith));
         kept = λ f. absurd (not-both f refl);
         hung = λ _. (j, hj, uses, mj, e .0, e .1, e .2);
       }
 
--- while none is marked; its uses go from a to b
+-- while none is placed; its uses go from a to b
 module _ {n : ℕ} {s u : List ℕ} (t : Fit n s u) (i : ℕ) (hi : i < n) {a b : ℕ} (ea : a ≡ getD s i 0)
     (eb : b ≡ getD s (i + 1) 0) where
   clear-at : (j : ℕ) → j < n → getD zeros j 0 ≡ 0

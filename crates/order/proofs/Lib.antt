@@ -10,5 +10,5 @@ pub mod Flagging
 pub mod Seeking
 pub mod Settling
 pub mod Placing
-pub mod Answers
+pub mod AnswerByFit
 pub mod Agreement

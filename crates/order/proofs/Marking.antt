@@ -15,7 +15,7 @@ use Rattle.laws.proofs.Counts.{has-true}
 use Rattle.laws.proofs.Members.{in-has}
 use Rattle.order.specs.Greedy.{first, ready}
 use Rattle.order.specs.Table.{usedOf, usesIn, Fit}
-use Rattle.order.specs.Marks.{marked, openAt, freeIn, readyIn, Cursors}
+use Rattle.order.specs.Marks.{placedIn, openAt, freeIn, readyIn, Cursors}
 use Rattle.order.proofs.Sorting.{all-true, all-intro, all-same, first-hit, first-before}
 use Rattle.order.proofs.Searches.{first-from}
 use Rattle.order.proofs.Tables.{in-part, part-place}
@@ -26,41 +26,41 @@ implied true b f = f refl
 implied false b f = refl
 
 -- any mark but 0 is one
-pub marked-yes : (m : List ℕ) (j : ℕ) → (getD m j 0 ≡ 0 → ⊥) → marked m j ≡ true
-marked-yes m j h =
+placed-yes : (m : List ℕ) (j : ℕ) → (getD m j 0 ≡ 0 → ⊥) → placedIn m j ≡ true
+placed-yes m j h =
     lt-ltb 0 (getD m j 0)
     (⊎-elim (λ e. absurd (h e)) (λ (e : getD m j 0 ≡ 0 → ⊥). omega arith) (eq-or-ne (getD m j 0) 0))
 
 -- 0 is none
-pub marked-no : (m : List ℕ) (j : ℕ) → getD m j 0 ≡ 0 → marked m j ≡ false
-marked-no m j e = le-ltb 0 (getD m j 0) (omega arith)
+placed-no : (m : List ℕ) (j : ℕ) → getD m j 0 ≡ 0 → placedIn m j ≡ false
+placed-no m j e = le-ltb 0 (getD m j 0) (omega arith)
 
 -- ---- the statement j, which is used at place p
 module _ (u m : List ℕ) (p j : ℕ) (e : j ≡ getD u p 0) where
-  -- it is not marked
+  -- it is not placed
   pub open-yes : getD m j 0 ≡ 0 → openAt u m p ≡ true
-  open-yes h = ap not (marked-no m (getD u p 0) (rw e at h))
+  open-yes h = ap not (placed-no m (getD u p 0) (rw e at h))
 
   -- it is
   pub open-no : (getD m j 0 ≡ 0 → ⊥) → openAt u m p ≡ false
-  open-no h = ap not (marked-yes m (getD u p 0) (rw e at h))
+  open-no h = ap not (placed-yes m (getD u p 0) (rw e at h))
 
 module _ (n : ℕ) (s u m : List ℕ) (i : ℕ) where
-  -- a marked statement is not ready
-  pub ready-marked : (getD m i 0 ≡ 0 → ⊥) → readyIn n s u m i ≡ false
+  -- a placed statement is not ready
+  pub ready-placed : (getD m i 0 ≡ 0 → ⊥) → readyIn n s u m i ≡ false
   unfolding readyIn
-  ready-marked h = rw (marked-yes m i h)
+  ready-placed h = rw (placed-yes m i h)
 
-  -- any other is, if all that it uses is marked
-  pub ready-unmarked : getD m i 0 ≡ 0 → readyIn n s u m i ≡ freeIn n s u m i
+  -- any other is, if all that it uses is placed
+  pub ready-unplaced : getD m i 0 ≡ 0 → readyIn n s u m i ≡ freeIn n s u m i
   unfolding readyIn
-  ready-unmarked e = rw (marked-no m i e)
+  ready-unplaced e = rw (placed-no m i e)
 
   -- not so, if one that it uses is not
   pub free-not : (x : ℕ) → usesIn s u i x ≡ true → x < n → getD m x 0 ≤ 0 → freeIn n s u m i ≡ false
   free-not x v l e =
       let no : freeIn n s u m i ≡ true → ⊥ = λ a.
-      let r = all-true n (λ j. not (usesIn s u i j) || marked m j) a x l in
+      let r = all-true n (λ j. not (usesIn s u i j) || placedIn m j) a x l in
       not-both (rw v at r) (le-ltb 0 (getD m x 0) e) in
       ⊎-elim (λ a. absurd (no a)) (λ a. a) (bool-cases (freeIn n s u m i))
 
@@ -72,7 +72,7 @@ module _ (n : ℕ) (s u m : List ℕ) (i : ℕ) where
       let uses = usesIn s u i in
       rw (
         e i h,
-        all-same (λ j. not (uses j) || marked m j) (λ j. not (uses j) || has j placed) n n (omega arith)
+        all-same (λ j. not (uses j) || placedIn m j) (λ j. not (uses j) || has j placed) n n (omega arith)
             (λ j l. rw (e j l)),
       )
 
@@ -90,7 +90,7 @@ module _ (n : ℕ) (s u m c : List ℕ) (t : Fit n s u) (g : Cursors n s u m c) 
   abbrev goal : ℕ
   goal = first (openAt u m) (stop - start) start
 
-  -- each place of its uses before it has a marked statement
+  -- each place of its uses before it has a placed statement
   before-goal : (p : ℕ) → getD s i 0 ≤ p → p < goal → openAt u m p ≡ false
   before-goal p lo hi =
       let e : getD s i 0 + (p - getD s i 0) ≡ p = omega arith in
@@ -104,24 +104,24 @@ module _ (n : ℕ) (s u m c : List ℕ) (t : Fit n s u) (g : Cursors n s u m c) 
       let lo = first-from (openAt u m) (stop - start) start in
       in-has (getD u goal 0) (usedOf s u i) (in-part (getD s i 0) stop u (t .ends i h) goal (omega arith) l)
 
-  -- and that is not marked
+  -- and that is not placed
   pub goal-open : goal < stop → freeIn n s u m i ≡ false
   goal-open l =
       let x = getD u goal 0 in
       let e = t .ends i h in
       let w = first-hit (openAt u m) (stop - start) start (omega arith) in
       free-not n s u m i x (goal-used l) (t .below goal (omega arith))
-      (ltb-false 0 (getD m x 0) (not-true (marked m x) w))
+      (ltb-false 0 (getD m x 0) (not-true (placedIn m x) w))
 
-  -- at the end all are marked
+  -- at the end all are placed
   pub goal-end : stop ≤ goal → freeIn n s u m i ≡ true
   goal-end l =
       all-intro n _
       (λ j k.
-      implied (usesIn s u i j) (marked m j)
+      implied (usesIn s u i j) (placedIn m j)
       (λ v.
       let r = part-place (getD s i 0) stop u (t .ends i h) j (has-true j (usedOf s u i) v) in
-      rw (r .3) at (not-false (marked m (getD u (r .0) 0)) (before-goal (r .0) (r .1) (omega (arith, r .2))))))
+      rw (r .3) at (not-false (placedIn m (getD u (r .0) 0)) (before-goal (r .0) (r .1) (omega (arith, r .2))))))
 
   -- the cursor may move there
   pub goal-moves : Cursors n s u m (set c i (goal - getD s i 0))

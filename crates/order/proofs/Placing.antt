@@ -25,7 +25,7 @@ use Rattle.order.proofs.Searches.{first-skip, first-bound}
 use Rattle.order.proofs.Marking.{ready-same, cursors-mark}
 use Rattle.order.proofs.Flagging.{flags-tell, flags-mark}
 
--- k statements are placed: they stand at the front of `out` and are marked, and with those that are still to be placed
+-- k statements are placed: they stand at the front of `out` and have their marks, and with those that are still to be placed
 -- they make the order; none before `from` is flagged
 pub record Going (n : ℕ) (s u lent out marks flags cursors heads links waits : List ℕ) (from k : ℕ) : Type 0 where
   pub fit : Fit n s u
@@ -117,7 +117,7 @@ module _ {n : ℕ} {s u lent out marks flags cursors heads links waits : List �
   pub going-stop : k < n → (i : ℕ) → i ≡ found → i ≡ n → Filled n s u lent out k
   going-stop h i e z = done (sym (g .left) ∙ going-on h ∙ rw (le-ltb chosen n (omega (arith, going-next))))
 
-  -- i is found: it is marked, and those that wait for it are woken
+  -- i is found: it is placed, and those that wait for it are woken
   pub going-woken : (i : ℕ) → i ≡ found → i < n
       → Woken n s u (set marks i 1) (set flags i 0) cursors heads links waits i i
   going-woken i e l =

@@ -21,7 +21,7 @@ use Rattle.order.proofs.Flagging.{flags-none, flags-ready, flags-wait, 
 -- ---- all at first: those before k are settled
 pub record Beginning (n k : ℕ) (s u m f c h l v : List ℕ) : Type 0 where
   pub state : State n k s u m f c h l v none none
-  pub unmarked : (i : ℕ) → i < n → getD m i 0 ≡ 0
+  pub unplaced : (i : ℕ) → i < n → getD m i 0 ≡ 0
   pub unflagged : (i : ℕ) → k ≤ i → i < n → getD f i 0 ≡ 0
   pub idle : (i : ℕ) → k ≤ i → i < n → getD v i 0 ≡ none
 
@@ -29,7 +29,7 @@ pub begin-first : {n : ℕ} {s u m f c h l v : List ℕ} → Blank n s u m f c h
 begin-first b =
     record {
       state = b .state;
-      unmarked = b .unmarked;
+      unplaced = b .unplaced;
       unflagged = λ i _ hi. b .unflagged i hi;
       idle = λ i _ hi. b .idle i hi;
     }
@@ -49,9 +49,9 @@ module _ {n k : ℕ} {s u m f c h l v c′ h′ l′ v′ : List ℕ} (t : Fit n
               lists = st .lists;
               known =
                   flags-ready t (λ i _. refl) hk (st .known) (g .idle k (omega arith) hk) (sym (w .flag-is))
-                  (g .unmarked k hk) (λ i a b. omega arith);
+                  (g .unplaced k hk) (λ i a b. omega arith);
             });
-        unmarked = g .unmarked;
+        unplaced = g .unplaced;
         unflagged = λ i a b. getD-set-other f k i 1 0 (λ q. omega arith) ∙ g .unflagged i (omega arith) b;
         idle = λ i a b. rw (e .2) (g .idle i (omega arith) b);
       }
@@ -73,9 +73,9 @@ module _ {n k : ℕ} {s u m f c h l v c′ h′ l′ v′ : List ℕ} (t : Fit n
               known =
                   flags-wait t (λ i a. getD-set-other v k i j 0 a) hk (st .known) j (getD-set-same v k j 0 lv) (e .1)
                   (e .2) (e .3)
-                  (g .unmarked k hk) (g .unflagged k (omega arith) hk) (λ i a b. omega arith);
+                  (g .unplaced k hk) (g .unflagged k (omega arith) hk) (λ i a b. omega arith);
             });
-        unmarked = g .unmarked;
+        unplaced = g .unplaced;
         unflagged = λ i a b. g .unflagged i (omega arith) b;
         idle = λ i a b. rw (e .6) (getD-set-other v k i j 0 (λ q. omega arith) ∙ g .idle i (omega arith) b);
       }
@@ -124,7 +124,7 @@ module _ {n : ℕ} {s u m f c h l v : List ℕ} {j low x early : ℕ} (g : Wakin
     pub waking-one : (x < n) × (getD v x 0 ≡ j)
     waking-one = first-waits (g .fit .few) (g .state .lists) (g .one) hx
 
-    -- it is not marked, nor flagged
+    -- it is not placed, nor flagged
     pub waking-open : (getD m x 0 ≡ 0) × (getD f x 0 ≡ 0)
     waking-open = waits-open (g .fit) (g .state .known) (g .one) (waking-one .0) (waking-one .1)
 
@@ -245,7 +245,7 @@ blank n s u few =
                   blocked = λ i hi _ _. absurd (not-suc-le-zero hi);
                 };
           };
-      unmarked = λ i hi. at 0 i hi;
+      unplaced = λ i hi. at 0 i hi;
       unflagged = λ i hi. at 0 i hi;
       idle = λ i hi. at none i hi;
     }

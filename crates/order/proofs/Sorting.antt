@@ -1,8 +1,8 @@
 -- What the greedy order is.
 use mathlib.Core.Path.{_≡_, refl, sym, ap, _∙_}
 use mathlib.Core.Bool.{Bool, true, false, not, _&&_, _||_}
-use mathlib.Core.Logic.{_⊎_, inl, ⊎-elim, _↔_}
-use mathlib.Core.List.{List, [], _∷_, _++_, append-assoc, append-nil, map}
+use mathlib.Core.Logic.{inl, ⊎-elim, _↔_}
+use mathlib.Core.List.{List, [], _∷_, _++_, append-assoc, append-nil}
 use Prim.Native.Nat.{ℕ, zero, suc, _+_, _-_, _≤_, _<_}
 use native.Mathlib.Nat.{eq-or-lt-of-le}
 use native.Mathlib.Omega.{arith}
@@ -16,7 +16,7 @@ use Rattle.laws.proofs.Counts.{count-append, once-other, count-cons-same, count
 use Rattle.laws.proofs.Counts.{has-false, place-of}
 use Rattle.order.specs.Order.{Permutation, _≼_, EachAfter, Good, Chain, Unsortable}
 use Rattle.order.specs.Greedy.{all, first, ready, next, place, order, LeftOver}
-use Rattle.order.proofs.Dictionary.{≼-prefix, ≼-append, ≼-map}
+use Rattle.order.proofs.Dictionary.{≼-prefix, ≼-append}
 
 -- ---- `all` and `first`
 pub all-true : (k : ℕ) (f : ℕ → Bool) → all k f ≡ true → (j : ℕ) → j < k → f j ≡ true
@@ -26,7 +26,7 @@ all-true (suc k) f e j h =
     let p = and-true (f k) (all k f) e in
     ⊎-elim (λ q. rw q (p .0)) (λ l. all-true k f (p .1) j l) (eq-or-lt-of-le (omega arith))
 
-pub all-false : (k : ℕ) (f : ℕ → Bool) → all k f ≡ false → (j : ℕ) × (j < k) × (f j ≡ false)
+all-false : (k : ℕ) (f : ℕ → Bool) → all k f ≡ false → (j : ℕ) × (j < k) × (f j ≡ false)
 unfolding all
 all-false zero f e = absurd (not-both refl e)
 all-false (suc k) f e =
@@ -51,7 +51,7 @@ first-before f (suc k) i j l =
     cond-ind (λ r. j < r → f j ≡ false) (f i) i (first f k (suc i)) (λ t h. absurd (omega arith))
     (λ t h. ⊎-elim (λ q. rw (← q) t) (λ m. first-before f k (suc i) j m h) (eq-or-lt-of-le l))
 
-pub first-least : (f : ℕ → Bool) (k i j : ℕ) → i ≤ j → f j ≡ true → first f k i ≤ j
+first-least : (f : ℕ → Bool) (k i j : ℕ) → i ≤ j → f j ≡ true → first f k i ≤ j
 first-least f k i j l t =
     ⊎-elim (λ h. absurd (not-both t (first-before f k i j l h))) (λ h. h) (lt-or-ge j (first f k i))
 
@@ -214,11 +214,11 @@ module _ (n : ℕ) (uses : ℕ → ℕ → Bool) where
       (omega (arith, free-snoc n (next n uses l) l g (ready-free l _ (next-ready l g)))) i hi)
       (λ t. next-none l (ltb-false _ _ t) i hi)
 
-  pub order-distinct : (i : ℕ) → (count i (order n uses) ≤ 1) × (n ≤ i → count i (order n uses) ≡ 0)
+  order-distinct : (i : ℕ) → (count i (order n uses) ≤ 1) × (n ≤ i → count i (order n uses) ≡ 0)
   unfolding order Distinct
   order-distinct = place-keeps Distinct distinct-step n [] distinct-nil
 
-  pub order-after : EachAfter n uses (order n uses)
+  order-after : EachAfter n uses (order n uses)
   unfolding order
   order-after = place-keeps (EachAfter n uses) after-step n [] after-nil
 
@@ -226,7 +226,7 @@ module _ (n : ℕ) (uses : ℕ → ℕ → Bool) where
   unfolding order Full
   order-full = place-keeps Full full-step n [] (omega (arith, free-nil n))
 
-  pub order-stuck : (i : ℕ) → i < n → ready n uses (order n uses) i ≡ false
+  order-stuck : (i : ℕ) → i < n → ready n uses (order n uses) i ≡ false
   unfolding order
   order-stuck = stuck n [] (omega (arith, free-nil n))
 
@@ -358,12 +358,6 @@ module _ (n : ℕ) (uses : ℕ → ℕ → Bool) where
   pub order-first : (q : List ℕ) → Good n uses q → order n uses ≼ q
   unfolding order
   order-first q g = least n [] q g
-
-  -- and so are its first lines, or other numbers that rise with the statements
-  pub order-first-lines : (line : ℕ → ℕ) → ((a b : ℕ) → b < n → a < b → line a < line b) → (q : List ℕ) → Good n uses q
-      → map line (order n uses) ≼ map line q
-  order-first-lines line up q g =
-      ≼-map line (order n uses) q (λ a b h l. up a b (perm-below q (g .perm) b h) l) (order-first q g)
 
   -- nothing is left over exactly if n are placed
   pub length-order-iff : length (order n uses) ≡ n ↔ ((i : ℕ) → LeftOver n uses i → ⊥)

@@ -1,7 +1,7 @@
 -- the paper
 pub mod Order
-pub mod Greedy
 -- as code holds it
+pub mod Greedy
 pub mod Table
 pub mod Marks
 pub mod Contract

@@ -11,23 +11,23 @@ use Rattle.laws.specs.Counts.{once, count, _∈_}
 use Rattle.order.specs.Greedy.{all}
 use Rattle.order.specs.Table.{usesIn, Fit}
 
--- j is marked
-abbrev pub marked : List ℕ → ℕ → Bool
-marked marks j = ltb 0 (getD marks j 0)
+-- j is placed: it has its mark
+abbrev pub placedIn : List ℕ → ℕ → Bool
+placedIn marks j = ltb 0 (getD marks j 0)
 
--- the statement used at place p is not marked
+-- the statement used at place p is not placed
 abbrev pub openAt : List ℕ → List ℕ → ℕ → Bool
-openAt used marks p = not (marked marks (getD used p 0))
+openAt used marks p = not (placedIn marks (getD used p 0))
 
--- all that i uses is marked
+-- all that i uses is placed
 abbrev pub freeIn : ℕ → List ℕ → List ℕ → List ℕ → ℕ → Bool
-freeIn n starts used marks i = all n (λ j. not (usesIn starts used i j) || marked marks j)
+freeIn n starts used marks i = all n (λ j. not (usesIn starts used i j) || placedIn marks j)
 
--- i is not marked, and all that it uses is
+-- i is not placed, and all that it uses is
 unfoldable pub readyIn : ℕ → List ℕ → List ℕ → List ℕ → ℕ → Bool
-readyIn n starts used marks i = not (marked marks i) && freeIn n starts used marks i
+readyIn n starts used marks i = not (placedIn marks i) && freeIn n starts used marks i
 
--- of what i uses the first are marked, as many as its cursor says
+-- of what i uses the first are placed, as many as its cursor says
 pub record Cursors (n : ℕ) (starts used marks cursors : List ℕ) : Type 0 where
   pub size : length cursors ≡ mostStatements
   pub pass : (i d : ℕ) → i < n → d < getD cursors i 0 → openAt used marks (getD starts i 0 + d) ≡ false
@@ -66,8 +66,8 @@ unfoldable pub someFlag : List ℕ → Bool
 someFlag [] = false
 someFlag (a ∷ l) = ltb 0 a || someFlag l
 
--- of the statements before k: who is flagged is ready, and waits for none; nor does one that is marked; any other waits
--- for one that it uses and that is not marked, unless that is p
+-- of the statements before k: who is flagged is ready, and waits for none; nor does one that is placed; any other waits
+-- for one that it uses and that is not placed, unless that is p
 pub record Flags (n k : ℕ) (starts used marks flags waits : List ℕ) (p : ℕ) : Type 0 where
   pub flags-size : length flags ≡ mostStatements
   pub flagged : (i : ℕ) → i < k → 0 < getD flags i 0 → (readyIn n starts used marks i ≡ true) × (getD waits i 0 ≡ none)
@@ -82,7 +82,7 @@ pub record State (n k : ℕ) (starts used marks flags cursors heads links waits 
   pub lists : Queues n heads links waits p x
   pub known : Flags n k starts used marks flags waits p
 
--- what `settle` gives: whether i is ready; if not, i waits for one that it uses and that is not marked, at the front of
+-- what `settle` gives: whether i is ready; if not, i waits for one that it uses and that is not placed, at the front of
 -- its list
 pub record Settles (n : ℕ) (starts used marks : List ℕ) (i : ℕ) (r : Bool)
     (cursors heads links waits heads′ links′ waits′ : List ℕ) : Type 0 where
@@ -96,14 +96,14 @@ pub record Settles (n : ℕ) (starts used marks : List ℕ) (i : ℕ) (r : Bool)
 abbrev pub zeros : List ℕ
 zeros = replicate mostStatements 0
 
--- at first no statement is marked, flagged or waits
+-- at first no statement is placed, flagged or waits
 pub record Blank (n : ℕ) (starts used marks flags cursors heads links waits : List ℕ) : Type 0 where
   pub state : State n 0 starts used marks flags cursors heads links waits none none
-  pub unmarked : (i : ℕ) → i < n → getD marks i 0 ≡ 0
+  pub unplaced : (i : ℕ) → i < n → getD marks i 0 ≡ 0
   pub unflagged : (i : ℕ) → i < n → getD flags i 0 ≡ 0
   pub idle : (i : ℕ) → i < n → getD waits i 0 ≡ none
 
--- j is marked, and those that wait for it still do
+-- j is placed, and those that wait for it still do
 pub record Woken (n : ℕ) (starts used marks flags cursors heads links waits : List ℕ) (j low : ℕ) : Type 0 where
   pub fit : Fit n starts used
   pub one : j < n

@@ -57,5 +57,10 @@ module _ (n : ℕ) (uses : ℕ → ℕ → Bool) where
   chained zero i = ltb i n
   chained (suc k) i = ltb i n && any n (λ j. uses i j && chained k j)
 
+  -- as a test: a chain of n behind i
   abbrev pub unsortable : ℕ → Bool
   unsortable i = chained n i
+
+  -- no statement is unsortable
+  abbrev pub Sortable : Type 0
+  Sortable = (i : ℕ) → i < n → unsortable i ≡ false

@@ -72,7 +72,7 @@ fn fit(n: usize, starts: &[u16], used: &[u16], room: usize) -> bool
     false
 }
 
-// The first place from a place on and before an end whose statement is not marked; the end where there is none.
+// The first place from a place on and before an end whose statement is not placed; the end where there is none.
 fn advance(from: usize, end: usize, used: &[u16], marks: &[u8; STATEMENTS]) -> usize
     requires { ⌜ (end ≤ length (now used)) × ((k : ℕ) → k < end → getD (now used) k 0 < mostStatements) ⌝ }
     ensures { λ r. ⌜ r ≡ first (openAt (now (used .entry)) (now (marks .entry))) (end - from) from ⌝ }
@@ -106,7 +106,7 @@ fn attach(
     waits[i] = j as u16;
 }
 
-// Whether statement i, which is not marked, uses only marked ones. If not, its cursor moves to the first that is not,
+// Whether statement i, which is not placed, uses only placed ones. If not, its cursor moves to the first that is not,
 // and it waits for that.
 fn settle(
     i: usize,
@@ -137,7 +137,7 @@ fn settle(
     false
 }
 
-// The same while none is marked: i uses none, or waits for the first that it uses.
+// The same while none is placed: i uses none, or waits for the first that it uses.
 fn settle_first(
     i: usize,
     n: usize,
@@ -160,7 +160,7 @@ fn settle_first(
     false
 }
 
-// Settles each statement while none is marked.
+// Settles each statement while none is placed.
 fn settle_all(
     n: usize,
     starts: &[u16],

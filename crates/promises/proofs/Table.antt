@@ -19,7 +19,7 @@ use Rattle.tokens.specs.Symbol.{lookUp, symbolNamed}
 use Rattle.tokens.specs.Row.{rowFrom, rowOf}
 use Rattle.drafts.specs.Tree.{names}
 use Rattle.drafts.specs.Items.{postfix}
-use Rattle.grammar.specs.Look.{next, rest, byteOf, give-to, shapeOf, startOf}
+use Rattle.grammar.specs.Look.{next, rest, byteOf, give-to, factorStart, startOf}
 use Rattle.grammar.specs.Parser.{bind, parse, signedNumber, many, initially, assigned, integrated, statement, entire}
 use Rattle.grammar.specs.Parser.{readRow}
 use Rattle.sheet.specs.Reader.{told, sheetOf}
@@ -40,7 +40,7 @@ unfolding trials listing listed figuresIn verdictOf judged linesOf trimmed dotte
     concat-map sameBytes numbers run count lowWord decimal digitsFrom exponentFrom tenTo scaled tokenOf numberAt nameAt
     tokenAt cutAt
     lookUp symbolNamed rowFrom rowOf
-    names postfix next rest byteOf give-to shapeOf startOf bind parse signedNumber many initially assigned integrated
+    names postfix next rest byteOf give-to factorStart startOf bind parse signedNumber many initially assigned integrated
     statement entire readRow
     any chained all first ready nextReady place order placeIn again faults21 within modelFaults valueIn program ofBits
     ofInt mul div neg round
@@ -60,7 +60,7 @@ unfolding highest verdictOf judged linesOf trimmed dotted passed after ended lef
     sameBytes numbers run count lowWord decimal digitsFrom exponentFrom tenTo scaled tokenOf numberAt nameAt tokenAt
     cutAt
     lookUp symbolNamed rowFrom rowOf names
-    postfix next rest byteOf give-to shapeOf startOf bind parse signedNumber many initially assigned integrated
+    postfix next rest byteOf give-to factorStart startOf bind parse signedNumber many initially assigned integrated
     statement entire readRow any chained
     all first ready nextReady place order placeIn again faults21 within modelFaults valueIn program ofBits ofInt mul div
     neg round units size climb

@@ -9,7 +9,7 @@ use lib.ListN.{length, getD}
 use lib.Ieee.{binary64, fits}
 use lib.Ieee.Bits.{ofBits-toBits}
 use Rattle.tokens.specs.Symbol.{Symbol, mark, number, name, word}
-use Rattle.tokens.specs.Kinds.{lastKind}
+use Rattle.tokens.specs.Kinds.{lastWordKind}
 use Rattle.tokens.specs.Held.{kindOf, argOf, symbolOf, heldRow}
 use Rattle.tokens.proofs.Words.{symbol-word}
 
@@ -32,7 +32,7 @@ held-at (k ∷ ks) (a ∷ us) (suc i) h = held-at ks us i (omega arith)
 
 -- a token that two numbers can hold: a number that binary64 has, a mark whose byte is above the other kinds
 abbrev pub Holds : Symbol → Type 0
-Holds (mark b) = lastKind < b
+Holds (mark b) = lastWordKind < b
 Holds (number x) = T (fits binary64 x)
 Holds (name k) = Unit {0}
 Holds (word w) = Unit {0}
@@ -43,7 +43,7 @@ AllHold (t ∷ ts) = Holds t × AllHold ts
 
 -- it comes back
 symbol-back : (t : Symbol) → Holds t → symbolOf (kindOf t) (argOf t) ≡ t
-symbol-back (mark b) h = rw (lt-ltb lastKind b h)
+symbol-back (mark b) h = rw (lt-ltb lastWordKind b h)
 symbol-back (number x) h = ap number (ofBits-toBits binary64 x h)
 symbol-back (name k) h = refl
 symbol-back (word w) h = symbol-word w 0

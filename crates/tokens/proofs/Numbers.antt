@@ -79,7 +79,7 @@ module _ (m up down k : ℕ) (x : Float) (h : m ≤ mostDigits) (apart : k ≡ (
   number-down l = let e : k ≡ down - up = omega arith in rw (good, lt-leb down up l, power, e)
 
 -- the cap is not seen: below it stands m itself, and what is held down is out of range
-pub cap-unseen : (m up down : ℕ) → numberOf (min cap m) up down ≡ numberOf m up down
+cap-unseen : (m up down : ℕ) → numberOf (min cap m) up down ≡ numberOf m up down
 cap-unseen m up down = ⊎-elim over (λ g. ap (λ (x : ℕ). numberOf x up down) (same g)) (lt-or-ge mostDigits m)
   where
     same : m ≤ mostDigits → min cap m ≡ m
@@ -145,7 +145,7 @@ digit-small : (x : ℕ) → isDigit x ≡ true → x - 48 ≤ 9
 digit-small x t = omega (arith, leb-true x 57 (and-true (leb 48 x) (leb x 57) t .1))
 
 -- n digits behind a number are below the next number with n zeros
-pub decimal-small : (a : ℕ) (xs : List ℕ) → run isDigit xs ≡ xs → decimal a xs < (a + 1) * 10 ^ length xs
+decimal-small : (a : ℕ) (xs : List ℕ) → run isDigit xs ≡ xs → decimal a xs < (a + 1) * 10 ^ length xs
 unfolding decimal
 decimal-small a [] e = rw mul-one (omega arith)
 decimal-small a (x ∷ xs) e =
@@ -155,7 +155,7 @@ decimal-small a (x ∷ xs) e =
     (lt-of-lt-of-le (decimal-small (a * 10 + (x - 48)) xs (t .1)) (mul-le-mul-right (10 ^ length xs) h))
 
 -- so an exponent of few digits is not held down
-pub exponent-small : (s : List ℕ) (i : ℕ) → length (digitsAt s i) ≤ exponentDigits
+exponent-small : (s : List ℕ) (i : ℕ) → length (digitsAt s i) ≤ exponentDigits
     → decimal 0 (digitsAt s i) < 10 ^ exponentDigits
 exponent-small s i h =
     lt-of-lt-of-le

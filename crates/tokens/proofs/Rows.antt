@@ -75,7 +75,7 @@ ahead-short s lo End at next r x f = zero-le
 ahead-short s lo (Bad code) at next r x f = zero-le
 
 -- each token takes a byte or more
-pub from-short : (f : ℕ) (s : List ℕ) (i : ℕ) → length (rowFrom f s i .tokens) ≤ length s - i
+from-short : (f : ℕ) (s : List ℕ) (i : ℕ) → length (rowFrom f s i .tokens) ≤ length s - i
 unfolding rowFrom
 from-short zero s i = zero-le
 from-short (suc f) s i =
@@ -122,7 +122,7 @@ from-fine (suc f) s i q m =
     (λ p n. from-fine f s (c .next) p n) q m
 
 -- every token of a row is fine: so every number of it fits an f64
-pub row-fine : (s : List ℕ) (q : Placed) → List·Memᴰ q (rowOf s .tokens) → Fine (q .symbol)
+row-fine : (s : List ℕ) (q : Placed) → List·Memᴰ q (rowOf s .tokens) → Fine (q .symbol)
 unfolding rowOf
 row-fine s q m = from-fine (suc (length s)) s 0 q m
 

@@ -75,7 +75,7 @@ cross-mul P Q a b E D p q =
     ∙ simp (mul-assoc, mul-left-comm)
 
 -- a product of whole numbers that are held exactly is rounded once
-pub mul-round : (f : Format) (x y : Float) (a b : ℕ) → HasValue x false a 1 → HasValue y false b 1
+mul-round : (f : Format) (x y : Float) (a b : ℕ) → HasValue x false a 1 → HasValue y false b 1
     → mul f x y ≡ round f false (a * b) 1
 unfolding mul
 mul-round f nan y a b h k = absurd h
@@ -95,7 +95,7 @@ cross-div P Q a b E D p q =
     ap (λ (x : ℕ). x * D * b) (sym (mul-one P) ∙ p) ∙ r ∙ ap (λ (x : ℕ). a * (x * E)) (sym (sym (mul-one Q) ∙ q))
 
 -- a quotient of them is rounded once
-pub div-round : (f : Format) (x y : Float) (a b : ℕ) → 0 < b → HasValue x false a 1 → HasValue y false b 1
+div-round : (f : Format) (x y : Float) (a b : ℕ) → 0 < b → HasValue x false a 1 → HasValue y false b 1
     → div f x y ≡ round f false a b
 unfolding div
 div-round f nan y a b B h k = absurd h
@@ -111,12 +111,12 @@ div-round f (fin false m e) (fin false n d) a b B h k =
     (cross-div (m * up e) (n * up d) a b (down e) (down d) (h .1) (k .1)))
 
 -- for k of 0 or more: m times 10 ^ k, rounded once
-pub product : (m k : ℕ) → m ≤ mostDigits → k ≤ mostTens
+product : (m k : ℕ) → m ≤ mostDigits → k ≤ mostTens
     → mul binary64 (ofInt binary64 (pos m)) (tenTo k) ≡ round binary64 false (m * 10 ^ k) 1
 product m k h l = mul-round binary64 (ofInt binary64 (pos m)) (tenTo k) m (10 ^ k) (whole-exact m h) (ten-exact k l)
 
 -- otherwise: m over 10 ^ -k, rounded once
-pub quotient : (m k : ℕ) → m ≤ mostDigits → k ≤ mostTens
+quotient : (m k : ℕ) → m ≤ mostDigits → k ≤ mostTens
     → div binary64 (ofInt binary64 (pos m)) (tenTo k) ≡ round binary64 false m (10 ^ k)
 quotient m k h l =
     div-round binary64 (ofInt binary64 (pos m)) (tenTo k) m (10 ^ k) (one-le-pow k 10 (lit< tt)) (whole-exact m h)

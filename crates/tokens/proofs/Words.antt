@@ -87,7 +87,7 @@ module _ (n : List ℕ) where
   kind-named = sym (lookup-map kindOf word (name (keyOf n)) reserved n)
 
   -- a name's argument is its key
-  pub arg-name : kindOf (symbolNamed n) ≡ nameKind → argOf (symbolNamed n) ≡ keyOf n
+  arg-name : kindOf (symbolNamed n) ≡ nameKind → argOf (symbolNamed n) ≡ keyOf n
   arg-name =
       symbol-ind (λ (t : Symbol). kindOf t ≡ nameKind → argOf t ≡ keyOf n) (λ w e. absurd (no-name w e)) (λ _. refl)
 

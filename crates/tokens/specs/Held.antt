@@ -6,7 +6,7 @@ use lib.Dec.{ltb}
 use lib.ListN.{getD}
 use lib.Ieee.{binary64, toBits, ofBits}
 use Rattle.tokens.specs.Symbol.{reserved, lookUp, Symbol, mark, number, name, word}
-use Rattle.tokens.specs.Kinds.{numberKind, nameKind, roles, wordKind, lastKind}
+use Rattle.tokens.specs.Kinds.{numberKind, nameKind, roles, wordKind, lastWordKind}
 
 -- a mark's kind is its byte
 abbrev pub kindOf : Symbol → ℕ
@@ -37,7 +37,7 @@ abbrev pub lowSymbols : ℕ → List Symbol
 lowSymbols a = mark 0 ∷ number (ofBits binary64 a) ∷ name a ∷ map word roles
 
 abbrev pub symbolOf : ℕ → ℕ → Symbol
-symbolOf k a = cond (ltb lastKind k) (mark k) (getD (lowSymbols a) k (mark 0))
+symbolOf k a = cond (ltb lastWordKind k) (mark k) (getD (lowSymbols a) k (mark 0))
 
 -- the row that kinds and arguments hold
 unfoldable pub heldRow : List ℕ → List ℕ → List Symbol

@@ -24,6 +24,6 @@ wordKind INSW = 6
 wordKind LIMIT = 7
 wordKind COMPAR = 8
 
--- the last role's
-abbrev pub lastKind : ℕ
-lastKind = nameKind + length roles
+-- that of the last role
+abbrev pub lastWordKind : ℕ
+lastWordKind = nameKind + length roles

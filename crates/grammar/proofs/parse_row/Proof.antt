@@ -2,7 +2,7 @@
 use mathlib.Core.Path.{sym, _∙_}
 use native.Mathlib.Omega.{arith}
 use borrow.Author.Needs.{needs}
-use Rattle.grammar.proofs.Meets.{is-passed}
+use Rattle.grammar.proofs.Meets.{is-done}
 use Rattle.grammar.proofs.Entry.{uneven, no-kinds, no-args, entry-ready, entry-byte, entry-stopped, entry-done}
 use Rattle.grammar.proofs.Entry.{entry-more}
 use Rattle.grammar.proofs.parse_row.Statement.{statement}
@@ -95,7 +95,7 @@ returns-5 c =
     (start .args .out-args .now)
     (at-if1 .if1 .left) (sym (at-if2 .if2 .left) ∙ at-lacks .lacks .ensures)
     (sym (at-if3 .if3 .left) ∙ at-lacks2 .lacks2 .ensures)
-    (at-any-statement .any-statement .ensures) (is-passed (at-if4 .if4 .left)) (c .if5 .taken)
+    (at-any-statement .any-statement .ensures) (is-done (at-if4 .if4 .left)) (c .if5 .taken)
 
 returns-6 : tie.Need-returns-6
 returns-6 c =
@@ -111,7 +111,7 @@ returns-6 c =
     (start .args .out-args .now)
     (at-if1 .if1 .left) (sym (at-if2 .if2 .left) ∙ at-lacks .lacks .ensures)
     (sym (at-if3 .if3 .left) ∙ at-lacks2 .lacks2 .ensures)
-    (at-any-statement .any-statement .ensures) (is-passed (at-if4 .if4 .left)) (c .if5 .left)
+    (at-any-statement .any-statement .ensures) (is-done (at-if4 .if4 .left)) (c .if5 .left)
 
 pub parse-row-spec : {M : Type 1} → statement M
 parse-row-spec =

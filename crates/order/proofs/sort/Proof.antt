@@ -3,7 +3,7 @@ use mathlib.Core.Path.{sym, _∙_}
 use borrow.Author.Needs.{needs}
 use lib.ListN.{length}
 use Rattle.order.proofs.Tables.{fits-iff}
-use Rattle.order.proofs.Answers.{sorts-placed, sorts-unfit}
+use Rattle.order.proofs.AnswerByFit.{sorts-placed, sorts-unfit}
 use Rattle.order.proofs.sort.Statement.{statement}
 use Rattle.order.proofs.sort.Tie as tie
 

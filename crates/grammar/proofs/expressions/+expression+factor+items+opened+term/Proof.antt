@@ -7,7 +7,7 @@ use borrow.Author.Needs.{needs}
 use borrow.Fn.Kinds.{In, Out}
 use borrow.Fn.PlainCycle.{Measures, is, falls, and}
 use lib.ListN.{length}
-use Rattle.grammar.proofs.Meets.{is-passed}
+use Rattle.grammar.proofs.Meets.{is-done}
 use Rattle.grammar.proofs.Ways.{terms-chain, factors-chain, GoingTerms, GoingFactors, term-first, expr-first}
 use Rattle.grammar.proofs.Ways.{sign-within}
 use Rattle.grammar.proofs.Ways.{part-enter, part-stopped, op-room, part-last, part-inside, part-less, part-again}
@@ -143,7 +143,7 @@ expression-put-op-requires t c κs =
     let at-if1 = c .before .before in
     let at-term = at-if1 .before .before .before .before .before .before in
     let at-loop = at-term .before .before .before in
-    op-room (at-loop .loop .inv) (is-passed (at-if1 .if1 .left)) (at-term .term .ensures)
+    op-room (at-loop .loop .inv) (is-done (at-if1 .if1 .left)) (at-term .term .ensures)
 
 expression-returns-2 : In-expression expression-lts.Need-returns-2
 expression-returns-2 t c =
@@ -153,7 +153,7 @@ expression-returns-2 t c =
     let at-if1 = at-put-op .before .before .before in
     let at-term = at-if1 .before .before .before .before .before .before in
     let at-loop = at-term .before .before .before in
-    part-last (at-loop .loop .inv) (is-passed (at-if1 .if1 .left)) (at-term .term .ensures)
+    part-last (at-loop .loop .inv) (is-done (at-if1 .if1 .left)) (at-term .term .ensures)
     (at-put-op .put-op .ensures) terms-chain
     (at-byte-at .byte-at2 .ensures) (at-op .add-op .ensures) (c .if2 .taken)
 
@@ -166,7 +166,7 @@ expression-add-i-2 t c =
     let at-term = at-if1 .before .before .before .before .before .before in
     let at-loop = at-term .before .before .before in
     let start = at-loop .before .before .before .before .before .before .before .before in
-    let h = part-inside (at-loop .loop .inv) (is-passed (at-if1 .if1 .left)) (at-term .term .ensures)
+    let h = part-inside (at-loop .loop .inv) (is-done (at-if1 .if1 .left)) (at-term .term .ensures)
     (at-put-op .put-op .ensures) terms-chain
     (at-byte-at .byte-at2 .ensures) (at-op .add-op .ensures) (c .if2 .left) in
     omega (arith, start .good)
@@ -179,7 +179,7 @@ expression-loop-less t c =
     let at-if1 = at-put-op .before .before .before in
     let at-term = at-if1 .before .before .before .before .before .before in
     let at-loop = at-term .before .before .before in
-    part-less (at-loop .loop .inv) (is-passed (at-if1 .if1 .left)) (at-term .term .ensures)
+    part-less (at-loop .loop .inv) (is-done (at-if1 .if1 .left)) (at-term .term .ensures)
     (at-put-op .put-op .ensures) terms-chain
     (at-byte-at .byte-at2 .ensures) (at-op .add-op .ensures) (c .if2 .left)
 
@@ -191,7 +191,7 @@ expression-loop-again t c =
     let at-if1 = at-put-op .before .before .before in
     let at-term = at-if1 .before .before .before .before .before .before in
     let at-loop = at-term .before .before .before in
-    part-again (at-loop .loop .inv) (is-passed (at-if1 .if1 .left)) (at-term .term .ensures)
+    part-again (at-loop .loop .inv) (is-done (at-if1 .if1 .left)) (at-term .term .ensures)
     (at-put-op .put-op .ensures) terms-chain
     (at-byte-at .byte-at2 .ensures) (at-op .add-op .ensures) (c .if2 .left)
 
@@ -423,7 +423,7 @@ items-returns-2 t c =
     let at-if1 = at-byte-at .before in
     let at-expression = at-if1 .before .before .before .before .before .before in
     let at-loop = at-expression .before .before .before in
-    item-shut (at-loop .loop .inv) (is-passed (at-if1 .if1 .left)) (at-expression .expression .ensures)
+    item-shut (at-loop .loop .inv) (is-done (at-if1 .if1 .left)) (at-expression .expression .ensures)
     (at-byte-at .byte-at .ensures)
     (at-closer-of .closer-of .ensures) (c .if2 .taken)
 
@@ -436,7 +436,7 @@ items-add-t24 t c =
     let at-expression = at-if1 .before .before .before .before .before .before in
     let at-loop = at-expression .before .before .before in
     let start = at-loop .before .before .before .before .before in
-    let h = item-inside (at-loop .loop .inv) (is-passed (at-if1 .if1 .left)) (at-expression .expression .ensures)
+    let h = item-inside (at-loop .loop .inv) (is-done (at-if1 .if1 .left)) (at-expression .expression .ensures)
     (at-byte-at .byte-at .ensures)
     (at-closer-of .closer-of .ensures) (at-if2 .if2 .left) in
     omega (arith, start .good)
@@ -449,7 +449,7 @@ items-returns-3 t c =
     let at-if1 = at-byte-at .before in
     let at-expression = at-if1 .before .before .before .before .before .before in
     let at-loop = at-expression .before .before .before in
-    item-bare (at-loop .loop .inv) (is-passed (at-if1 .if1 .left)) (at-expression .expression .ensures)
+    item-bare (at-loop .loop .inv) (is-done (at-if1 .if1 .left)) (at-expression .expression .ensures)
     (at-byte-at .byte-at .ensures)
     (at-closer-of .closer-of .ensures) (at-if2 .if2 .left) (c .before .if3 .taken) (c .if4 .taken)
 
@@ -461,7 +461,7 @@ items-emit-requires t c κs =
     let at-if1 = at-byte-at .before in
     let at-expression = at-if1 .before .before .before .before .before .before in
     let at-loop = at-expression .before .before .before in
-    item-room (at-loop .loop .inv) (is-passed (at-if1 .if1 .left)) (at-expression .expression .ensures)
+    item-room (at-loop .loop .inv) (is-done (at-if1 .if1 .left)) (at-expression .expression .ensures)
     (at-byte-at .byte-at .ensures)
     (at-closer-of .closer-of .ensures) (at-if2 .if2 .left)
 
@@ -474,7 +474,7 @@ items-add-t30 t c =
     let at-expression = at-if1 .before .before .before .before .before .before in
     let at-loop = at-expression .before .before .before in
     let start = at-loop .before .before .before .before .before in
-    let h = item-inside (at-loop .loop .inv) (is-passed (at-if1 .if1 .left)) (at-expression .expression .ensures)
+    let h = item-inside (at-loop .loop .inv) (is-done (at-if1 .if1 .left)) (at-expression .expression .ensures)
     (at-byte-at .byte-at .ensures)
     (at-closer-of .closer-of .ensures) (at-if2 .if2 .left) in
     omega (arith, start .good)
@@ -488,7 +488,7 @@ items-add-t31 t c =
     let at-expression = at-if1 .before .before .before .before .before .before in
     let at-loop = at-expression .before .before .before in
     let start = at-loop .before .before .before .before .before in
-    let h = item-under (at-loop .loop .inv) (is-passed (at-if1 .if1 .left)) (at-expression .expression .ensures)
+    let h = item-under (at-loop .loop .inv) (is-done (at-if1 .if1 .left)) (at-expression .expression .ensures)
     (at-byte-at .byte-at .ensures)
     (at-closer-of .closer-of .ensures) (at-if2 .if2 .left) in
     omega (arith, start .good)
@@ -504,7 +504,7 @@ items-returns-4 t c =
     let at-if1 = at-byte-at .before in
     let at-expression = at-if1 .before .before .before .before .before .before in
     let at-loop = at-expression .before .before .before in
-    item-last (at-loop .loop .inv) (is-passed (at-if1 .if1 .left)) (at-expression .expression .ensures)
+    item-last (at-loop .loop .inv) (is-done (at-if1 .if1 .left)) (at-expression .expression .ensures)
     (at-byte-at .byte-at .ensures)
     (at-closer-of .closer-of .ensures) (at-if2 .if2 .left) (at-if3 .if3 .taken) (at-if4 .if4 .left)
     (at-emit .emit .ensures .0) (at-emit .emit .ensures .1)
@@ -518,7 +518,7 @@ items-add-i t c =
     let at-expression = at-if1 .before .before .before .before .before .before in
     let at-loop = at-expression .before .before .before in
     let start = at-loop .before .before .before .before .before in
-    let h = item-inside (at-loop .loop .inv) (is-passed (at-if1 .if1 .left)) (at-expression .expression .ensures)
+    let h = item-inside (at-loop .loop .inv) (is-done (at-if1 .if1 .left)) (at-expression .expression .ensures)
     (at-byte-at .byte-at .ensures)
     (at-closer-of .closer-of .ensures) (at-if2 .if2 .left) in
     omega (arith, start .good)
@@ -531,7 +531,7 @@ items-loop-less t c =
     let at-if1 = at-byte-at .before in
     let at-expression = at-if1 .before .before .before .before .before .before in
     let at-loop = at-expression .before .before .before in
-    item-less (at-loop .loop .inv) (is-passed (at-if1 .if1 .left)) (at-expression .expression .ensures)
+    item-less (at-loop .loop .inv) (is-done (at-if1 .if1 .left)) (at-expression .expression .ensures)
     (at-byte-at .byte-at .ensures)
     (at-closer-of .closer-of .ensures) (at-if2 .if2 .left)
 
@@ -543,7 +543,7 @@ items-loop-again t c =
     let at-if1 = at-byte-at .before in
     let at-expression = at-if1 .before .before .before .before .before .before in
     let at-loop = at-expression .before .before .before in
-    item-again (at-loop .loop .inv) (is-passed (at-if1 .if1 .left)) (at-expression .expression .ensures)
+    item-again (at-loop .loop .inv) (is-done (at-if1 .if1 .left)) (at-expression .expression .ensures)
     (at-byte-at .byte-at .ensures)
     (at-closer-of .closer-of .ensures) (at-if2 .if2 .left) (c .if3 .left)
 
@@ -632,7 +632,7 @@ term-put-op-requires t c κs =
     let at-if1 = c .before .before in
     let at-factor = at-if1 .before .before .before .before .before .before in
     let at-loop = at-factor .before .before .before in
-    op-room (at-loop .loop .inv) (is-passed (at-if1 .if1 .left)) (at-factor .factor .ensures)
+    op-room (at-loop .loop .inv) (is-done (at-if1 .if1 .left)) (at-factor .factor .ensures)
 
 term-returns-2 : In-term term-lts.Need-returns-2
 term-returns-2 t c =
@@ -642,7 +642,7 @@ term-returns-2 t c =
     let at-if1 = at-put-op .before .before .before in
     let at-factor = at-if1 .before .before .before .before .before .before in
     let at-loop = at-factor .before .before .before in
-    part-last (at-loop .loop .inv) (is-passed (at-if1 .if1 .left)) (at-factor .factor .ensures)
+    part-last (at-loop .loop .inv) (is-done (at-if1 .if1 .left)) (at-factor .factor .ensures)
     (at-put-op .put-op .ensures) factors-chain
     (at-byte-at .byte-at .ensures) (at-op .mul-op .ensures) (c .if2 .taken)
 
@@ -655,7 +655,7 @@ term-add-i t c =
     let at-factor = at-if1 .before .before .before .before .before .before in
     let at-loop = at-factor .before .before .before in
     let start = at-loop .before .before .before .before .before in
-    let h = part-inside (at-loop .loop .inv) (is-passed (at-if1 .if1 .left)) (at-factor .factor .ensures)
+    let h = part-inside (at-loop .loop .inv) (is-done (at-if1 .if1 .left)) (at-factor .factor .ensures)
     (at-put-op .put-op .ensures) factors-chain
     (at-byte-at .byte-at .ensures) (at-op .mul-op .ensures) (c .if2 .left) in
     omega (arith, start .good)
@@ -668,7 +668,7 @@ term-loop-less t c =
     let at-if1 = at-put-op .before .before .before in
     let at-factor = at-if1 .before .before .before .before .before .before in
     let at-loop = at-factor .before .before .before in
-    part-less (at-loop .loop .inv) (is-passed (at-if1 .if1 .left)) (at-factor .factor .ensures)
+    part-less (at-loop .loop .inv) (is-done (at-if1 .if1 .left)) (at-factor .factor .ensures)
     (at-put-op .put-op .ensures) factors-chain
     (at-byte-at .byte-at .ensures) (at-op .mul-op .ensures) (c .if2 .left)
 
@@ -680,7 +680,7 @@ term-loop-again t c =
     let at-if1 = at-put-op .before .before .before in
     let at-factor = at-if1 .before .before .before .before .before .before in
     let at-loop = at-factor .before .before .before in
-    part-again (at-loop .loop .inv) (is-passed (at-if1 .if1 .left)) (at-factor .factor .ensures)
+    part-again (at-loop .loop .inv) (is-done (at-if1 .if1 .left)) (at-factor .factor .ensures)
     (at-put-op .put-op .ensures) factors-chain
     (at-byte-at .byte-at .ensures) (at-op .mul-op .ensures) (c .if2 .left)
 

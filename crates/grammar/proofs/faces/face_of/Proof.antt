@@ -2,39 +2,39 @@
 use Prim.Native.Nat.{ℕ}
 use mathlib.Core.Path.{sym, ap}
 use Rattle.tokens.specs.Held.{symbolOf}
-use Rattle.grammar.specs.Look.{shapeOf}
+use Rattle.grammar.specs.Look.{factorStart}
 use Rattle.grammar.specs.Codes.{faceOf}
 use Rattle.grammar.proofs.Seen.{no-face}
 use Rattle.grammar.proofs.faces.face_of.Statement.{statement}
 use Rattle.grammar.proofs.faces.face_of.Tie as tie
 
 returns : tie.Need-returns
-unfolding shapeOf
-returns c = λ a. sym (ap (λ (k : ℕ). faceOf (shapeOf (symbolOf k a))) (c .match .keys1))
+unfolding factorStart
+returns c = λ a. sym (ap (λ (k : ℕ). faceOf (factorStart (symbolOf k a))) (c .match .keys1))
 
 returns-2 : tie.Need-returns-2
-unfolding shapeOf
-returns-2 c = λ a. sym (ap (λ (k : ℕ). faceOf (shapeOf (symbolOf k a))) (c .match .keys2))
+unfolding factorStart
+returns-2 c = λ a. sym (ap (λ (k : ℕ). faceOf (factorStart (symbolOf k a))) (c .match .keys2))
 
 returns-3 : tie.Need-returns-3
-unfolding shapeOf
-returns-3 c = λ a. sym (ap (λ (k : ℕ). faceOf (shapeOf (symbolOf k a))) (c .match .keys3))
+unfolding factorStart
+returns-3 c = λ a. sym (ap (λ (k : ℕ). faceOf (factorStart (symbolOf k a))) (c .match .keys3))
 
 returns-4 : tie.Need-returns-4
-unfolding shapeOf
-returns-4 c = λ a. sym (ap (λ (k : ℕ). faceOf (shapeOf (symbolOf k a))) (c .match .keys4))
+unfolding factorStart
+returns-4 c = λ a. sym (ap (λ (k : ℕ). faceOf (factorStart (symbolOf k a))) (c .match .keys4))
 
 returns-5 : tie.Need-returns-5
-unfolding shapeOf
-returns-5 c = λ a. sym (ap (λ (k : ℕ). faceOf (shapeOf (symbolOf k a))) (c .match .keys5))
+unfolding factorStart
+returns-5 c = λ a. sym (ap (λ (k : ℕ). faceOf (factorStart (symbolOf k a))) (c .match .keys5))
 
 returns-6 : tie.Need-returns-6
-unfolding shapeOf
-returns-6 c = λ a. sym (ap (λ (k : ℕ). faceOf (shapeOf (symbolOf k a))) (c .match .keys6))
+unfolding factorStart
+returns-6 c = λ a. sym (ap (λ (k : ℕ). faceOf (factorStart (symbolOf k a))) (c .match .keys6))
 
 returns-7 : tie.Need-returns-7
-unfolding shapeOf
-returns-7 c = λ a. sym (ap (λ (k : ℕ). faceOf (shapeOf (symbolOf k a))) (c .match .keys7))
+unfolding factorStart
+returns-7 c = λ a. sym (ap (λ (k : ℕ). faceOf (factorStart (symbolOf k a))) (c .match .keys7))
 
 returns-8 : tie.Need-returns-8
 returns-8 c =

@@ -1,8 +1,8 @@
 -- `grammar::assignment` meets its contract.
 use native.Mathlib.Omega.{arith}
 use borrow.Author.Needs.{needs}
-use Rattle.grammar.proofs.Meets.{is-passed}
-use Rattle.grammar.proofs.Statements.{ready-less, assign-stopped, assign-room, assign-under, assign-passed}
+use Rattle.grammar.proofs.Meets.{is-done}
+use Rattle.grammar.proofs.Statements.{ready-less, assign-stopped, assign-room, assign-under, assign-done}
 use Rattle.grammar.proofs.forms.assignment.Statement.{statement}
 use Rattle.grammar.proofs.forms.assignment.Tie as tie
 
@@ -22,7 +22,7 @@ emit-requires c κs =
     let at-if1 = c .before .before in
     let at-expression = at-if1 .before .before .before .before .before .before in
     let start = at-expression .before .before .before .before .before .before .before in
-    assign-room (start .args .key) (start .pre) (at-expression .expression .ensures) (is-passed (at-if1 .if1 .left))
+    assign-room (start .args .key) (start .pre) (at-expression .expression .ensures) (is-done (at-if1 .if1 .left))
 
 add-t21 : tie.Need-add-t21
 add-t21 c =
@@ -30,7 +30,7 @@ add-t21 c =
     let at-expression = at-if1 .before .before .before .before .before .before in
     let start = at-expression .before .before .before .before .before .before .before in
     let h = assign-under (start .args .key) (start .pre) (at-expression .expression .ensures)
-    (is-passed (at-if1 .if1 .left)) in
+    (is-done (at-if1 .if1 .left)) in
     omega (arith, start .good)
 
 returns-2 : tie.Need-returns-2
@@ -39,7 +39,7 @@ returns-2 c =
     let at-if1 = at-emit .before .before .before in
     let at-expression = at-if1 .before .before .before .before .before .before in
     let start = at-expression .before .before .before .before .before .before .before in
-    assign-passed (start .args .key) (start .pre) (at-expression .expression .ensures) (is-passed (at-if1 .if1 .left))
+    assign-done (start .args .key) (start .pre) (at-expression .expression .ensures) (is-done (at-if1 .if1 .left))
     (at-emit .emit .ensures .0)
     (at-emit .emit .ensures .1)
 

@@ -1,8 +1,8 @@
 -- `grammar::rate` meets its contract.
 use native.Mathlib.Omega.{arith}
 use borrow.Author.Needs.{needs}
-use Rattle.grammar.proofs.Meets.{is-passed}
-use Rattle.grammar.proofs.Statements.{rate-stopped, rate-shut, rate-inside, rate-room, rate-under, rate-passed}
+use Rattle.grammar.proofs.Meets.{is-done}
+use Rattle.grammar.proofs.Statements.{rate-stopped, rate-shut, rate-inside, rate-room, rate-under, rate-done}
 use Rattle.grammar.proofs.forms.rate.Statement.{statement}
 use Rattle.grammar.proofs.forms.rate.Tie as tie
 
@@ -18,7 +18,7 @@ returns-2 c =
     let at-if1 = at-byte-at .before in
     let at-expression = at-if1 .before .before .before .before .before .before in
     let start = at-expression .before .before .before .before .before .before .before in
-    rate-shut (start .args .key) (start .pre) (at-expression .expression .ensures) (is-passed (at-if1 .if1 .left))
+    rate-shut (start .args .key) (start .pre) (at-expression .expression .ensures) (is-done (at-if1 .if1 .left))
     (at-byte-at .byte-at .ensures) (c .if2 .taken)
 
 emit-requires : tie.Need-emit-requires
@@ -28,7 +28,7 @@ emit-requires c κs =
     let at-if1 = at-byte-at .before in
     let at-expression = at-if1 .before .before .before .before .before .before in
     let start = at-expression .before .before .before .before .before .before .before in
-    rate-room (start .args .key) (start .pre) (at-expression .expression .ensures) (is-passed (at-if1 .if1 .left))
+    rate-room (start .args .key) (start .pre) (at-expression .expression .ensures) (is-done (at-if1 .if1 .left))
     (at-byte-at .byte-at .ensures) (at-if2 .if2 .left)
 
 add-t22 : tie.Need-add-t22
@@ -39,7 +39,7 @@ add-t22 c =
     let at-expression = at-if1 .before .before .before .before .before .before in
     let start = at-expression .before .before .before .before .before .before .before in
     let h = rate-inside (start .args .key) (start .pre) (at-expression .expression .ensures)
-    (is-passed (at-if1 .if1 .left)) (at-byte-at .byte-at .ensures)
+    (is-done (at-if1 .if1 .left)) (at-byte-at .byte-at .ensures)
     (at-if2 .if2 .left) in
     omega (arith, start .good)
 
@@ -51,7 +51,7 @@ add-t23 c =
     let at-expression = at-if1 .before .before .before .before .before .before in
     let start = at-expression .before .before .before .before .before .before .before in
     let h = rate-under (start .args .key) (start .pre) (at-expression .expression .ensures)
-    (is-passed (at-if1 .if1 .left)) (at-byte-at .byte-at .ensures)
+    (is-done (at-if1 .if1 .left)) (at-byte-at .byte-at .ensures)
     (at-if2 .if2 .left) in
     omega (arith, start .good)
 
@@ -63,7 +63,7 @@ returns-3 c =
     let at-if1 = at-byte-at .before in
     let at-expression = at-if1 .before .before .before .before .before .before in
     let start = at-expression .before .before .before .before .before .before .before in
-    rate-passed (start .args .key) (start .pre) (at-expression .expression .ensures) (is-passed (at-if1 .if1 .left))
+    rate-done (start .args .key) (start .pre) (at-expression .expression .ensures) (is-done (at-if1 .if1 .left))
     (at-byte-at .byte-at .ensures)
     (at-if2 .if2 .left) (at-emit .emit .ensures .0) (at-emit .emit .ensures .1)
 

@@ -73,7 +73,7 @@ name-bytes-spec =
     (λ c κs. search needs)
     (λ c κs. search needs)
     (λ c. search needs)
-    (λ c. omega arith)
+    (λ c. search needs)
     loop-again
     returns
     returns-2)

@@ -1,9 +1,8 @@
--- What `sort` shows.
+-- The contract of `sort` is met: a table that fits is answered by its order, any other by that it does not fit.
 use mathlib.Core.Path.{_≡_, ap}
 use mathlib.Core.Bool.{true, false}
 use mathlib.Core.List.{List}
 use Prim.Native.Nat.{ℕ}
-use native.Mathlib.Omega.{arith}
 use lib.ListN.{length}
 use Rattle.order.specs.Table.{fits}
 use Rattle.order.specs.Contract.{Filled, Sorts}

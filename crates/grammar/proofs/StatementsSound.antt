@@ -7,6 +7,7 @@ use lib.Ieee.{Float}
 use Rattle.laws.specs.Lists.{concat-map}
 use Rattle.tokens.specs.Symbol.{INTGRL, Symbol, mark, number, name, word}
 use Rattle.drafts.specs.Tree.{value, Constant, constantOf, Initial, plain, from, Says, constants, assignment, state}
+use Rattle.drafts.specs.Kinds.{kindInitial, kindStore, kindRate}
 use Rattle.drafts.specs.Drafts.{Draft, draft, constantDrafts, initialDraft, draftsOf}
 use Rattle.grammar.specs.Look.{next, rest, Op, none, op, addOp, startOf}
 use Rattle.grammar.specs.Grammar.{expr, Signed, unsigned-number, signed-number, Many, one, more, Initially}
@@ -98,7 +99,7 @@ more-out d go ih k w o x t r =
     (out-give _ _ t (constantOf k x ∷ []) (rw (append-nil w) (one (r .0), rw (r .1)))))
 
 -- constants, whatever the count of calls
-pub many-out : (f d : ℕ) (s : List Symbol) → Out Consts (ConstsVia d) s (many f s)
+many-out : (f d : ℕ) (s : List Symbol) → Out Consts (ConstsVia d) s (many f s)
 unfolding many
 many-out zero d s = out-stop _ _ s (zero-many d)
 many-out (suc f) d s =
@@ -158,18 +159,18 @@ module _ (f d k : ℕ) where
   unfolding assigned
   assigned-out s =
       out-bind _ _ s (parse f expr d s) _ (sound f expr d s tt)
-      (λ o w e t r. out-tell _ _ (draft 13 k ∷ []) t _
+      (λ o w e t r. out-tell _ _ (draft kindStore k ∷ []) t _
       (out-give _ _ t (assignment k e) (rw (append-nil w) (of-assignment (r .0), rw (r .1, drafted-items e)))))
       λ c. behind (assigns k []) λ D w e le r. (assignment k e, of-assignment r)
 
   -- behind the initial w, whose drafts are written
   rated-out : (w : List Symbol) (o : List Draft) (i : Initial) (s : List Symbol) → Init o w i
-      → Out (λ o′ v. Stated d (o ++ (draft 2 k ∷ initialDraft i ∷ o′)) (integral k (w ++ mark 44 ∷ v)))
+      → Out (λ o′ v. Stated d (o ++ (draft kindInitial k ∷ initialDraft i ∷ o′)) (integral k (w ++ mark 44 ∷ v)))
       (λ c v. StatedVia d c (integral k (w ++ mark 44 ∷ v))) s (rated f d k i s)
   rated-out w o i s r =
       out-bind _ _ s (parse f expr d s) _ (sound f expr d s tt)
-      (λ o′ v e t z. out-need _ _ 40 t (λ u. tell (draft 14 k ∷ []) (give (state k i e) u))
-      (λ m. out-tell _ _ (draft 14 k ∷ []) (rest t) _
+      (λ o′ v e t z. out-need _ _ 40 t (λ u. tell (draft kindRate k ∷ []) (give (state k i e) u))
+      (λ m. out-tell _ _ (draft kindRate k ∷ []) (rest t) _
       (out-give _ _ (rest t) (state k i e) (of-state (r .0) (z .0), rw (r .1, z .1, drafted-items e))))
       (rw (append-nil v)
       (fresh (integral k (w ++ mark 44 ∷ v)) λ D le.
@@ -185,7 +186,7 @@ module _ (f d k : ℕ) where
   integrated-out s =
       out-need _ _ 39 s (started f d k)
       (λ m. out-bind _ _ (rest s) (initially (rest s)) _ (initially-out d (rest s))
-      (λ o w i t r. out-tell _ _ (draft 2 k ∷ initialDraft i ∷ []) t _
+      (λ o w i t r. out-tell _ _ (draft kindInitial k ∷ initialDraft i ∷ []) t _
       (out-need _ _ 43 t (rated f d k i) (λ m. rated-out w o i (rest t) r)
       (rw (append-nil w) (fresh (integral k w) λ D le. (_, _, zero-state k (r .0))))))
       λ c. extend (integral k []) λ D w i le r. (_, _, zero-state k r))
@@ -203,7 +204,7 @@ module _ (f d k : ℕ) where
       (λ _ _. plainly) (λ q. out-rest _ _ s _ q (integrated-out (rest s))) (λ _ _. plainly) (λ _ _. plainly) plainly
 
 -- a statement at the front
-pub statement-out : (f d : ℕ) (s : List Symbol) → Out (Stated d) (StatedVia d) s (statement f d s)
+statement-out : (f d : ℕ) (s : List Symbol) → Out (Stated d) (StatedVia d) s (statement f d s)
 unfolding statement
 statement-out f d s =
     let nothing : Out (Stated d) (StatedVia d) s (stop 18 s) =

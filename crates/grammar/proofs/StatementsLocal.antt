@@ -1,113 +1,22 @@
--- Statements: a count of calls that suffices, and what a reading hangs on.
-use Prim.Native.Nat.{ℕ, zero, suc, _+_, _*_, _≤_, _<_}
-use mathlib.Core.Path.{_≡_, refl, ap}
+-- Statements: what a reading hangs on, the tokens up to the one at which it stops.
+use Prim.Native.Nat.{ℕ, zero, suc}
+use mathlib.Core.Path.{_≡_, refl}
 use mathlib.Core.List.{List, [], _∷_}
-use native.Mathlib.Omega.{arith}
 use lib.Ieee.{Float}
-use lib.ListN.{length, length-append}
 use Rattle.tokens.specs.Symbol.{INTGRL, Symbol, number, name, word}
 use Rattle.drafts.specs.Tree.{Constant, constantOf, plain, from, Says, constants, assignment, state}
+use Rattle.drafts.specs.Kinds.{kindInitial, kindStore, kindRate}
 use Rattle.drafts.specs.Drafts.{draft, constantDrafts, initialDraft}
 use Rattle.grammar.specs.Look.{next, rest, Op, addOp, Start, Constants, Integral, Named, Valued, Other, startOf}
 use Rattle.grammar.specs.Grammar.{expr}
-use Rattle.grammar.specs.Parser.{got, Res, give, stop, tell, bind, byStart, byName, byNumber, byIntegral, need}
+use Rattle.grammar.specs.Parser.{Res, give, stop, tell, bind, byStart, byName, byNumber, byIntegral, need}
 use Rattle.grammar.specs.Parser.{behindSign, parse}
 use Rattle.grammar.specs.Parser.{signedValue, aNumber, signedNumber, onMore, valued, many, initially}
 use Rattle.grammar.specs.Parser.{assigned, rated, started, integrated, equated, statement, ended, entire}
-use Rattle.grammar.proofs.Endings.{Asked, Before, Out, OutEnd, here-mark}
+use Rattle.grammar.proofs.Endings.{here-mark}
 use Rattle.grammar.proofs.Looks.{add-here, start-cases}
-use Rattle.grammar.proofs.Whole.{signed-out, initially-out}
-use Rattle.grammar.proofs.Enough.{bind-cong, mark-cong, need-cong, shorter, rest-le, enough}
 use Rattle.grammar.proofs.Local.{Reading, Loc, loc-bind, loc-seen, loc-rest, loc-tell, loc-give, loc-stop}
 use Rattle.grammar.proofs.Local.{loc-mark, loc-need, loc-behind, local}
-
--- ---- calls
-
--- what is left is no longer
-out-left : {A : Type 0} {L : Asked A} {F : Before} (s : List Symbol) (x : Res A) → Out L F s x
-    → (e : A) (t : List Symbol) → x .end ≡ got e t
-    → length t ≤ length s
-out-left {A} {L} {F} s x o e t h =
-    let r : OutEnd L F s (x .out) (got e t) = rw h at (o .ends) in
-    let q = length-append (r .0) t in
-    rw (r .1) (omega arith)
-
--- readings that differ in what they call are the same where their calls are
-module _ {A : Type 0} where
-  -- by what stands next
-  start-cong : (p : Start) (c c′ i i′ : Unit {0} → Res A) (k k′ : ℕ → Res A) (v v′ : Float → Res A)
-      (z z′ : Unit {0} → Res A)
-      → c tt ≡ c′ tt → i tt ≡ i′ tt → ((n : ℕ) → k n ≡ k′ n) → ((x : Float) → v x ≡ v′ x) → z tt ≡ z′ tt
-      → byStart p c i k v z ≡ byStart p c′ i′ k′ v′ z′
-  start-cong Constants c c′ i i′ k k′ v v′ z z′ p q r s t = p
-  start-cong Integral c c′ i i′ k k′ v v′ z z′ p q r s t = q
-  start-cong (Named n) c c′ i i′ k k′ v v′ z z′ p q r s t = r n
-  start-cong (Valued x) c c′ i i′ k k′ v v′ z z′ p q r s t = s x
-  start-cong Other c c′ i i′ k k′ v v′ z z′ p q r s t = t
-
--- constants
-many-enough : (f f′ : ℕ) (s : List Symbol) → length s < f → length s < f′ → many f s ≡ many f′ s
-unfolding many
-many-enough zero f′ s b b′ = absurd (omega arith)
-many-enough (suc f) zero s b b′ = absurd (omega arith)
-many-enough (suc f) (suc f′) s b b′ =
-    let r = rest-le s in
-    start-cong (startOf (next s)) _ _ _ _ _ _ _ _ _ _ refl refl
-    (λ k. need-cong 60 (rest s) (valued (many f) k) (valued (many f′) k) λ l.
-    bind-cong (signedNumber (rest (rest s))) _ _ _ refl λ x t h.
-    let n = out-left (rest (rest s)) _ (signed-out 0 (rest (rest s))) x t h in
-    ap (tell (constantDrafts (constantOf k x))) (mark-cong 43 t _ _ _ λ m.
-    let z = shorter t (here-mark t 43 m) in
-    bind-cong (many f (rest t)) _ _ _ (many-enough f f′ (rest t) (omega arith) (omega arith)) λ e t h. refl))
-    (λ x. refl) refl
-
-module _ (f f′ d k : ℕ) where
-  -- an expression behind name =
-  assigned-enough : (s : List Symbol) → 3 + 5 * length s < f → 3 + 5 * length s < f′
-      → assigned f d k s ≡ assigned f′ d k s
-  unfolding assigned
-  assigned-enough s b b′ = bind-cong (parse f expr d s) _ _ _ (enough f f′ expr d s tt b b′) λ e t h. refl
-
-  -- behind name = INTGRL
-  integrated-enough : (s : List Symbol) → 3 + 5 * length s < f → 3 + 5 * length s < f′
-      → integrated f d k s ≡ integrated f′ d k s
-  unfolding integrated
-  integrated-enough s b b′ =
-      need-cong 39 s (started f d k) (started f′ d k) λ l.
-      bind-cong (initially (rest s)) _ _ _ refl λ i t h.
-      let n = out-left (rest s) _ (initially-out 0 (rest s)) i t h in
-      ap (tell (draft 2 k ∷ initialDraft i ∷ [])) (need-cong 43 t (rated f d k i) (rated f′ d k i) λ m.
-      bind-cong (parse f expr d (rest t)) _ _ _ (enough f f′ expr d (rest t) tt (omega arith) (omega arith)) λ e u h.
-      refl)
-
-  -- behind name =
-  equated-enough : (s : List Symbol) → 3 + 5 * length s < f → 3 + 5 * length s < f′ → equated f d k s ≡ equated f′ d k s
-  equated-enough s b b′ =
-      let r = rest-le s in
-      let plainly = assigned-enough s b b′ in
-      start-cong (startOf (next s)) _ _ _ _ _ _ _ _ _ _
-      plainly (integrated-enough (rest s) (omega arith) (omega arith)) (λ _. plainly) (λ _. plainly) plainly
-
--- a statement at the front
-statement-enough : (f f′ d : ℕ) (s : List Symbol) → 3 + 5 * length s < f → 3 + 5 * length s < f′
-    → statement f d s ≡ statement f′ d s
-unfolding statement
-statement-enough f f′ d s b b′ =
-    let r = rest-le s in
-    start-cong (startOf (next s)) _ _ _ _ _ _ _ _ _ _
-    (bind-cong (many f (rest s)) _ _ _ (many-enough f f′ (rest s) (omega arith) (omega arith)) λ e t h. refl)
-    refl
-    (λ k. need-cong 60 (rest s) (equated f d k) (equated f′ d k) λ l. equated-enough f f′ d k (rest (rest s))
-    (omega arith) (omega arith))
-    (λ x. refl) refl
-
--- any two counts of calls that suffice read a row alike
-pub entire-enough : (f f′ d : ℕ) (s : List Symbol) → 3 + 5 * length s < f → 3 + 5 * length s < f′
-    → entire f d s ≡ entire f′ d s
-unfolding entire
-entire-enough f f′ d s b b′ = bind-cong (statement f d s) _ ended ended (statement-enough f f′ d s b b′) λ e t h. refl
-
--- ---- what a reading hangs on
 
 -- by what stands next
 loc-start : {A : Type 0} (d : ℕ) (s : List Symbol) (G : Start → Reading A)
@@ -173,8 +82,8 @@ module _ (f d k : ℕ) where
   assigned-loc : (s : List Symbol) → Loc d s (λ d′. assigned f d′ k)
   unfolding assigned
   assigned-loc s =
-      loc-bind d s (parse f expr) (λ _ e t. tell (draft 13 k ∷ []) (give (assignment k e) t)) (local f expr d s tt)
-      λ e t. loc-tell d t (draft 13 k ∷ []) (λ _. give (assignment k e)) (loc-give d t (assignment k e))
+      loc-bind d s (parse f expr) (λ _ e t. tell (draft kindStore k ∷ []) (give (assignment k e) t)) (local f expr d s tt)
+      λ e t. loc-tell d t (draft kindStore k ∷ []) (λ _. give (assignment k e)) (loc-give d t (assignment k e))
 
   -- behind name = INTGRL
   integrated-loc : (s : List Symbol) → Loc d s (λ d′. integrated f d′ k)
@@ -182,14 +91,14 @@ module _ (f d k : ℕ) where
   integrated-loc s =
       loc-need d s 39 (λ d′. started f d′ k) λ m.
       loc-bind d (rest s) (λ _. initially)
-      (λ d′ i t. tell (draft 2 k ∷ initialDraft i ∷ []) (need 44 t (rated f d′ k i)))
+      (λ d′ i t. tell (draft kindInitial k ∷ initialDraft i ∷ []) (need 44 t (rated f d′ k i)))
       (initially-loc d (rest s)) λ i t.
-      loc-tell d t (draft 2 k ∷ initialDraft i ∷ []) (λ d′ u. need 44 u (rated f d′ k i))
+      loc-tell d t (draft kindInitial k ∷ initialDraft i ∷ []) (λ d′ u. need 44 u (rated f d′ k i))
       (loc-need d t 43 (λ d′. rated f d′ k i) λ m.
-      loc-bind d (rest t) (parse f expr) (λ _ e u. need 41 u λ v. tell (draft 14 k ∷ []) (give (state k i e) v))
+      loc-bind d (rest t) (parse f expr) (λ _ e u. need 41 u λ v. tell (draft kindRate k ∷ []) (give (state k i e) v))
       (local f expr d (rest t) tt) λ e u.
-      loc-need d u 40 (λ _ v. tell (draft 14 k ∷ []) (give (state k i e) v)) λ m.
-      loc-tell d (rest u) (draft 14 k ∷ []) (λ _. give (state k i e)) (loc-give d (rest u) (state k i e)))
+      loc-need d u 40 (λ _ v. tell (draft kindRate k ∷ []) (give (state k i e) v)) λ m.
+      loc-tell d (rest u) (draft kindRate k ∷ []) (λ _. give (state k i e)) (loc-give d (rest u) (state k i e)))
 
   -- behind name =
   equated-loc : (s : List Symbol) → Loc d s (λ d′. equated f d′ k)
