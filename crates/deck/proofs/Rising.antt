@@ -34,7 +34,8 @@ reading-rises (inside f cs) n [] b = (omega arith, tt)
 reading-rises fresh n (l ∷ ls) b = go (passed l) (dotted l) (λ s b. reading-rises s (suc n) ls b)
   where
     go : (p d : Bool) → ((s : State) → Before s (suc n) → Rising (least s (suc n)) (firsts (reading s (suc n) ls)))
-        → Rising n (firsts (cond p [] (justClosed d n (l ∷ [])) ++ reading (cond p fresh (goes-on d n (l ∷ []))) (suc n) ls))
+        → Rising n
+        (firsts (cond p [] (justClosed d n (l ∷ [])) ++ reading (cond p fresh (goes-on d n (l ∷ []))) (suc n) ls))
     go true d ih = rising-le (suc n) n (firsts (reading fresh (suc n) ls)) (ih fresh tt) (omega arith)
     go false true ih = ih (inside n (l ∷ [])) (omega arith)
     go false false ih = (omega arith, ih fresh tt)

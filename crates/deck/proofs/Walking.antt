@@ -111,7 +111,8 @@ next-reads t at n (l ∷ ls) q = go (passed l) (next-reads t (at + length l + 1)
     run = run-reads t n at at 0 false [] (l ∷ ls) (record { count = refl; all = q; rest = q; flag = refl })
 
     go : (b : Bool) → (reading fresh (n + 1) ls ≡ readOf t more) × Right t more
-        → (cond b [] (justClosed (dotted l) n (l ∷ [])) ++ reading (cond b fresh (goes-on (dotted l) n (l ∷ []))) (suc n) ls
+        → (cond b [] (justClosed (dotted l) n (l ∷ []))
+        ++ reading (cond b fresh (goes-on (dotted l) n (l ∷ []))) (suc n) ls
         ≡ readOf t (cond b more start))
         × Right t (cond b more start)
     go true h = (rw (← (add-one n)) (h .0), h .1)

@@ -106,7 +106,8 @@ module _ {A : Type 0} where
   -- by what begins a factor
   factor-cong : (q : FactorStart) (x : Tree → Res A) (y y′ : Unit {0} → Res A) (z z′ : Opening → Res A)
       (n : Unit {0} → Res A)
-      → (q ≡ Paren → y tt ≡ y′ tt) → ((p : Opening) → q ≡ Call p → z p ≡ z′ p) → byFactor q x y z n ≡ byFactor q x y′ z′ n
+      → (q ≡ Paren → y tt ≡ y′ tt) → ((p : Opening) → q ≡ Call p → z p ≡ z′ p)
+      → byFactor q x y z n ≡ byFactor q x y′ z′ n
   factor-cong (Leaf e) x y y′ z z′ n g h = refl
   factor-cong Paren x y y′ z z′ n g h = g refl
   factor-cong (Call p) x y y′ z z′ n g h = h p refl
@@ -158,7 +159,8 @@ step-cong f g expr d s p same =
 step-cong f g term d s p same =
     linked-cong f g same d factor factors [] s tt (λ _ _. tt) (omega arith) λ e t k. omega arith
 step-cong f g factor d s p same =
-    factor-cong (factorStart (next s)) _ _ _ _ _ _ (λ q. same (opened group) d s (as-starting (next s) q) (omega arith)) λ p q.
+    factor-cong (factorStart (next s)) _ _ _ _ _ _
+    (λ q. same (opened group) d s (as-starting (next s) q) (omega arith)) λ p q.
     let l = shorter s (call-here s p q) in
     mark-cong 39 (rest s) _ _ _ λ m. same (opened p) d (rest s) m (omega arith)
 step-cong f g (terms l) d s p same =

@@ -14,8 +14,8 @@ use Rattle.grammar.specs.Look.{next, rest, byteOf, Op, none, op, addOp, 
 use Rattle.grammar.specs.Look.{full, wants, give-to}
 use Rattle.grammar.specs.Look.{FactorStart, Leaf, Paren, Call, NoFactor, factorStart}
 use Rattle.grammar.specs.Grammar.{Mode, expr, term, factor, terms, factors, opened, list}
-use Rattle.grammar.specs.Parser.{End, got, bad, Res, give, stop, tell, onward, bind, when, byOp, byFactor, byGiven}
-use Rattle.grammar.specs.Parser.{need}
+use Rattle.grammar.specs.Parser.{End, got, bad, Res, give, stop, tell, onward, bind, when, byOp, byFactor}
+use Rattle.grammar.specs.Parser.{byGiven, need}
 use Rattle.grammar.specs.Parser.{behindSign, signDrafts, openDrafts, parse}
 use Rattle.grammar.proofs.Endings.{here-mark, is-mark}
 use Rattle.grammar.proofs.Looks.{add-here, mul-here, leaf-here, call-here, as-starting}

@@ -14,8 +14,8 @@ use Rattle.drafts.specs.Drafts.{Draft, drafted}
 use Rattle.grammar.specs.Look.{next, rest, byteOf, Op, none, op, addOp, mulOp, signed}
 use Rattle.grammar.specs.Look.{Opening, group, pair, pair-of, triple, triple-of, triple-of-two, Given, full}
 use Rattle.grammar.specs.Look.{wants, give-to}
-use Rattle.grammar.specs.Look.{FactorStart, Leaf, Paren, Call, NoFactor, factorStart, Start, Constants, Integral, Named}
-use Rattle.grammar.specs.Look.{Valued, Other, startOf}
+use Rattle.grammar.specs.Look.{FactorStart, Leaf, Paren, Call, NoFactor, factorStart}
+use Rattle.grammar.specs.Look.{Start, Constants, Integral, Named, Valued, Other, startOf}
 use Rattle.grammar.specs.Parser.{signDrafts, openDrafts}
 use Rattle.grammar.proofs.Endings.{clash, here, is-mark}
 
@@ -71,7 +71,8 @@ factor-no-add t n = go (addOp t) refl
     go : (o : Op) → addOp t ≡ o → o ≡ none
     go none h = refl
     go (op o) h =
-        absurd (n (⊎-elim (λ (e : t ≡ mark 43). ap factorStart e) (λ (e : t ≡ mark 45). ap factorStart e) (add-mark t o h)))
+        absurd
+        (n (⊎-elim (λ (e : t ≡ mark 43). ap factorStart e) (λ (e : t ≡ mark 45). ap factorStart e) (add-mark t o h)))
 
 -- ---- factors
 
@@ -96,7 +97,8 @@ Starting NoFactor t = Unit {0}
 -- it tells this of each token
 starting : (t : Symbol) → Starting (factorStart t) t
 unfolding factorStart
-starting (mark b) = cond-ind (λ h. Starting h (mark b)) (eqb b 40) Paren NoFactor (λ e. ap mark (eqb-true b 40 e)) λ e. tt
+starting (mark b) =
+    cond-ind (λ h. Starting h (mark b)) (eqb b 40) Paren NoFactor (λ e. ap mark (eqb-true b 40 e)) λ e. tt
 starting (number x) = bare-value
 starting (name k) = bare-name
 starting (word CONSTANTS) = tt

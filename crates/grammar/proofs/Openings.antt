@@ -50,10 +50,12 @@ module _ {ks us : List ℕ} {i p k : ℕ} {l u : List ℕ} {f : Face} (w : Ready
     (ef : (a : ℕ) → f ≡ faceOf (factorStart (symbolOf k a))) where
   -- what the token begins as a factor
   token-start : factorStart (next (drop i (heldRow ks us))) ≡ factorStart (symbolOf k (getD us i 0))
-  token-start = ap factorStart (token-at ks us i (w .even)) ∙ ap (λ (x : ℕ). factorStart (symbolOf x (getD us i 0))) (sym ek)
+  token-start =
+      ap factorStart (token-at ks us i (w .even)) ∙ ap (λ (x : ℕ). factorStart (symbolOf x (getD us i 0))) (sym ek)
 
   -- the reading by it
-  by-factor : (d : ℕ) {h : FactorStart} → factorStart (symbolOf k (getD us i 0)) ≡ h → reads factor d (drop i (heldRow ks us))
+  by-factor : (d : ℕ) {h : FactorStart} → factorStart (symbolOf k (getD us i 0)) ≡ h
+      → reads factor d (drop i (heldRow ks us))
       ≡ (let s = drop i (heldRow ks us) in byFactor h (λ e. tell (drafted e) (give e (rest s)))
       (λ _. reads (opened group) d s)
       (λ p. when (eqb (byteOf (next (rest s))) 40) (λ _. reads (opened p) d (rest s)) (λ _. stop 18 (rest s)))

@@ -19,8 +19,8 @@ use Rattle.grammar.specs.Look.{Opening, group, pair, pair-of, triple, tr
 use Rattle.grammar.specs.Look.{wants, give-to}
 use Rattle.grammar.specs.Look.{FactorStart, Leaf, Paren, Call, NoFactor, factorStart, startOf}
 use Rattle.grammar.specs.Grammar.{Mode, expr, term, factor, terms, factors, opened, list}
-use Rattle.grammar.specs.Parser.{End, got, bad, Res, give, stop, tell, onward, bind, when, byOp, byFactor, byGiven}
-use Rattle.grammar.specs.Parser.{need}
+use Rattle.grammar.specs.Parser.{End, got, bad, Res, give, stop, tell, onward, bind, when, byOp, byFactor}
+use Rattle.grammar.specs.Parser.{byGiven, need}
 use Rattle.grammar.specs.Parser.{behindSign, signDrafts, openDrafts, parse, rank, reads, byStart, byName}
 use Rattle.grammar.specs.Parser.{byNumber, byIntegral}
 use Rattle.grammar.specs.Parser.{signedValue, aNumber, signedNumber, onMore, valued, many, initially}

@@ -122,8 +122,9 @@ pub face-noted : (k a : ℕ) {f : Face} → f ≡ faceOf (factorStart (symbolOf 
 face-noted k a q = subst (λ (f : Face). Faced k f) (sym q) (faced k a)
 
 -- and every other kind begins none
-pub no-face : (k a : ℕ) → (k ≡ numberKind → ⊥) → (k ≡ nameKind → ⊥) → (k ≡ wordKind TIME → ⊥) → (k ≡ 40 → ⊥) → (k ≡ wordKind INSW → ⊥)
-    → (k ≡ wordKind LIMIT → ⊥) → (k ≡ wordKind COMPAR → ⊥) → Nothing ≡ faceOf (factorStart (symbolOf k a))
+pub no-face : (k a : ℕ) → (k ≡ numberKind → ⊥) → (k ≡ nameKind → ⊥) → (k ≡ wordKind TIME → ⊥) → (k ≡ 40 → ⊥)
+    → (k ≡ wordKind INSW → ⊥) → (k ≡ wordKind LIMIT → ⊥) → (k ≡ wordKind COMPAR → ⊥)
+    → Nothing ≡ faceOf (factorStart (symbolOf k a))
 unfolding factorStart
 no-face k a =
     by-kind

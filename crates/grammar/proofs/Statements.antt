@@ -22,7 +22,8 @@ use Rattle.grammar.specs.Grammar.{expr}
 use Rattle.grammar.specs.Parser.{Res, give, tell, bind, need, parse, reads}
 use Rattle.grammar.specs.Parser.{signedNumber, onMore, valued, many, initially, assigned, rated, started}
 use Rattle.grammar.specs.Parser.{integrated, equated, statement, calls}
-use Rattle.grammar.specs.Contract.{Ready, Within, partDone, stopped, Meets, Parses, ParsesMany, numberAt, initialAt}
+use Rattle.grammar.specs.Contract.{Ready, Within, partDone, stopped, Meets, Parses, ParsesMany, numberAt}
+use Rattle.grammar.specs.Contract.{initialAt}
 use Rattle.grammar.proofs.Clauses.{to-reads}
 use Rattle.grammar.proofs.Seen.{token-at, stands, is-name, no-name, is-integral, no-integral, start-name}
 use Rattle.grammar.proofs.Seen.{start-words, start-none}
@@ -156,7 +157,8 @@ module _ {ks us : List ℕ} {i p m : ℕ} {l u : List ℕ} (w : Ready ks us i p 
                 let n = getD us i 0 in
                 const-equals λ f le. value-then
                 (λ z t. tell (constantDrafts (constantOf n z)) (onMore (many f) (constantOf n z) t)) v
-                (two-drafts kindConstant n kindNumber (toBits binary64 (v .what)) x y (rw (← (v .kind)) x′) (rw (← (v .arg)) y′)
+                (two-drafts kindConstant n kindNumber (toBits binary64 (v .what)) x y (rw (← (v .kind)) x′)
+                (rw (← (v .arg)) y′)
                 (g f (constantOf n (v .what)) le))
 
             -- the last
@@ -259,8 +261,8 @@ module _ {ks us : List ℕ} {i p : ℕ} {l u : List ℕ} {r : Part} {l₁ u₁ :
     rate-shut z n =
         let a = after w e h in
         rate-by n (goes-on (rate-then key n) w e h λ x.
-        meets-shut (λ u. tell (draft kindRate key ∷ []) (give (state key n x) u)) 41 (w .even) (a .inside) (omega arith) λ y.
-        z (ek ∙ y))
+        meets-shut (λ u. tell (draft kindRate key ∷ []) (give (state key n x) u)) 41 (w .even) (a .inside) (omega arith)
+        λ y. z (ek ∙ y))
 
     module _ (z : k ≡ 41) where
       pub rate-inside : j < length ks
@@ -318,8 +320,8 @@ module _ {ks us : List ℕ} {i p m : ℕ} {l u : List ℕ} (key : ℕ) (w : Read
           → (p + 1 < length l₁) × (p + 1 < length u₁)
       state-second x y = state-on .second kindInitial key x y
 
-      module _ {c : ℕ} (ec : c ≡ getD ks j 0) {l₁ u₁ l₂ u₂ : List ℕ} (x : l₁ ≡ set l p kindInitial) (y : u₁ ≡ set u p key)
-          (x′ : l₂ ≡ set l₁ (p + 1) k)
+      module _ {c : ℕ} (ec : c ≡ getD ks j 0) {l₁ u₁ l₂ u₂ : List ℕ} (x : l₁ ≡ set l p kindInitial)
+          (y : u₁ ≡ set u p key) (x′ : l₂ ≡ set l₁ (p + 1) k)
           (y′ : u₂ ≡ set u₁ (p + 1) a) where
         -- the two drafts of the initial
         state-started : {r : Part} {l₃ u₃ : List ℕ}
@@ -332,7 +334,8 @@ module _ {ks us : List ℕ} {i p m : ℕ} {l u : List ℕ} (key : ℕ) (w : Read
             let d = initialDraft (v .what) in
             state-open
             (value-then (λ n t. tell (draft kindInitial key ∷ initialDraft n ∷ []) (need 44 t (rated f levels key n))) v
-            (two-drafts kindInitial key (d .kind) (d .arg) x y (rw (← (v .kind)) x′) (rw (← (v .arg)) y′) (g (v .what))))
+            (two-drafts kindInitial key (d .kind) (d .arg) x y (rw (← (v .kind)) x′) (rw (← (v .arg)) y′)
+            (g (v .what))))
 
         -- no comma
         pub state-alone : (c ≡ 44 → ⊥) → Meets ks us (integrated (calls (heldRow ks us)) levels key) i p l u

@@ -82,7 +82,8 @@ module _ (f d k : ℕ) where
   assigned-loc : (s : List Symbol) → Loc d s (λ d′. assigned f d′ k)
   unfolding assigned
   assigned-loc s =
-      loc-bind d s (parse f expr) (λ _ e t. tell (draft kindStore k ∷ []) (give (assignment k e) t)) (local f expr d s tt)
+      loc-bind d s (parse f expr) (λ _ e t. tell (draft kindStore k ∷ []) (give (assignment k e) t))
+      (local f expr d s tt)
       λ e t. loc-tell d t (draft kindStore k ∷ []) (λ _. give (assignment k e)) (loc-give d t (assignment k e))
 
   -- behind name = INTGRL

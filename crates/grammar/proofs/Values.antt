@@ -71,7 +71,8 @@ module _ {ks us : List ℕ} {i k s m : ℕ} (w : Within ks us i) (ek : k ≡ get
   pub number-inside : m ≡ numberKind → i + s < length ks
   number-inside e = stands ks (i + s) λ z. let y : m ≡ 0 = em ∙ z in omega arith
 
-  found : (b : ℕ) → m ≡ numberKind → b ≡ toBits binary64 (signedValue (addOp (mark k)) (ofBits binary64 (getD us (i + s) 0)))
+  found : (b : ℕ) → m ≡ numberKind
+      → b ≡ toBits binary64 (signedValue (addOp (mark k)) (ofBits binary64 (getD us (i + s) 0)))
       → Found kindNumber b (i + s + 1) ≡ numberAt ks us i
   found b e h =
       let row = heldRow ks us in
@@ -245,8 +246,8 @@ module _ {ks us : List ℕ} {i : ℕ} (w : Within ks us i) where
       → Valued-at (λ x. draft kindNumber (toBits binary64 x)) signedNumber ks us i k a j
   number-found h =
       let s = drop i (heldRow ks us) in
-      valued-at (λ x. draft kindNumber (toBits binary64 x)) signedNumber (λ o v x r. signed-size (r .0)) w (signed-out 0 s)
-      (quiet-signed s) h
+      valued-at (λ x. draft kindNumber (toBits binary64 x)) signedNumber (λ o v x r. signed-size (r .0)) w
+      (signed-out 0 s) (quiet-signed s) h
 
   pub initial-found : {k a j : ℕ} → Found k a j ≡ initialAt ks us i → Valued-at initialDraft initially ks us i k a j
   initial-found h =
@@ -258,8 +259,8 @@ module _ {ks us : List ℕ} {i : ℕ} (w : Within ks us i) where
       → Meets ks us (λ s. bind (signedNumber s) k) i p l u (stopped 18 j) l u
   number-stops k h =
       let s = drop i (heldRow ks us) in
-      missing-at (λ x. draft kindNumber (toBits binary64 x)) signedNumber (λ o v x r. signed-size (r .0)) w (signed-out 0 s)
-      (quiet-signed s) k h
+      missing-at (λ x. draft kindNumber (toBits binary64 x)) signedNumber (λ o v x r. signed-size (r .0)) w
+      (signed-out 0 s) (quiet-signed s) k h
 
   pub initial-stops : {B : Type 0} {j p : ℕ} {l u : List ℕ} (k : Initial → List Symbol → Res B)
       → Missing j ≡ initialAt ks us i

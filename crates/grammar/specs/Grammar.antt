@@ -36,8 +36,8 @@ pub data Der : Mode → ℕ → List Symbol → Tree → Type 0 where
   -- wants
   a-leaf : {d : ℕ} {t : Symbol} {e : Tree} → factorStart t ≡ Leaf e → Der factor d (t ∷ []) e
   grouped : {d : ℕ} {w : List Symbol} {e : Tree} → Der (opened group) d w e → Der factor d w e
-  called : {d : ℕ} {p : Opening} {t : Symbol} {w : List Symbol} {e : Tree} → factorStart t ≡ Call p → Der (opened p) d w e
-      → Der factor d (t ∷ w) e
+  called : {d : ℕ} {p : Opening} {t : Symbol} {w : List Symbol} {e : Tree} → factorStart t ≡ Call p
+      → Der (opened p) d w e → Der factor d (t ∷ w) e
   -- an opening is one level more; its expressions stand with commas between, and a closing mark behind the last
   opening : {d : ℕ} {p : Opening} {w : List Symbol} {e : Tree} → Der (list p) d w e
       → Der (opened p) (suc d) (mark 40 ∷ w) e

@@ -14,8 +14,8 @@ use Rattle.drafts.specs.Drafts.{Draft, draft, drafted, constantDrafts, initialD
 use Rattle.grammar.specs.Look.{next, rest, byteOf, Op, none, op, addOp, mulOp, isMinus, signed, Given, full}
 use Rattle.grammar.specs.Look.{wants, give-to}
 use Rattle.grammar.specs.Look.{Opening, group, pair, pair-of, triple, triple-of, triple-of-two}
-use Rattle.grammar.specs.Look.{FactorStart, Leaf, Paren, Call, NoFactor, factorStart, Start, Constants, Integral, Named}
-use Rattle.grammar.specs.Look.{Valued, Other, startOf}
+use Rattle.grammar.specs.Look.{FactorStart, Leaf, Paren, Call, NoFactor, factorStart}
+use Rattle.grammar.specs.Look.{Start, Constants, Integral, Named, Valued, Other, startOf}
 use Rattle.grammar.specs.Grammar.{Mode, expr, term, factor, terms, factors, opened, list}
 
 -- how reading ends: with what was read and the tokens left; or with a fault's code and the tokens left, the fault's
@@ -56,8 +56,8 @@ abbrev pub byOp : {A : Type 0} → Op → (Unit {0} → Res A) → (Two → Res 
 byOp none x y = x tt
 byOp (op o) x y = y o
 
-abbrev pub byFactor : {A : Type 0} → FactorStart → (Tree → Res A) → (Unit {0} → Res A) → (Opening → Res A) → (Unit {0} → Res A)
-    → Res A
+abbrev pub byFactor : {A : Type 0} → FactorStart → (Tree → Res A) → (Unit {0} → Res A) → (Opening → Res A)
+    → (Unit {0} → Res A) → Res A
 byFactor (Leaf e) x p y z = x e
 byFactor Paren x p y z = p tt
 byFactor (Call o) x p y z = y o

@@ -66,7 +66,8 @@ module _ (b : ℕ) where
   reading-below fresh n (l ∷ ls) h o = go (passed l) (dotted l) (λ s o. reading-below s (suc n) ls (omega arith) o)
     where
       go : (p d : Bool) → ((s : State) → Open s → Every FirstBelow (reading s (suc n) ls))
-          → Every FirstBelow (cond p [] (justClosed d n (l ∷ [])) ++ reading (cond p fresh (goes-on d n (l ∷ []))) (suc n) ls)
+          → Every FirstBelow
+          (cond p [] (justClosed d n (l ∷ [])) ++ reading (cond p fresh (goes-on d n (l ∷ []))) (suc n) ls)
       go true d ih = ih fresh tt
       go false true ih = ih (inside n (l ∷ [])) (omega arith)
       go false false ih = (omega arith, ih fresh tt)

@@ -25,8 +25,8 @@ use Rattle.order.proofs.Searches.{first-skip, first-bound}
 use Rattle.order.proofs.Marking.{ready-same, cursors-mark}
 use Rattle.order.proofs.Flagging.{flags-tell, flags-mark}
 
--- k statements are placed: they stand at the front of `out` and have their marks, and with those that are still to be placed
--- they make the order; none before `from` is flagged
+-- k statements are placed: they stand at the front of `out` and have their marks, and with those that are still to be
+-- placed they make the order; none before `from` is flagged
 pub record Going (n : ℕ) (s u lent out marks flags cursors heads links waits : List ℕ) (from k : ℕ) : Type 0 where
   pub fit : Fit n s u
   pub room : n ≤ length lent

@@ -40,8 +40,8 @@ unfolding trials listing listed figuresIn verdictOf judged linesOf trimmed dotte
     concat-map sameBytes numbers run count lowWord decimal digitsFrom exponentFrom tenTo scaled tokenOf numberAt nameAt
     tokenAt cutAt
     lookUp symbolNamed rowFrom rowOf
-    names postfix next rest byteOf give-to factorStart startOf bind parse signedNumber many initially assigned integrated
-    statement entire readRow
+    names postfix next rest byteOf give-to factorStart startOf bind parse signedNumber many initially assigned
+    integrated statement entire readRow
     any chained all first ready nextReady place order placeIn again faults21 within modelFaults valueIn program ofBits
     ofInt mul div neg round
     units size climb span odd

@@ -18,7 +18,9 @@ returns-2 c =
 returns-3 : tie.Need-returns-3
 returns-3 c =
     let other = sym (c .before .before .before .is-defining .ensures) ∙ c .before .before .if1 .left in
-    sym (or-left _ _ (eq-eqb _ kindRate (c .if3 .taken))) ∙ or-skip (ne-eqb _ kindFetch (c .before .if2 .left)) ∙ or-skip other
+    sym (or-left _ _ (eq-eqb _ kindRate (c .if3 .taken)))
+    ∙ or-skip (ne-eqb _ kindFetch (c .before .if2 .left))
+    ∙ or-skip other
 
 returns-4 : tie.Need-returns-4
 returns-4 c =

@@ -13,12 +13,14 @@ returns-2 c = (rw (le-leb kindConstant _ (c .before .if1 .left), le-leb _ kindRa
 returns-3 : tie.Need-returns-3
 returns-3 c =
     let a = c .before .before in
-    (rw (le-leb kindConstant _ (a .if1 .left), lt-leb _ kindRate (c .before .if2 .left), eq-eqb _ kindClock (c .if3 .taken)), search needs)
+    let above = lt-leb _ kindRate (c .before .if2 .left) in
+    (rw (le-leb kindConstant _ (a .if1 .left), above, eq-eqb _ kindClock (c .if3 .taken)), search needs)
 
 returns-4 : tie.Need-returns-4
 returns-4 c =
     let a = c .before .before in
-    (rw (le-leb kindConstant _ (a .if1 .left), lt-leb _ kindRate (c .before .if2 .left), ne-eqb _ kindClock (c .if3 .left)), search needs)
+    let above = lt-leb _ kindRate (c .before .if2 .left) in
+    (rw (le-leb kindConstant _ (a .if1 .left), above, ne-eqb _ kindClock (c .if3 .left)), search needs)
 
 pub records-of-spec : {M : Type 1} → statement M
 records-of-spec = tie.close (tie.spec returns returns-2 returns-3 returns-4)
