@@ -1,31 +1,23 @@
 // Plans arrays that are those of no text, as model/specs/Plan says, and writes a program where there is too little
 // room.
+use bits::reads::short_at;
+use bits::reads::word_at;
 use limits::STATEMENTS;
 use model::answer::Plan;
 use tally::Tally;
 
-// The number at a place, 0 past the end.
-fn word(s: &[u64], i: usize) -> usize {
-    if i < s.len() { s[i] as usize } else { 0 }
-}
-
-// The same of numbers of two bytes.
-fn short(s: &[u16], i: usize) -> usize {
-    if i < s.len() { s[i] as usize } else { 0 }
-}
-
 // The first three numbers are these.
 fn words(t0: Tally, s: &[u64], a: usize, b: usize, c: usize) -> Tally {
-    let mut t = tally::number(t0, word(s, 0), a);
-    t = tally::number(t, word(s, 1), b);
-    tally::number(t, word(s, 2), c)
+    let mut t = tally::number(t0, word_at(s, 0) as usize, a);
+    t = tally::number(t, word_at(s, 1) as usize, b);
+    tally::number(t, word_at(s, 2) as usize, c)
 }
 
 // The same of numbers of two bytes.
 fn shorts(t0: Tally, s: &[u16], a: usize, b: usize, c: usize) -> Tally {
-    let mut t = tally::number(t0, short(s, 0), a);
-    t = tally::number(t, short(s, 1), b);
-    tally::number(t, short(s, 2), c)
+    let mut t = tally::number(t0, short_at(s, 0), a);
+    t = tally::number(t, short_at(s, 1), b);
+    tally::number(t, short_at(s, 2), c)
 }
 
 // The plan has this number, and these counts of faults, definitions and equations.
