@@ -1,8 +1,8 @@
 -- What is worked out by place over the arrays of a sheet is what the definitions say of its statements.
-use Prim.Native.Nat.{ℕ, _<_}
+use Prim.Native.Nat.{ℕ}
 use mathlib.Core.Path.{_≡_}
 use mathlib.Core.List.{List, []}
-use lib.ListN.{length, getD}
+use lib.ListN.{length}
 use Rattle.laws.specs.Counts.{has}
 use Rattle.sheet.specs.Sheet.{Numbered}
 use Rattle.sheet.specs.Layout.{Laid}
@@ -11,7 +11,7 @@ use Rattle.model.specs.Definitions.{Def, definitions, keys, equationCoun
 use Rattle.model.specs.Faults.{faults21, nameFaults, faults24, orderOf}
 use Rattle.model.specs.Places.{keysIn, placesIn, doubles, resolved, nameless, equatedIn, loops}
 use Rattle.model.proofs.SheetWalk.{sheetSlots}
-use Rattle.model.proofs.KeyPlaces.{noDef, keys-once}
+use Rattle.model.proofs.KeyPlaces.{keys-once}
 use Rattle.model.proofs.SheetKeys.{keys-of, places-length, doubles-of}
 use Rattle.model.proofs.SheetNames.{names-of}
 use Rattle.model.proofs.SheetEquations.{equated-length}
@@ -44,13 +44,6 @@ module _ (ss : List Numbered) (kinds args lines bounds : List ℕ) (laid : Laid 
   -- THE PLACES: as many as there are definitions
   pub places-meant : length places ≡ length ds
   places-meant = rw (laid .kinds-held) (places-length ss)
-
-  module _ (d : ℕ) (h : d < length ds) where
-    abbrev def : Def
-    def = getD ds d noDef
-
-    abbrev place : ℕ
-    place = getD places d 0
 
   -- 21
   pub doubles-meant : doubles lines bounds kinds args ≡ faults21 [] ss

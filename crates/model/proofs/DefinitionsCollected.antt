@@ -23,9 +23,9 @@ pub put-one : (b : Bool) (x d : ℕ) {l l′ : List ℕ} → b ≡ true → l′
 put-one true x d t e = record { behind = refl; written = e }
 put-one false x d t e = absurd (not-both t refl)
 
-pub put-none : (b : Bool) (x d : ℕ) (l : List ℕ) → b ≡ false → Put (onlyIf b x) d d l l
-put-none true x d l t = absurd (not-both refl t)
-put-none false x d l t = record { behind = omega arith; written = refl }
+pub put-unless : (b : Bool) (x d : ℕ) (l : List ℕ) → b ≡ false → Put (onlyIf b x) d d l l
+put-unless true x d l t = absurd (not-both refl t)
+put-unless false x d l t = record { behind = omega arith; written = refl }
 
 -- a definition, and a draft that is none
 pub noted : (kind key place d : ℕ) {keys keys′ places places′ : List ℕ} → defines kind ≡ true
@@ -36,7 +36,7 @@ noted kind key place d t k p =
 pub not-noted : (kind key place d : ℕ) (keys places : List ℕ) → defines kind ≡ false
     → Noted kind key place d d keys keys places places
 not-noted kind key place d keys places t =
-    record { keys-so = put-none (defines kind) key d keys t; placed = put-none (defines kind) place d places t }
+    record { keys-so = put-unless (defines kind) key d keys t; placed = put-unless (defines kind) place d places t }
 
 -- the loop stands at draft i, with d definitions
 pub record Collecting (kinds args keys₀ places₀ : List ℕ) (d i : ℕ) (keys places : List ℕ) : Type 0 where

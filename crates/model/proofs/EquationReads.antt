@@ -16,7 +16,7 @@ use Rattle.drafts.specs.Places.{begins, ends, lastKind}
 use Rattle.laws.specs.Put.{Put}
 use Rattle.model.specs.Places.{isEquation, assignedSlot}
 use Rattle.model.specs.Working.{usedHere}
-use Rattle.model.proofs.DefinitionsCollected.{only-length, put-one, put-none}
+use Rattle.model.proofs.DefinitionsCollected.{only-length, put-one, put-unless}
 
 module _ (bounds kinds : List ℕ) (j : ℕ) where
   -- the kind of the last draft, as it was read
@@ -49,7 +49,7 @@ module _ (owners : List ℕ) (kind slot w : ℕ) where
 
   module _ {owner : ℕ} (e : kind ≡ kindFetch) (o : owner ≡ getD owners slot 0) where
     pub use-none : (used : List ℕ) → owner ≡ 0 → Put (usedHere owners kind slot) w w used used
-    use-none used z = rw (eq-eqb kind kindFetch e) (put-none _ _ w used (le-ltb 0 (getD owners slot 0) (omega arith)))
+    use-none used z = rw (eq-eqb kind kindFetch e) (put-unless _ _ w used (le-ltb 0 (getD owners slot 0) (omega arith)))
 
     pub use-one : {used used′ : List ℕ} → (owner ≡ 0 → ⊥) → used′ ≡ set used w (owner - 1)
         → Put (usedHere owners kind slot) w (w + 1) used used′

@@ -17,6 +17,7 @@ use Rattle.laws.proofs.Counts.{count-append, once-same, once-other, has-true, h
 use Rattle.laws.proofs.Concats.{map-append, none-left}
 use Rattle.laws.proofs.Members.{at-in}
 use Rattle.drafts.specs.Tree.{value}
+use Rattle.drafts.specs.Kinds.{kindConstant}
 use Rattle.sheet.specs.Sheet.{Numbered}
 use Rattle.model.specs.Definitions.{What, constant, assigned, integral, Def, defined, definedBy, definitions}
 use Rattle.model.specs.Definitions.{keys, placeIn, Equation, equationOf}
@@ -155,7 +156,7 @@ abbrev pub noDef : Def
 noDef = defined 0 0 (assigned (value nan))
 
 abbrev pub isConstant : What → Bool
-isConstant w = eqb (kindOfWhat w) 1
+isConstant w = eqb (kindOfWhat w) kindConstant
 
 -- the definition of a name
 abbrev pub definitionOf : List Def → ℕ → Def

@@ -38,15 +38,6 @@ place-le k (a ∷ l) =
     cond-ind (λ (r : ℕ). r ≤ suc (length l)) (eqb k a) 0 (suc (placeIn k l)) (λ _. omega arith)
     (λ _. omega (arith, place-le k l))
 
-pub place-there : (k : ℕ) (l : List ℕ) → placeIn k l < length l → getD l (placeIn k l) 0 ≡ k
-unfolding placeIn
-place-there k [] h = absurd (omega arith)
-place-there k (a ∷ l) h =
-    ⊎-elim (λ (e : k ≡ a). rw (eq-eqb k a e) (sym e))
-    (λ (n : k ≡ a → ⊥). rw (ne-eqb k a n)
-    (place-there k l (let m : suc (placeIn k l) < suc (length l) = rw (ne-eqb k a n) at h in omega arith)))
-    (eq-or-ne k a)
-
 -- ---- the first place from here on whose key has a remainder
 module _ (keys : List ℕ) (b i : ℕ) where
   next-step : i < length keys → nextFrom keys b i

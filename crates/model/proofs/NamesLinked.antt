@@ -1,16 +1,15 @@
 -- Names resolved and uses listed: a turn of each of the two loops, over drafts and over statements, and their ends.
-use Prim.Native.Nat.{ℕ, suc, _+_, _-_, _≤_, _<_}
+use Prim.Native.Nat.{ℕ, _+_, _-_, _≤_, _<_}
 use mathlib.Core.Path.{_≡_, refl, sym, ap, ap₂, _∙_}
 use mathlib.Core.Bool.{Bool, true, false, cond}
 use mathlib.Core.List.{List, [], _∷_, _++_}
 use native.Mathlib.Omega.{arith}
 use lib.Dec.{eqb, ltb}
-use lib.ListN.{length, getD, set, take, length-append, length-set}
+use lib.ListN.{length, getD, set, take, length-set}
 use lib.Seq.{sets, length-sets, take-all}
 use Rattle.laws.specs.Places.{gather, onlyIf}
 use Rattle.laws.proofs.Tests.{cond-ind}
 use Rattle.laws.proofs.Bools.{or-false}
-use Rattle.laws.proofs.Sets.{sets-append}
 use Rattle.laws.proofs.Gathers.{gather-more, gather-none, gather-same}
 use Rattle.drafts.specs.Kinds.{kindFetch, defines, isNamed}
 use Rattle.drafts.specs.Places.{begins, ends, inStatement}
@@ -21,27 +20,13 @@ use Rattle.model.specs.Plan.{ownSlots}
 use Rattle.model.specs.Working.{flawedBy, usedOwner, usedHere, usedFrom, Resolved, Resolving, Linking, Walked}
 use Rattle.model.specs.Working.{Linkable, Tabled, Linked}
 use Rattle.model.specs.declared.names.Walk.{Walk}
+use Rattle.model.proofs.Puts.{put-none, put-both}
 use Rattle.model.proofs.DefinitionsCollected.{only-length}
 use Rattle.model.proofs.NamesResolved.{resolving-first, resolving-flawed, resolving-clear, resolving-other}
 use Rattle.model.proofs.NamesResolved.{resolving-last, slot-here}
 use Rattle.model.proofs.SlotOwners.{used-same}
 use Rattle.model.proofs.UsesTabled.{rises-to, gather-next, ends-within, usesOf, usesTo, beginAt, whole-uses}
 use Rattle.model.proofs.UsesTabled.{whole-begin}
-
--- ---- one part more is written behind a row
-put-append : {x y : List ℕ} {w₀ w r : ℕ} {buf₀ buf buf′ : List ℕ} → Put x w₀ w buf₀ buf → Put y w r buf buf′
-    → Put (x ++ y) w₀ r buf₀ buf′
-put-append {x} {y} {w₀} {buf₀ = buf₀} p q =
-    record {
-      behind = omega (arith, p .behind, q .behind, length-append x y);
-      written =
-          q .written ∙ ap₂ (λ (b : List ℕ) (n : ℕ). sets b n y) (p .written) (p .behind)
-          ∙ sym (sets-append buf₀ w₀ x y);
-    }
-
--- nothing is written
-put-none : (w : ℕ) (buf : List ℕ) → Put [] w w buf buf
-put-none w buf = record { behind = omega arith; written = refl }
 
 -- a draft uses at most one equation, and one that is no name uses none
 used-one : (owners : List ℕ) (kind slot : ℕ) → length (usedHere owners kind slot) ≤ 1
@@ -66,7 +51,7 @@ linking-first : {keys kinds places args₀ args : List ℕ} {flawed : Bool} {i :
 unfolding gather
 linking-first {i = i} owners used w r =
     let e : i - i ≡ 0 = omega arith in
-    record { resolving = r; uses = rw e (put-none w used) }
+    record { resolving = r; uses = rw e (put-none w used refl) }
 
 -- ---- the loop over drafts stands at draft i, with w numbers listed; it began at `from` with what n tells
 pub record Walking (keys kinds places owners args₁ used₁ : List ℕ) (from end : ℕ) (n : Walk) (w : ℕ) (flawed : Bool)
@@ -119,7 +104,7 @@ module _ {keys kinds places owners args₁ used₁ args used : List ℕ} {from e
       so args₀ k =
           let f = usedFrom owners kinds (resolved keys kinds args₀) in
           let m = more args₀ (omega (arith, k .resolving .long, v .long)) (k .resolving) in
-          record { resolving = m .0; uses = rw (gather-more f from i (v .beyond), ← (m .1)) (put-append (k .uses) put) }
+          record { resolving = m .0; uses = rw (gather-more f from i (v .beyond), ← (m .1)) (put-both (k .uses) put) }
 
   -- a draft is a name: it is resolved, and what it uses is listed
   module _ {slot r r′ : ℕ} {args′ used′ used″ : List ℕ} (h : i < end)
@@ -152,7 +137,7 @@ module _ {keys kinds places owners args₁ used₁ args used : List ℕ} {from e
       → args′ ≡ args → used′ ≡ used → r ≡ w → after ≡ flawed
       → Walking keys kinds places owners args₁ used₁ from end n r after (i + 1) args′ used′
   walking-other h m a u c z =
-      further h (rw (u, c) (put-none w used)) (omega arith) (ap length a)
+      further h (rw (u, c) (put-none w used refl)) (omega arith) (ap length a)
       (λ args₀ wide k. (
         resolving-other k (omega arith) wide m a z,
         sym (used-other owners (getD kinds i 0) (getD (resolved keys kinds args₀) i 0) m),
@@ -228,8 +213,8 @@ module _ {lines bounds kinds keys owners args₀ used₀ : List ℕ} (places sta
         long-starts = refl;
         long-used = refl;
         resolving = rw (s .sound .first) (resolving-first keys kinds places args₀);
-        uses = put-none 0 used₀;
-        begun = put-none 0 starts₀;
+        uses = put-none 0 used₀ refl;
+        begun = put-none 0 starts₀ refl;
       }
 
   module _ {n : Walk} {r j : ℕ} {args starts used : List ℕ}
@@ -275,15 +260,13 @@ module _ {lines bounds kinds keys owners args₀ used₀ : List ℕ} (places sta
           long-starts = ap length (put .written) ∙ length-sets starts r (onlyIf b w) ∙ v .long-starts;
           long-used = long ∙ v .long-used;
           resolving = rw q at (linked .resolving);
-          uses = rw (next (usesOf own bounds kinds slots)) (put-append (v .uses) (rw uses-same at (linked .uses)));
-          begun = rw (next (beginAt own bounds kinds slots)) (put-append (v .begun) (rw begin-same at put));
+          uses =
+              rw (gather-next (usesOf own bounds kinds slots) j) (put-both (v .uses) (rw uses-same at (linked .uses)));
+          begun = rw (gather-next (beginAt own bounds kinds slots) j) (put-both (v .begun) (rw begin-same at put));
         }
       where
         linked : Linking keys kinds places (take m owners) args₀ used from (n .count) end n′ args′ used′
         linked = so args₀ (rw p (v .resolving))
-
-        next : {A : Type 0} (f : ℕ → List A) → gather f (j + 1) 0 ≡ gather f j 0 ++ f j
-        next f = let e : j + 1 ≡ suc j = omega arith in rw e (gather-next f j)
 
         uses-same : gather (usedFrom (take m owners) kinds slots) (end - from) from ≡ usesOf own bounds kinds slots j
         uses-same =
@@ -322,6 +305,6 @@ module _ {lines bounds kinds keys owners args₀ used₀ : List ℕ} (places sta
         tabled =
             record {
               uses = rw all at (v .uses);
-              begun = put-append (v .begun) behind .written
+              begun = put-both (v .begun) behind .written
                   ∙ ap (sets starts₀ 0) row;
             }

@@ -23,9 +23,6 @@ use Rattle.model.specs.Working.{flawedBy, flawedAt, Resolved, Resolving,
 use Rattle.model.proofs.FaultsListed.{if-length}
 
 -- ---- tests one after the other
-pub or-skip : {a b : Bool} → a ≡ false → b ≡ (a || b)
-or-skip {a} {b} e = rw e
-
 or-true-right : (a : Bool) {b : Bool} → b ≡ true → (a || b) ≡ true
 or-true-right a {b} e = or-right a b e
 
@@ -69,12 +66,12 @@ resolved-at keys (k ∷ kinds) (a ∷ args) (suc i) h l = resolved-at keys kinds
 
 -- the slot of a store, found before its name is resolved
 pub slot-stored : (keys kinds args : List ℕ) (i : ℕ) {kind r a : ℕ} → length kinds ≤ length args → kind ≡ getD kinds i 0
-    → kind ≡ 13
+    → kind ≡ kindStore
     → a ≡ getD args i 0 → r ≡ placeIn a keys → r + 1 ≡ getD (resolved keys kinds args) i 0
 slot-stored keys kinds args i {kind} {r} {a} l k e p q =
     let stored : getD kinds i 0 ≡ kindStore = sym k ∙ e in
     let value : getD (resolved keys kinds args) i 0 ≡ suc (placeIn (getD args i 0) keys) =
-    resolved-at keys kinds args i (stands 13 kinds i refl stored) l
+    resolved-at keys kinds args i (stands kindStore kinds i refl stored) l
     ∙ ap (λ (j : ℕ). resolvedAt keys j (getD args i 0)) stored in
     let same : r ≡ placeIn (getD args i 0) keys = q ∙ ap (λ (x : ℕ). placeIn x keys) p in
     omega (arith, value, same)

@@ -14,7 +14,7 @@ use Rattle.laws.proofs.Gathers.{gather-none, gather-same}
 use Rattle.laws.proofs.Along.{gather-numbers, map-gather}
 use Rattle.laws.proofs.Members.{Below}
 use Rattle.laws.proofs.Chosen.{chosen, chosen-rises, chosen-passes, chosen-all}
-use Rattle.order.specs.Order.{_≼_, Unsortable, unsortable}
+use Rattle.order.specs.Order.{Unsortable, unsortable}
 use Rattle.order.proofs.Sorting.{perm-below}
 use Rattle.order.proofs.Dictionary.{≼-antisym}
 use Rattle.order.proofs.Chains.{unsortable-iff}

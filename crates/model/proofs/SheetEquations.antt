@@ -1,10 +1,10 @@
 -- Which statements of a sheet are its equations, and what stands there.
 use Prim.Native.Nat.{ℕ, suc, _≤_, _<_}
 use mathlib.Core.Path.{_≡_, refl, sym, ap, _∙_}
-use mathlib.Core.Bool.{Bool, true, false, cond, _||_}
+use mathlib.Core.Bool.{Bool, true, false, cond}
 use mathlib.Core.List.{List, [], _∷_, _++_, map, append-nil}
 use native.Mathlib.Omega.{arith}
-use Rattle.drafts.specs.Kinds.{kindNumber, kindConstant, kindInitial, kindFetch, kindStore, kindRate}
+use Rattle.drafts.specs.Kinds.{kindNumber, kindConstant, kindInitial, kindFetch, kindStore, kindRate, closes}
 use borrow.Author.Tests.{lt-ltb, le-ltb}
 use lib.Dec.{eqb}
 use lib.ListN.{length, getD, length-append, length-map}
@@ -23,7 +23,7 @@ use Rattle.model.specs.Places.{isEquation, equatedIn, assignedSlot, used
 use Rattle.model.proofs.Lines.{no-equations}
 use Rattle.model.proofs.StatementDrafts.{expressionDrafts, expression-names}
 use Rattle.model.proofs.SheetWalk.{sheetKinds, sheetLines, sheetBounds, sheetKeys, sheetSlots, sheetEquated}
-use Rattle.model.proofs.SheetWalk.{slotOf}
+use Rattle.model.proofs.SheetWalk.{draftSlot}
 use Rattle.model.proofs.SheetWalk.{kind-at, slot-at, draftsBy, begins-at}
 use Rattle.model.proofs.SheetWalk.{ends-at, line-at, in-statement, last-at}
 use Rattle.model.proofs.SheetKeys.{definedIn}
@@ -85,7 +85,7 @@ module _ (ss : List Numbered) where
 
     -- it says whether the statement is an equation
     ends-with : (m : List Draft) (z : Draft) → draftsBy s ≡ m ++ (z ∷ [])
-        → isEquated (length a) ≡ (eqb (z .kind) 13 || eqb (z .kind) 14)
+        → isEquated (length a) ≡ closes (z .kind)
     ends-with m z e =
         let l : begin < end =
         omega (arith, begins-at ss a s b p, ends-at ss a s b p, ap length e, length-append m (z ∷ [])) in
@@ -153,7 +153,7 @@ module _ (ss : List Numbered) where
   -- by its last draft
   last-slot : (a : List Numbered) (s : Numbered) (b : List Numbered) (p : ss ≡ a ++ s ∷ b) (m : List Draft) (z : Draft)
       → draftsBy s ≡ m ++ (z ∷ [])
-      → assignedAt (length a) ≡ cond (eqb (z .kind) 13) (slotOf ks z) 0
+      → assignedAt (length a) ≡ cond (eqb (z .kind) kindStore) (draftSlot ks z) 0
   last-slot a s b p m z e = rw (last-kind a s b p m z e, slot-at ks (draftsIn ss) _, last-at ss a s b p m z e)
 
   -- THE SLOTS that the equations assign
@@ -170,10 +170,10 @@ module _ (ss : List Numbered) where
 
     -- of a draft
     abbrev usedByDraft : Draft → List ℕ
-    usedByDraft d = cond (eqb (d .kind) kindFetch) (usedBy assigned (slotOf ks d)) []
+    usedByDraft d = cond (eqb (d .kind) kindFetch) (usedBy assigned (draftSlot ks d)) []
 
     -- of an expression with one draft behind it
-    used-ending : (t : Tree) (z k : ℕ) → eqb z 4 ≡ false
+    used-ending : (t : Tree) (z k : ℕ) → eqb z kindFetch ≡ false
         → concat-map usedByDraft (expressionDrafts t ++ (draft z k ∷ [])) ≡ usedByNames assigned ks (names t)
     used-ending t z k q =
         expression-names usedByDraft (λ k. usedBy assigned (suc (placeIn k ks))) (λ k. refl) (λ k a p q. rw q) t
@@ -184,8 +184,8 @@ module _ (ss : List Numbered) where
     used-state : (k : ℕ) (i : Initial) (t : Tree)
         → concat-map usedByDraft (draftsOf (state k i t)) ≡ usedByNames assigned ks (names t)
     unfolding concat-map
-    used-state k (plain x) t = used-ending t 14 k refl
-    used-state k (from c) t = used-ending t 14 k refl
+    used-state k (plain x) t = used-ending t kindRate k refl
+    used-state k (from c) t = used-ending t kindRate k refl
 
     -- of a statement of the sheet
     used-statement : (a : List Numbered) (s : Numbered) (b : List Numbered) → ss ≡ a ++ s ∷ b
@@ -200,5 +200,5 @@ module _ (ss : List Numbered) where
     uses-equated =
         equated-by usedIn (λ (e : Equation). usedByNames assigned ks (names (e .tree)))
         (λ a s b p k t e. used-statement a s b p ∙ ap (λ x. concat-map usedByDraft (draftsOf x)) e
-        ∙ used-ending t 13 k refl)
+        ∙ used-ending t kindStore k refl)
         (λ a s b p k i t e. used-statement a s b p ∙ ap (λ x. concat-map usedByDraft (draftsOf x)) e ∙ used-state k i t)

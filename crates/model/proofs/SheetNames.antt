@@ -20,12 +20,12 @@ use Rattle.sheet.specs.Sheet.{Numbered, Fault}
 use Rattle.sheet.specs.Layout.{draftsIn}
 use Rattle.model.specs.Definitions.{Def, definedBy, definitions, placeIn}
 use Rattle.model.specs.Faults.{initialNames, constantKeys, within, nameFault, nameFaultOf, nameFaults}
-use Rattle.drafts.specs.Kinds.{kindConstant, kindFetch, kindFrom, asks}
+use Rattle.drafts.specs.Kinds.{kindNumber, kindConstant, kindInitial, kindFetch, kindStore, kindRate, kindFrom, asks}
 use Rattle.drafts.specs.Places.{homeOf}
 use Rattle.model.specs.Places.{undefinedAt, unfitAt, namesAt, nameless}
 use Rattle.model.proofs.StatementDrafts.{noDraft, expressionDrafts, expression-names, Home, homeOfDef}
 use Rattle.model.proofs.SheetWalk.{sheetKinds, sheetLines, sheetBounds, sheetKeys, sheetSlots, sheetPlaces}
-use Rattle.model.proofs.SheetWalk.{slotOf, kind-at, slot-at, line-at}
+use Rattle.model.proofs.SheetWalk.{draftSlot, kind-at, slot-at, line-at}
 use Rattle.model.proofs.SheetWalk.{any-statement}
 use Rattle.model.proofs.KeyPlaces.{Once, place-in, slot-past, noDef, definitionOf, constant-at}
 use Rattle.model.proofs.SheetKeys.{definedIn, homeAt, homes-of, places-length}
@@ -59,10 +59,11 @@ module _ (G : Draft → Bool) (F I : ℕ → Bool) (four : (a : ℕ) → G (draf
   unfolding concat-map
   constants-marks [] = refl
   constants-marks (c ∷ cs) =
-      rw (rest 1 (c .key) refl refl, rest 0 (toBits binary64 (c .worth)) refl refl) (constants-marks cs)
+      rw (rest kindConstant (c .key) refl refl, rest kindNumber (toBits binary64 (c .worth)) refl refl)
+      (constants-marks cs)
 
   -- an expression with one draft behind it has those of its names
-  ending-marks : (e : Tree) (z k : ℕ) → eqb z 4 ≡ false → eqb z 16 ≡ false
+  ending-marks : (e : Tree) (z k : ℕ) → eqb z kindFetch ≡ false → eqb z kindFrom ≡ false
       → concat-map (λ d. mark (G d)) (expressionDrafts e ++ (draft z k ∷ [])) ≡ marks F (names e)
   unfolding concat-map
   ending-marks e z k p q =
@@ -74,12 +75,13 @@ module _ (G : Draft → Bool) (F I : ℕ → Bool) (four : (a : ℕ) → G (draf
   statement-marks : (x : Says) → concat-map (λ d. mark (G d)) (draftsOf x) ≡ marks I (initials x) ++ marks F (spoken x)
   unfolding concat-map
   statement-marks (constants cs) = constants-marks cs
-  statement-marks (assignment k e) = ending-marks e 13 k refl refl
+  statement-marks (assignment k e) = ending-marks e kindStore k refl refl
   statement-marks (state k (plain x) e) =
-      rw (rest 2 k refl refl, rest 0 (toBits binary64 x) refl refl) (ending-marks e 14 k refl refl)
+      rw (rest kindInitial k refl refl, rest kindNumber (toBits binary64 x) refl refl)
+      (ending-marks e kindRate k refl refl)
   statement-marks (state k (from c) e) =
-      rw (rest 2 k refl refl, sixteen c, append-nil (mark (I c)))
-      (ap (λ r. mark (I c) ++ r) (ending-marks e 14 k refl refl))
+      rw (rest kindInitial k refl refl, sixteen c, append-nil (mark (I c)))
+      (ap (λ r. mark (I c) ++ r) (ending-marks e kindRate k refl refl))
 
 -- a mark for each that does not stand in l: none, if all do
 missing : (ks l : List ℕ) → not (filled (marks (λ k. not (has k l)) ks)) ≡ within ks l
@@ -122,7 +124,7 @@ module _ (ss : List Numbered) where
   lostAt i = undefinedAt (length (sheetPlaces ss)) (sheetKinds ss) (sheetSlots ss) i
 
   abbrev lost : Draft → Bool
-  lost d = asks (d .kind) && ltb (length (sheetPlaces ss)) (slotOf ks d)
+  lost d = asks (d .kind) && ltb (length (sheetPlaces ss)) (draftSlot ks d)
 
   lost-at : (i : ℕ) → lostAt i ≡ lost (getD (draftsIn ss) i noDraft)
   lost-at i = rw (kind-at (draftsIn ss) i, slot-at ks (draftsIn ss) i)
@@ -149,7 +151,8 @@ module _ (ss : List Numbered) where
 
   abbrev unfit : Draft → Bool
   unfit d =
-      eqb (d .kind) kindFrom && not (eqb (getD (sheetKinds ss) (homeOf (sheetPlaces ss) (slotOf ks d)) 0) kindConstant)
+      eqb (d .kind) kindFrom
+      && not (eqb (getD (sheetKinds ss) (homeOf (sheetPlaces ss) (draftSlot ks d)) 0) kindConstant)
 
   unfit-at : (i : ℕ) → unfitIn i ≡ unfit (getD (draftsIn ss) i noDraft)
   unfit-at i = rw (kind-at (draftsIn ss) i, slot-at ks (draftsIn ss) i)

@@ -14,32 +14,25 @@ use Rattle.laws.proofs.Concats.{map-append}
 use Rattle.laws.proofs.Along.{gather-part, filled, any-filled, startsAt, start-at, end-at}
 use Rattle.drafts.specs.Drafts.{Draft, draftsOf}
 use Rattle.sheet.specs.Sheet.{Numbered}
-use Rattle.sheet.specs.Layout.{draftsIn, boundsFrom}
+use Rattle.sheet.specs.Layout.{draftsIn, draftKinds, draftArgs, boundsFrom}
 use Rattle.model.specs.Definitions.{definitions, keys}
 use Rattle.drafts.specs.Places.{begins, ends, inStatement, anyOf}
 use Rattle.model.specs.Places.{placesIn, resolvedAt, resolved, equatedIn}
 use Rattle.model.proofs.StatementDrafts.{noDraft}
 
--- ---- the arrays of drafts: kinds and arguments
-abbrev pub kindsOf : List Draft → List ℕ
-kindsOf ds = map (λ (d : Draft). d .kind) ds
+-- ---- the arguments of drafts with names resolved by ks, of all drafts and of one
+abbrev pub draftSlots : List ℕ → List Draft → List ℕ
+draftSlots ks ds = resolved ks (draftKinds ds) (draftArgs ds)
 
-abbrev pub argsOf : List Draft → List ℕ
-argsOf ds = map (λ (d : Draft). d .arg) ds
-
--- .. and arguments with names resolved by ks, of all drafts and of one
-abbrev pub slotsOf : List ℕ → List Draft → List ℕ
-slotsOf ks ds = resolved ks (kindsOf ds) (argsOf ds)
-
-abbrev pub slotOf : List ℕ → Draft → ℕ
-slotOf ks d = resolvedAt ks (d .kind) (d .arg)
+abbrev pub draftSlot : List ℕ → Draft → ℕ
+draftSlot ks d = resolvedAt ks (d .kind) (d .arg)
 
 -- ---- the arrays of the sheet that holds the statements ss
 abbrev pub sheetKinds : List Numbered → List ℕ
-sheetKinds ss = kindsOf (draftsIn ss)
+sheetKinds ss = draftKinds (draftsIn ss)
 
 abbrev pub sheetArgs : List Numbered → List ℕ
-sheetArgs ss = argsOf (draftsIn ss)
+sheetArgs ss = draftArgs (draftsIn ss)
 
 abbrev pub sheetLines : List Numbered → List ℕ
 sheetLines ss = map (λ (s : Numbered). s .line) ss
@@ -53,7 +46,7 @@ abbrev pub sheetKeys : List Numbered → List ℕ
 sheetKeys ss = keys (definitions ss)
 
 abbrev pub sheetSlots : List Numbered → List ℕ
-sheetSlots ss = slotsOf (sheetKeys ss) (draftsIn ss)
+sheetSlots ss = draftSlots (sheetKeys ss) (draftsIn ss)
 
 abbrev pub sheetPlaces : List Numbered → List ℕ
 sheetPlaces ss = placesIn (sheetKinds ss)
@@ -62,15 +55,15 @@ abbrev pub sheetEquated : List Numbered → List ℕ
 sheetEquated ss = equatedIn (length (sheetLines ss)) (sheetBounds ss) (sheetKinds ss)
 
 -- ---- what stands at a place: the kind
-pub kind-at : (ds : List Draft) (i : ℕ) → getD (kindsOf ds) i 0 ≡ getD ds i noDraft .kind
+pub kind-at : (ds : List Draft) (i : ℕ) → getD (draftKinds ds) i 0 ≡ getD ds i noDraft .kind
 kind-at ds i = List·getD-map (λ (d : Draft). d .kind) ds i noDraft
 
 -- the argument
-pub arg-at : (ds : List Draft) (i : ℕ) → getD (argsOf ds) i 0 ≡ getD ds i noDraft .arg
+pub arg-at : (ds : List Draft) (i : ℕ) → getD (draftArgs ds) i 0 ≡ getD ds i noDraft .arg
 arg-at ds i = List·getD-map (λ (d : Draft). d .arg) ds i noDraft
 
 -- the argument with its name resolved
-pub slot-at : (ks : List ℕ) (ds : List Draft) (i : ℕ) → getD (slotsOf ks ds) i 0 ≡ slotOf ks (getD ds i noDraft)
+pub slot-at : (ks : List ℕ) (ds : List Draft) (i : ℕ) → getD (draftSlots ks ds) i 0 ≡ draftSlot ks (getD ds i noDraft)
 unfolding resolved
 slot-at ks [] i = refl
 slot-at ks (d ∷ ds) zero = refl

@@ -131,7 +131,8 @@ pub used-same : {assigned owners kinds slots : List ℕ} → Owned assigned owne
     → usedFrom owners kinds slots i ≡ usedAt assigned kinds slots i
 used-same {assigned} {owners} {kinds} {slots} o s i =
     ⊎-elim (λ (e : getD kinds i 0 ≡ kindFetch). fetched e)
-    (λ (n : getD kinds i 0 ≡ kindFetch → ⊥). rw (ne-eqb (getD kinds i 0) kindFetch n)) (eq-or-ne (getD kinds i 0) 4)
+    (λ (n : getD kinds i 0 ≡ kindFetch → ⊥). rw (ne-eqb (getD kinds i 0) kindFetch n))
+    (eq-or-ne (getD kinds i 0) kindFetch)
   where
     fetched : getD kinds i 0 ≡ kindFetch → usedFrom owners kinds slots i ≡ usedAt assigned kinds slots i
     fetched e =

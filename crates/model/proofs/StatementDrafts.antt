@@ -17,7 +17,8 @@ use Rattle.drafts.specs.Tree.{constants, assignment, state}
 use Rattle.drafts.specs.Items.{Item, push, fetch, clock, negate, apply-two, apply-three, postfix}
 use Rattle.drafts.specs.Drafts.{Draft, draft, draftItem, draftsOf}
 use Rattle.model.specs.Definitions.{What, constant, assigned, integral, Def, definedBy, keys}
-use Rattle.drafts.specs.Kinds.{kindNumber, kindConstant, kindInitial, kindFetch, kindStore, kindRate, kindFrom, defines}
+use Rattle.drafts.specs.Kinds.{kindNumber, kindConstant, kindInitial, kindPush, kindFetch, kindClock, kindTwo}
+use Rattle.drafts.specs.Kinds.{kindNegate, kindThree, kindStore, kindRate, kindFrom, defines}
 
 -- what is read past the end
 abbrev pub noDraft : Draft
@@ -42,17 +43,18 @@ fetched (apply-three o) = []
 by-item : (P : Item → Draft → Type 0) → ((k : ℕ) → Plain kindFetch → P (fetch k) (draft kindFetch k))
     → ((x : Item) (k a : ℕ) → Plain k → eqb k kindFetch ≡ false → fetched x ≡ [] → P x (draft k a)) → (x : Item)
     → P x (draftItem x)
-by-item P four rest (push x) = rest (push x) 3 (toBits binary64 x) (refl, refl, refl, refl) refl refl
+by-item P four rest (push x) = rest (push x) kindPush (toBits binary64 x) (refl, refl, refl, refl) refl refl
 by-item P four rest (fetch k) = four k (refl, refl, refl, refl)
-by-item P four rest clock = rest clock 17 0 (refl, refl, refl, refl) refl refl
-by-item P four rest negate = rest negate 9 0 (refl, refl, refl, refl) refl refl
-by-item P four rest (apply-two plus) = rest (apply-two plus) 5 0 (refl, refl, refl, refl) refl refl
-by-item P four rest (apply-two minus) = rest (apply-two minus) 6 0 (refl, refl, refl, refl) refl refl
-by-item P four rest (apply-two times) = rest (apply-two times) 7 0 (refl, refl, refl, refl) refl refl
-by-item P four rest (apply-two over) = rest (apply-two over) 8 0 (refl, refl, refl, refl) refl refl
-by-item P four rest (apply-two compar) = rest (apply-two compar) 12 0 (refl, refl, refl, refl) refl refl
-by-item P four rest (apply-three insw) = rest (apply-three insw) 10 0 (refl, refl, refl, refl) refl refl
-by-item P four rest (apply-three limit) = rest (apply-three limit) 11 0 (refl, refl, refl, refl) refl refl
+by-item P four rest clock = rest clock kindClock 0 (refl, refl, refl, refl) refl refl
+by-item P four rest negate = rest negate kindNegate 0 (refl, refl, refl, refl) refl refl
+by-item P four rest (apply-two plus) = rest (apply-two plus) (kindTwo plus) 0 (refl, refl, refl, refl) refl refl
+by-item P four rest (apply-two minus) = rest (apply-two minus) (kindTwo minus) 0 (refl, refl, refl, refl) refl refl
+by-item P four rest (apply-two times) = rest (apply-two times) (kindTwo times) 0 (refl, refl, refl, refl) refl refl
+by-item P four rest (apply-two over) = rest (apply-two over) (kindTwo over) 0 (refl, refl, refl, refl) refl refl
+by-item P four rest (apply-two compar) = rest (apply-two compar) (kindTwo compar) 0 (refl, refl, refl, refl) refl refl
+by-item P four rest (apply-three insw) = rest (apply-three insw) (kindThree insw) 0 (refl, refl, refl, refl) refl refl
+by-item P four rest (apply-three limit) =
+    rest (apply-three limit) (kindThree limit) 0 (refl, refl, refl, refl) refl refl
 
 -- the names of an expression are those that its items fetch
 fetched-names : (e : Tree) → concat-map fetched (postfix e) ≡ names e
@@ -86,7 +88,8 @@ unfolding along
 along-items G none [] q = refl
 along-items G none (x ∷ xs) q =
     ap₂ _++_
-    (by-item (λ x d. G (d ∷ (map draftItem xs ++ q)) ≡ []) (λ k p. none 4 k _ p) (λ x k a p _ _. none k a _ p) x)
+    (by-item (λ x d. G (d ∷ (map draftItem xs ++ q)) ≡ []) (λ k p. none kindFetch k _ p)
+    (λ x k a p _ _. none k a _ p) x)
     (along-items G none xs q)
 
 -- so of an expression with one draft behind it only that one counts

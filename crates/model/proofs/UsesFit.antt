@@ -3,17 +3,11 @@ use Prim.Native.Nat.{ℕ, suc, _+_, _<_}
 use mathlib.Core.Path.{_≡_, refl, ap}
 use mathlib.Core.List.{List, [], _∷_, _++_}
 use native.Mathlib.Omega.{arith}
-use lib.Dec.{eqb}
-use lib.ListN.{length, getD, take, drop, length-map}
+use lib.ListN.{length, getD, take, drop}
 use lib.Seq.{slice, split-at, length-take-le}
 use Rattle.laws.specs.Lists.{concat-map}
-use Rattle.laws.specs.Counts.{count}
-use Rattle.laws.proofs.Tests.{cond-ind}
 use Rattle.laws.proofs.Along.{startsAt, part-at}
-use Rattle.laws.proofs.Members.{Below, below-concat, below-gather, below-only}
-use Rattle.drafts.specs.Kinds.{kindFetch}
-use Rattle.model.specs.Definitions.{placeIn}
-use Rattle.model.specs.Places.{assignedSlot, assignedSlots, usedBy, usedAt, usedByStatement, usedIn, startsFrom}
+use Rattle.model.specs.Places.{assignedSlots, usedByStatement, usedIn, startsFrom}
 
 -- the starts are where the uses of each equation begin
 starts-at : (o : ℕ) (assigned bounds kinds slots equated : List ℕ)
@@ -57,19 +51,6 @@ module _ (bounds kinds slots equated : List ℕ) where
 
   table-eq : tableOf ≡ concat-map usesOf equated
   table-eq = used-at assignedOf bounds kinds slots equated
-
-  -- each that is used is one of the equations
-  pub used-few : Below (length equated) tableOf
-  unfolding count
-  used-few =
-      let n = length assignedOf in
-      let b = below-concat n usesOf (λ j. below-gather n (usedAt assignedOf kinds slots) one _ _) equated in
-      rw (table-eq, ← (length-map equated (assignedSlot bounds kinds slots))) b
-    where
-      one : (i : ℕ) → Below (length assignedOf) (usedAt assignedOf kinds slots i)
-      one i =
-          cond-ind (Below (length assignedOf)) (eqb (getD kinds i 0) kindFetch) (usedBy assignedOf (getD slots i 0)) []
-          (λ t. below-only (length assignedOf) (placeIn (getD slots i 0) assignedOf)) (λ t j h. absurd (omega arith))
 
   module _ (i : ℕ) (h : i < length equated) where
     row-split : equated ≡ take i equated ++ getD equated i 0 ∷ drop (suc i) equated

@@ -1,11 +1,12 @@
 -- The table of uses: how long it is, that it fits the order, and that it is what the statements that are equations use,
 -- one after the other.
 use Prim.Native.Nat.{ℕ, zero, suc, _+_, _-_, _≤_, _<_}
-use mathlib.Core.Path.{_≡_, refl, ap, subst, _∙_}
+use mathlib.Core.Path.{_≡_, refl, sym, ap, subst, _∙_}
 use mathlib.Core.Bool.{Bool, true, false, cond}
 use mathlib.Core.Logic.{⊎-elim}
-use mathlib.Core.List.{List, [], _∷_, _++_, append-nil}
+use mathlib.Core.List.{List, [], _∷_, _++_}
 use native.Mathlib.Numerals.{add-one, lt-of-le-of-ne}
+use native.Mathlib.Nat.{sub-zero}
 use native.Mathlib.Omega.{arith}
 use lib.Dec.{eqb, ltb}
 use lib.ListN.{length, getD, length-map, length-append}
@@ -14,7 +15,7 @@ use Rattle.laws.specs.Counts.{count}
 use Rattle.laws.specs.Places.{gather, onlyIf}
 use Rattle.laws.proofs.Tests.{cond-ind, eq-or-ne}
 use Rattle.laws.proofs.Members.{Below, below-append, below-gather, below-only, at-in}
-use Rattle.laws.proofs.Gathers.{gather-add, gather-short}
+use Rattle.laws.proofs.Gathers.{gather-more, gather-short}
 use Rattle.order.specs.Table.{Fit}
 use Rattle.drafts.specs.Kinds.{kindFetch}
 use Rattle.model.specs.Definitions.{placeIn}
@@ -26,13 +27,8 @@ use Rattle.model.specs.Working.{Rises, Sound}
 use Rattle.model.proofs.DefinitionsCollected.{only-length}
 
 -- one place more
-pub gather-next : {A : Type 0} (f : ℕ → List A) (i : ℕ) → gather f (suc i) 0 ≡ gather f i 0 ++ f i
-unfolding gather
-gather-next f i =
-    let e : suc i ≡ i + 1 = omega arith in
-    let z : 0 + i ≡ i = omega arith in
-    ap (λ (k : ℕ). gather f k 0) e ∙ gather-add f i 1 0
-    ∙ ap (λ (r : _). gather f i 0 ++ r) (append-nil (f (0 + i)) ∙ ap f z)
+pub gather-next : {A : Type 0} (f : ℕ → List A) (i : ℕ) → gather f (i + 1) 0 ≡ gather f i 0 ++ f i
+gather-next f i = rw (sub-zero (i + 1), sub-zero i) at (gather-more f 0 i (omega arith))
 
 -- no statement begins behind the last of n
 pub rises-to : (bounds : List ℕ) (n : ℕ) → Rises bounds n → (j : ℕ) → j ≤ n → begins bounds j ≤ begins bounds n
@@ -182,7 +178,9 @@ module _ (assigned bounds kinds slots : List ℕ) where
       last = length (usesTo (j + suc k)) ∷ []
 
       count : length (usesTo (suc j)) ≡ length (usesTo j) + length (usesOf j)
-      count = ap length (gather-next usesOf j) ∙ length-append (usesTo j) (usesOf j)
+      count =
+          ap (λ (i : ℕ). length (usesTo i)) (sym (add-one j)) ∙ ap length (gather-next usesOf j)
+          ∙ length-append (usesTo j) (usesOf j)
 
       -- the statements behind, from n on
       From : ℕ → Type 0

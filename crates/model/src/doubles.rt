@@ -5,7 +5,7 @@ ghost use lib.ListN.{length};
 ghost use Rattle.limits.specs.Limits.{mostStatements};
 ghost use Rattle.model.specs.Working.{Reported, Hinted, Rises, before, repeats, repeated};
 use super::hints::find;
-use super::report::put_fault;
+use super::report::add_fault;
 use bits::reads::short_at;
 
 // How many of the places in front stand before an end; those before `from` are known to.
@@ -64,7 +64,7 @@ pub(crate) fn report_doubles(
     while j < lines.len() {
         let end = passed(places, short_at(bounds, j + 1), d);
         let again = is_repeated(keys, hints, links, d, end);
-        count = put_fault(again, short_at(lines, j), 21, &mut *faults, count);
+        count = add_fault(again, short_at(lines, j), 21, &mut *faults, count);
         d = end;
         j += 1;
     }

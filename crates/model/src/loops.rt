@@ -6,7 +6,7 @@ ghost use Rattle.limits.specs.Limits.{mostStatements};
 ghost use Rattle.model.specs.Places.{loops};
 ghost use Rattle.model.specs.Working.{Reported, Marked, unmarked};
 use super::lists::put_byte;
-use super::report::put_fault;
+use super::report::add_fault;
 use bits::reads::byte_at;
 use bits::reads::short_at;
 use limits::STATEMENTS;
@@ -33,7 +33,7 @@ fn report_unmarked(marks: &[u8], equated: &[u16], lines: &[u16], faults: &mut [u
     let mut r = 0;
     while r < equated.len() {
         let line = short_at(lines, short_at(equated, r));
-        count = put_fault(byte_at(marks, r) == 0, line, 24, &mut *faults, count);
+        count = add_fault(byte_at(marks, r) == 0, line, 24, &mut *faults, count);
         r += 1;
     }
     count

@@ -17,7 +17,7 @@ use super::equations::put_if;
 use super::equations::put_use;
 use super::hints::find;
 use super::lists::put_short;
-use super::report::put_fault;
+use super::report::add_fault;
 use bits::reads::byte_at;
 use bits::reads::short_at;
 use bits::reads::word_at;
@@ -211,7 +211,7 @@ fn report_nameless(
             short_at(bounds, j),
             short_at(bounds, j + 1),
         );
-        count = put_fault(0 < flaw, short_at(lines, j), flaw, &mut *faults, count);
+        count = add_fault(0 < flaw, short_at(lines, j), flaw, &mut *faults, count);
         j += 1;
     }
     count

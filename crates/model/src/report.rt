@@ -5,7 +5,7 @@ ghost use Rattle.model.specs.Faults.{faultIf};
 ghost use Rattle.model.specs.Working.{Reported};
 
 // Writes a fault behind the c that stand there, if it stands; how many there are then.
-pub(crate) fn put_fault(stands: bool, line: usize, code: u8, faults: &mut [u8], c: usize) -> usize
+pub(crate) fn add_fault(stands: bool, line: usize, code: u8, faults: &mut [u8], c: usize) -> usize
     requires { ⌜ c ≤ mostStatements ⌝ }
     ensures { λ r. ⌜ Reported (faultIf stands line code) c r (now (faults .entry)) (now (faults .exit)) ⌝ }
 {

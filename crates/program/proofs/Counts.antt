@@ -16,7 +16,7 @@ use Rattle.drafts.specs.Tree.{assignment, state}
 use Rattle.drafts.specs.Items.{Item, push, fetch, clock, negate, apply-two, apply-three, postfix}
 use Rattle.drafts.specs.Drafts.{Draft, draft, draftItem, draftsOf}
 use Rattle.sheet.specs.Sheet.{Numbered}
-use Rattle.sheet.specs.Layout.{draftsIn}
+use Rattle.sheet.specs.Layout.{draftsIn, draftKinds}
 use Rattle.records.specs.Record.{Rec, rec}
 use Rattle.order.specs.Order.{Permutation}
 use Rattle.order.proofs.Sorting.{perm-below}
@@ -24,11 +24,11 @@ use Rattle.model.specs.Definitions.{Def, definedBy, definitions, slotIn, Equati
 use Rattle.model.specs.Definitions.{equationAt, equationCount}
 use Rattle.model.specs.Faults.{usesIn}
 use Rattle.model.proofs.StatementDrafts.{expressionDrafts}
-use Rattle.model.proofs.SheetWalk.{kindsOf, sheetKinds, draftsBy}
+use Rattle.model.proofs.SheetWalk.{sheetKinds, draftsBy}
 use Rattle.model.proofs.SheetKeys.{definedIn}
 use Rattle.model.proofs.SheetEquations.{equation}
 use Rattle.program.specs.Program.{instrItem, constantRecs, initialRecs, lastInstr, code, equationRecs, program}
-use Rattle.drafts.specs.Kinds.{writes}
+use Rattle.drafts.specs.Kinds.{kindStore, kindRate, writes}
 use Rattle.program.specs.Written.{recordCount}
 
 -- one row behind another
@@ -59,7 +59,7 @@ writes-item (apply-three limit) = refl
 
 -- items and one more
 count-items : (xs : List Item) (z : ℕ) → writes z ≡ true
-    → recordCount (kindsOf (map draftItem xs) ++ (z ∷ [])) ≡ length xs + 1
+    → recordCount (draftKinds (map draftItem xs) ++ (z ∷ [])) ≡ length xs + 1
 unfolding recordCount
 count-items [] z e = rw e
 count-items (x ∷ xs) z e = rw (writes-item x) (ap suc (count-items xs z e) ∙ omega arith)
@@ -102,20 +102,21 @@ module _ (ds : List Def) where
 
   -- an expression's drafts with one more
   count-ending : (t : Tree) (z k : ℕ) → writes z ≡ true
-      → recordCount (kindsOf (expressionDrafts t ++ (draft z k ∷ []))) ≡ length (postfix t) + 1
+      → recordCount (draftKinds (expressionDrafts t ++ (draft z k ∷ []))) ≡ length (postfix t) + 1
   count-ending t z k e =
       rw (map-append (λ (d : Draft). d .kind) (expressionDrafts t) (draft z k ∷ [])) (count-items (postfix t) z e)
 
   -- a statement's drafts write the records of its definitions
-  count-says : (l : ℕ) (x : Says) → recordCount (kindsOf (draftsOf x)) ≡ total (definedBy l x)
+  count-says : (l : ℕ) (x : Says) → recordCount (draftKinds (draftsOf x)) ≡ total (definedBy l x)
   unfolding recordCount concat-map
   count-says l (constants []) = refl
   count-says l (constants (c ∷ cs)) = omega (arith, count-says l (constants cs))
-  count-says l (assignment k t) = count-ending t 13 k refl ∙ omega (arith, length-equation (equation l k false t))
+  count-says l (assignment k t) =
+      count-ending t kindStore k refl ∙ omega (arith, length-equation (equation l k false t))
   count-says l (state k (plain x) t) =
-      ap suc (count-ending t 14 k refl) ∙ omega (arith, length-equation (equation l k true t))
+      ap suc (count-ending t kindRate k refl) ∙ omega (arith, length-equation (equation l k true t))
   count-says l (state k (from c) t) =
-      ap suc (count-ending t 14 k refl) ∙ omega (arith, length-equation (equation l k true t))
+      ap suc (count-ending t kindRate k refl) ∙ omega (arith, length-equation (equation l k true t))
 
   -- and so do those of all statements
   count-sheet : (ss : List Numbered) → recordCount (sheetKinds ss) ≡ total (definitions ss)
@@ -123,7 +124,7 @@ module _ (ds : List Def) where
   count-sheet [] = refl
   count-sheet (s ∷ ss) =
       ap recordCount (map-append (λ (d : Draft). d .kind) (draftsBy s) (draftsIn ss))
-      ∙ count-append (kindsOf (draftsBy s)) (sheetKinds ss)
+      ∙ count-append (draftKinds (draftsBy s)) (sheetKinds ss)
       ∙ ap₂ _+_ (count-says (s .line) (s .says)) (count-sheet ss)
       ∙ sym (total-append (definedIn s) (definitions ss))
 

@@ -30,7 +30,7 @@ use Rattle.model.specs.Definitions.{slotIn}
 use Rattle.model.specs.Faults.{constantKeys, nameFaults}
 use Rattle.drafts.specs.Places.{homeOf}
 use Rattle.model.proofs.StatementDrafts.{noDraft, Plain, expressionDrafts, along-expression, Home, homeOfWhat}
-use Rattle.model.proofs.SheetWalk.{sheetKinds, sheetLines, sheetBounds, sheetKeys, sheetSlots, sheetPlaces, slotOf}
+use Rattle.model.proofs.SheetWalk.{sheetKinds, sheetLines, sheetBounds, sheetKeys, sheetSlots, sheetPlaces, draftSlot}
 use Rattle.model.proofs.SheetWalk.{kind-at, slot-at, draftsBy, line-at}
 use Rattle.model.proofs.SheetWalk.{begins-at, drafts-split, first-kind, span}
 use Rattle.model.proofs.KeyPlaces.{Once, isConstant, definitionOf, definition-first, definition-later, constant-at}
@@ -68,9 +68,9 @@ constant-what (integral i t) e = absurd (not-both e refl)
 
 -- no more drafts can be a setting than there are; of one or more, one can be an initial
 reach-le : (phase n : ℕ) → reach phase n ≤ n
-reach-le phase n = cond-ind (λ (r : ℕ). r ≤ n) (eqb phase 2) (min 1 n) n (λ _. omega arith) (λ _. omega arith)
+reach-le phase n = cond-ind (λ (r : ℕ). r ≤ n) (eqb phase kindInitial) (min 1 n) n (λ _. omega arith) (λ _. omega arith)
 
-reach-first : (n : ℕ) → reach 2 (suc n) ≡ 1
+reach-first : (n : ℕ) → reach kindInitial (suc n) ≡ 1
 reach-first n = omega arith
 
 -- two rows that are nothing together: the first is nothing
@@ -111,13 +111,14 @@ module _ (ss : List Numbered) where
   -- the value of a draft behind a constant or an initial
   abbrev valueOf : Draft → ℕ
   valueOf d =
-      cond (eqb (d .kind) kindFrom) (getD (sheetSlots ss) (homeOf (sheetPlaces ss) (slotOf ks d) + 1) 0) (slotOf ks d)
+      cond (eqb (d .kind) kindFrom) (getD (sheetSlots ss) (homeOf (sheetPlaces ss) (draftSlot ks d) + 1) 0)
+      (draftSlot ks d)
 
   -- the setting of a draft with all that stands behind it
   abbrev settingOf : ℕ → ℕ → List Draft → List ℕ
   settingOf phase l x =
       cond (eqb (getD x 0 noDraft .kind) phase)
-      (fieldBytes phase (slotOf ks (getD x 0 noDraft)) l (valueOf (getD x 1 noDraft))) []
+      (fieldBytes phase (draftSlot ks (getD x 0 noDraft)) l (valueOf (getD x 1 noDraft))) []
 
   setting-at : (phase l i : ℕ) → settingIn phase l i ≡ settingOf phase l (drop i (draftsIn ss))
   setting-at phase l i =
@@ -191,7 +192,7 @@ module _ (ss : List Numbered) where
       along-expression (settingOf kindConstant l) (constant-none l) t (draft kindRate k) q
 
   -- a statement that has a constant begins with one
-  constants-begun : Begun 1
+  constants-begun : Begun kindConstant
   unfolding along concat-map
   constants-begun l (constants []) q = inl refl
   constants-begun l (constants (c ∷ cs)) q =
@@ -202,11 +203,11 @@ module _ (ss : List Numbered) where
   constants-begun l (state k i t) q = inl (constant-settings l (state k i t) q)
 
   -- KIND 1, in text order
-  pub constants-of : gather (settingsIn 1) (length (sheetLines ss)) 0
+  pub constants-of : gather (settingsIn kindConstant) (length (sheetLines ss)) 0
       ≡ concat-map recBytes (concat-map (λ (d : Def). constantRecs ds d (d .what)) ds)
   constants-of =
-      settings-of 1 (λ (d : Def). constantRecs ds d (d .what))
-      (λ a s b p. settings-at 1 constants-begun a s b p ∙ constant-settings (s .line) (s .says) (draftsIn b))
+      settings-of kindConstant (λ (d : Def). constantRecs ds d (d .what))
+      (λ a s b p. settings-at kindConstant constants-begun a s b p ∙ constant-settings (s .line) (s .says) (draftsIn b))
 
   -- ---- states: plain drafts have no setting
   initial-none : (l k a : ℕ) (x : List Draft) → Plain k → settingOf kindInitial l (draft k a ∷ x) ≡ []
@@ -242,7 +243,7 @@ module _ (ss : List Numbered) where
   no-initials l (c ∷ cs) q = no-initials l cs q
 
   -- a statement that has an initial begins with it, and has no other
-  state-begun : Begun 2
+  state-begun : Begun kindInitial
   unfolding along concat-map
   state-begun l (constants cs) q = inl (no-initials l cs q)
   state-begun l (assignment k t) q = inl (initial-settings l (assignment k t) tt q)
@@ -263,10 +264,10 @@ module _ (ss : List Numbered) where
         let w = constant-what (d .what) (sym (constant-at ds distinct c h) ∙ in-has c (constantKeys ds) m) in
         let e : homeAt ss at ≡ homeOfWhat (d .key) (constant (w .0)) =
         home-of ss c h ∙ ap (homeOfWhat (d .key)) (w .1) in
-        let k : getD (draftsIn ss) at noDraft .kind ≡ 1 = ap (λ (x : Home). x .own .kind) e in
+        let k : getD (draftsIn ss) at noDraft .kind ≡ kindConstant = ap (λ (x : Home). x .own .kind) e in
         let b : getD (draftsIn ss) (at + 1) noDraft ≡ draft kindNumber (toBits binary64 (w .0)) =
         rw k at (ap (λ (x : Home). x .behind) e) in
-        slot-at ks (draftsIn ss) (at + 1) ∙ ap (slotOf ks) b
+        slot-at ks (draftsIn ss) (at + 1) ∙ ap (draftSlot ks) b
         ∙ ap (toBits binary64) (sym (value-of ds c (w .0) h (w .1)))
 
     -- so each initial has its value
@@ -279,9 +280,9 @@ module _ (ss : List Numbered) where
         let r = initial-known ss a s b p ds clean k c t e in named-value c (r .0) (r .1)
 
     -- KIND 2, in text order
-    pub initials-of : gather (settingsIn 2) (length (sheetLines ss)) 0
+    pub initials-of : gather (settingsIn kindInitial) (length (sheetLines ss)) 0
         ≡ concat-map recBytes (concat-map (λ (d : Def). initialRecs ds d (d .what)) ds)
     initials-of =
-        settings-of 2 (λ (d : Def). initialRecs ds d (d .what))
-        (λ a s b p. settings-at 2 state-begun a s b p
+        settings-of kindInitial (λ (d : Def). initialRecs ds d (d .what))
+        (λ a s b p. settings-at kindInitial state-begun a s b p
         ∙ initial-settings (s .line) (s .says) (valued a s b p (s .says) refl) (draftsIn b))

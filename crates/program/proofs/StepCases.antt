@@ -14,7 +14,7 @@ use Rattle.laws.specs.Places.{gather}
 use Rattle.laws.proofs.Tests.{cond-ind}
 use Rattle.laws.proofs.Gathers.{gather-shift}
 use Rattle.drafts.specs.Places.{begins, ends}
-use Rattle.drafts.specs.Kinds.{kindPush, kindFetch, kindClock, isStep, writes}
+use Rattle.drafts.specs.Kinds.{kindPush, kindFetch, kindRate, kindClock, isStep, writes}
 use Rattle.program.specs.Written.{fieldBytes, recordCount, valueAt, settingAt, reach, settingsOf, stepBytes}
 use Rattle.program.specs.Written.{stepAt, stepsOf, orderedSteps}
 use Rattle.program.proofs.RoomFilled.{WholeRecords, whole-gather, length-record}
@@ -71,26 +71,27 @@ module _ (phase : ℕ) (places lines bounds kinds slots : List ℕ) (j : ℕ) {i
 -- ---- the record of a step, by its kind
 module _ (k x line : ℕ) where
   -- a number is pushed
-  pub step-value : k ≡ 3 → stepBytes k x line ≡ fieldBytes kindPush 0 line x
+  pub step-value : k ≡ kindPush → stepBytes k x line ≡ fieldBytes kindPush 0 line x
   step-value e = rw (eq-eqb k kindPush e)
 
-  module _ (a : k ≡ 3 → ⊥) where
+  module _ (a : k ≡ kindPush → ⊥) where
     -- TIME is slot 0
-    pub step-clock : k ≡ 17 → stepBytes k x line ≡ fieldBytes kindFetch 0 line 0
+    pub step-clock : k ≡ kindClock → stepBytes k x line ≡ fieldBytes kindFetch 0 line 0
     step-clock e = rw (ne-eqb k kindPush a, eq-eqb k kindClock e)
 
-    module _ (b : k ≡ 17 → ⊥) where
+    module _ (b : k ≡ kindClock → ⊥) where
       -- constants, initials and values write nothing here
-      pub step-below : k < 4 → stepBytes k x line ≡ []
-      step-below h = rw (ne-eqb k kindPush a, ne-eqb k kindClock b, lt-leb 4 k h)
+      pub step-below : k < kindFetch → stepBytes k x line ≡ []
+      step-below h = rw (ne-eqb k kindPush a, ne-eqb k kindClock b, lt-leb kindFetch k h)
 
       -- nor does a kind that is no record's
-      pub step-above : 14 < k → stepBytes k x line ≡ []
-      step-above h = rw (ne-eqb k kindPush a, ne-eqb k kindClock b, le-leb 4 k (omega arith), lt-leb k 14 h)
+      pub step-above : kindRate < k → stepBytes k x line ≡ []
+      step-above h =
+          rw (ne-eqb k kindPush a, ne-eqb k kindClock b, le-leb kindFetch k (omega arith), lt-leb k kindRate h)
 
       -- all others are written as they are
-      pub step-plain : 4 ≤ k → k ≤ 14 → stepBytes k x line ≡ fieldBytes k x line 0
-      step-plain g h = rw (ne-eqb k kindPush a, ne-eqb k kindClock b, le-leb 4 k g, le-leb k 14 h)
+      pub step-plain : kindFetch ≤ k → k ≤ kindRate → stepBytes k x line ≡ fieldBytes k x line 0
+      step-plain g h = rw (ne-eqb k kindPush a, ne-eqb k kindClock b, le-leb kindFetch k g, le-leb k kindRate h)
 
 -- the steps of the ordered statements, gathered over the places of the order
 pub ordered-gather : (equated lines bounds kinds slots order : List ℕ)

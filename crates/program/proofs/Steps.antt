@@ -19,7 +19,7 @@ use Rattle.records.specs.declared.Instr.the-variants.{Store, Deriv}
 use Rattle.records.specs.Record.{rec, recBytes}
 use Rattle.model.specs.Definitions.{Def, definitions, keys, slotIn, Equation, equations, equationAt}
 use Rattle.model.proofs.StatementDrafts.{expressionDrafts}
-use Rattle.model.proofs.SheetWalk.{sheetKinds, sheetLines, sheetBounds, sheetSlots, sheetEquated, slotOf, kind-at}
+use Rattle.model.proofs.SheetWalk.{sheetKinds, sheetLines, sheetBounds, sheetSlots, sheetEquated, draftSlot, kind-at}
 use Rattle.model.proofs.SheetWalk.{slot-at}
 use Rattle.model.proofs.SheetWalk.{line-at, in-statement}
 use Rattle.model.proofs.SheetEquations.{equated-by, equated-at}
@@ -28,7 +28,7 @@ use Rattle.program.specs.Written.{stepBytes, stepAt, stepsOf, orderedSte
 
 -- the step of a draft, with names resolved by the definitions
 abbrev stepOf : List Def → ℕ → Draft → List ℕ
-stepOf ds l d = stepBytes (d .kind) (slotOf (keys ds) d) l
+stepOf ds l d = stepBytes (d .kind) (draftSlot (keys ds) d) l
 
 -- an item's draft is written as the item's record
 step-item : (ds : List Def) (l : ℕ) (x : Item) → stepOf ds l (draftItem x) ≡ recBytes (rec l (instrItem (slotIn ds) x))

@@ -1,6 +1,6 @@
 -- What a comparison adds to a tally. Counting stops at 10,001, so that no count runs over.
 use Prim.Native.Nat.{ℕ, _+_}
-use mathlib.Core.Bool.{Bool, true, false, cond, _||_}
+use mathlib.Core.Bool.{Bool, true, false, cond}
 use lib.Dec.{ltb}
 use Rattle.tally.specs.declared.Tally.{Tally}
 

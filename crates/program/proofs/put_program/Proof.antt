@@ -4,14 +4,12 @@ use native.Mathlib.Nat.{sub-zero}
 use native.Mathlib.Omega.{arith}
 use borrow.Author.Needs.{needs}
 use lib.ListN.{length}
+use Rattle.drafts.specs.Kinds.{kindConstant, kindInitial}
 use Rattle.program.specs.Written.{writtenProgram}
 use Rattle.program.proofs.RoomFilled.{fill-within, fill-both}
 use Rattle.program.proofs.StepCases.{whole-all-settings}
 use Rattle.program.proofs.put_program.Statement.{statement}
 use Rattle.program.proofs.put_program.Tie as tie
-
-put-all-settings-requires : tie.Need-put-all-settings-requires
-put-all-settings-requires c κs = omega arith
 
 put-all-settings-requires-2 : tie.Need-put-all-settings-requires-2
 put-all-settings-requires-2 c κs = fill-within (c .before .before .before .put-all-settings .ensures) (omega arith)
@@ -30,9 +28,9 @@ returns c =
     let p = q .before .before .before .before in
     let a = p .before .before .before .before .before .before .before .before .before .before .args in
     let constants =
-    whole-all-settings 1 (a .places .now) (a .lines .now) (a .bounds .now) (a .kinds .now) (a .slots .now) in
+    whole-all-settings kindConstant (a .places .now) (a .lines .now) (a .bounds .now) (a .kinds .now) (a .slots .now) in
     let initials =
-    whole-all-settings 2 (a .places .now) (a .lines .now) (a .bounds .now) (a .kinds .now) (a .slots .now) in
+    whole-all-settings kindInitial (a .places .now) (a .lines .now) (a .bounds .now) (a .kinds .now) (a .slots .now) in
     let all = fill-both (p .put-all-settings .ensures) constants
     (fill-both (q .put-all-settings2 .ensures) initials (t .put-ordered .ensures)) in
     let z = sub-zero (length (a .out .now)) in
@@ -42,7 +40,7 @@ pub put-program-spec : {M : Type 1} → statement M
 put-program-spec =
     tie.close
     (tie.spec
-    put-all-settings-requires
+    (λ c κs. search needs)
     put-all-settings-requires-2
     put-ordered-requires
     (λ c. search needs)

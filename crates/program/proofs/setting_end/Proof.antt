@@ -7,7 +7,7 @@ use Rattle.program.proofs.setting_end.Statement.{statement}
 use Rattle.program.proofs.setting_end.Tie as tie
 
 returns : tie.Need-returns
-returns c = (rw (ne-eqb (c .before .args .phase) 2 (c .if1 .taken)), omega arith)
+returns c = (rw (ne-eqb (c .before .args .phase) kindInitial (c .if1 .taken)), omega arith)
 
 returns-2 : tie.Need-returns-2
 returns-2 c = (rw (eq-eqb _ kindInitial (c .before .if1 .left)) (omega arith), omega arith)

@@ -1,5 +1,6 @@
 use mathlib.Core.Path.{sym, _∙_}
 use borrow.Author.Tests.{eq-eqb, ne-eqb}
+use Rattle.drafts.specs.Kinds.{kindFrom}
 use borrow.Author.Needs.{needs}
 use Rattle.program.proofs.value_at.Statement.{statement}
 use Rattle.program.proofs.value_at.Tie as tie
@@ -8,7 +9,7 @@ returns : tie.Need-returns
 returns c =
     let d = c .before .before in
     rw (
-      eq-eqb _ 16 (sym (d .before .byte-at .ensures) ∙ d .if1 .taken),
+      eq-eqb _ kindFrom (sym (d .before .byte-at .ensures) ∙ d .if1 .taken),
       ← (d .before .before .word-at .ensures),
       ← (c .before .home-of .ensures .0),
     )
@@ -16,7 +17,7 @@ returns c =
 
 returns-2 : tie.Need-returns-2
 returns-2 c =
-    rw (ne-eqb _ 16 (λ e. c .if1 .left (c .before .byte-at .ensures ∙ e))) (c .before .before .word-at .ensures)
+    rw (ne-eqb _ kindFrom (λ e. c .if1 .left (c .before .byte-at .ensures ∙ e))) (c .before .before .word-at .ensures)
 
 pub value-at-spec : {M : Type 1} → statement M
 value-at-spec =

@@ -26,9 +26,6 @@ returns c =
     (before-stop (s .end) (s .places .now) (at .d) (at .inv) (omega (arith, c .before .short-at .ensures .0))
     (c .before .before .loop-test .taken))
 
-add-d : tie.Need-add-d Inv-loop μ-loop
-add-d c = omega arith
-
 loop-again : tie.Need-loop-again Inv-loop μ-loop
 loop-again c =
     let s = c .before .before .before .before .before .args in
@@ -50,7 +47,7 @@ passed-spec =
     loop-holds
     (λ c κs. search needs)
     returns
-    add-d
+    (λ c. search needs)
     (λ c. search needs)
     loop-again
     returns-2)

@@ -35,9 +35,6 @@ returns c =
     (sym (c .before .is-repeated .ensures) ∙ not-true _ (c .if1 .taken)) in
     record { behind = rw e; written = rw e }
 
-passed-requires : tie.Need-passed-requires Inv-loop μ-loop
-passed-requires c κs = omega arith
-
 loop-holds : tie.Need-loop-holds Inv-loop μ-loop
 loop-holds c =
     let s = c .before .before .before .before .before .before .before .before .before .before .before .args in
@@ -68,8 +65,8 @@ is-repeated-requires-2 c κs =
     let few = before-le (c .before .short-at2 .result) (s .args .places .now) in
     (s .pre .0, omega (arith, c .passed2 .ensures, few, s .pre .1))
 
-put-fault-requires : tie.Need-put-fault-requires Inv-loop μ-loop
-put-fault-requires c κs =
+add-fault-requires : tie.Need-add-fault-requires Inv-loop μ-loop
+add-fault-requires c κs =
     let at = c .before .before .before .before .before .before in
     let s = at .before .before .before .before .before .before .before .before .before .before .before .before in
     omega (arith, at .loop .inv .1 .few, at .loop .inv .1 .within, s .pre .3)
@@ -88,7 +85,7 @@ loop-again c =
     let found = repeat-found (s .lines .now) (s .bounds .now) (s .keys .now) (s .places .now) (at .loop .j)
     (again .is-repeated2 .ensures) (at .loop .inv .0) (passed .passed2 .ensures) bound number in (
       passed .passed2 .ensures ∙ ap (λ b. before b (s .places .now)) bound,
-      reports-next (at .loop .inv .1) (test .loop-test .taken) found (put .put-fault .ensures),
+      reports-next (at .loop .inv .1) (test .loop-test .taken) found (put .add-fault .ensures),
     )
 
 same-length : tie.Need-same-length Inv-loop μ-loop
@@ -106,14 +103,14 @@ report-doubles-spec =
     is-repeated-requires
     returns
     (λ c κs. search needs)
-    passed-requires
+    (λ c κs. search needs)
     loop-holds
     (λ c. search needs)
     (λ c κs. search needs)
     passed-requires-2
     is-repeated-requires-2
     (λ c κs. search needs)
-    put-fault-requires
+    add-fault-requires
     (λ c. search needs)
     (λ c. search needs)
     loop-again

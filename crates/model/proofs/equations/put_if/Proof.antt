@@ -1,6 +1,6 @@
 -- A number that is stored, or none.
 use borrow.Author.Needs.{needs}
-use Rattle.model.proofs.DefinitionsCollected.{put-one, put-none}
+use Rattle.model.proofs.DefinitionsCollected.{put-one, put-unless}
 use Rattle.model.proofs.equations.put_if.Statement.{statement}
 use Rattle.model.proofs.equations.put_if.Tie as tie
 
@@ -13,7 +13,7 @@ returns c =
 returns-2 : tie.Need-returns-2
 returns-2 c =
     let s = c .before .before .args in
-    put-none (s .stands) (s .v) (s .w) (s .buf .now) (c .if1 .left)
+    put-unless (s .stands) (s .v) (s .w) (s .buf .now) (c .if1 .left)
 
 pub put-if-spec : {M : Type 1} → statement M
 put-if-spec = tie.close (tie.spec (λ c κs. search needs) (λ c. search needs) (λ c. search needs) returns returns-2)

@@ -1,7 +1,6 @@
 -- The tests one after the other.
 use mathlib.Core.Path.{_≡_, sym, _∙_}
 use mathlib.Core.Bool.{_&&_}
-use native.Mathlib.Omega.{arith}
 use borrow.Author.Needs.{needs}
 use borrow.Author.Tests.{le-leb, lt-leb, eq-eqb, ne-eqb}
 use lib.ListN.{length}
@@ -12,9 +11,6 @@ use Rattle.model.proofs.fitting.fits.Tie as tie
 returns : tie.Need-returns
 unfolding fit
 returns c = rw (lt-leb _ _ (c .if1 .taken))
-
-add-if2 : tie.Need-add-if2
-add-if2 c = omega arith
 
 returns-2 : tie.Need-returns-2
 unfolding fit
@@ -45,9 +41,6 @@ returns-5 c =
       le-leb _ _ (c .before .if4 .left),
       lt-leb _ _ (c .if5 .taken),
     )
-
-mul-if6 : tie.Need-mul-if6
-mul-if6 c = omega arith
 
 returns-6 : tie.Need-returns-6
 unfolding fit
@@ -82,9 +75,6 @@ left c =
       le-leb _ _ (c .if6 .left),
     )
 
-is-in-turn-requires : tie.Need-is-in-turn-requires
-is-in-turn-requires c κs = omega arith
-
 returns-7 : tie.Need-returns-7
 returns-7 c =
     let room = c .before .before in
@@ -98,14 +88,14 @@ fits-spec =
     tie.close
     (tie.spec
     returns
-    add-if2
+    (λ c. search needs)
     returns-2
     returns-3
     returns-4
     returns-5
-    mul-if6
+    (λ c. search needs)
     returns-6
     (λ c κs. search needs)
-    is-in-turn-requires
+    (λ c κs. search needs)
     returns-7
     returns-8)

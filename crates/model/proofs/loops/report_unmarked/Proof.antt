@@ -23,8 +23,8 @@ loop-holds c =
     (s .faults .now)
     (unmarked-single (s .marks .now) (s .equated .now) (s .lines .now))
 
-put-fault-requires : tie.Need-put-fault-requires Inv-loop μ-loop
-put-fault-requires c κs =
+add-fault-requires : tie.Need-add-fault-requires Inv-loop μ-loop
+add-fault-requires c κs =
     let at = c .before .before .before .before .before in
     let s = at .before .before .before .before .before in
     omega (arith, at .loop .inv .few, at .loop .inv .within, s .pre)
@@ -39,7 +39,7 @@ loop-again c =
     let s = at .before .before .before .before .before .args in
     let found = unmarked-found (s .marks .now) (s .equated .now) (s .lines .now) (at .loop .r) (mark .byte-at .ensures)
     (line .before .short-at .ensures .0) (line .short-at2 .ensures .0) in
-    reports-next (at .loop .inv) (test .loop-test .taken) found (put .put-fault .ensures)
+    reports-next (at .loop .inv) (test .loop-test .taken) found (put .add-fault .ensures)
 
 same-length : tie.Need-same-length Inv-loop μ-loop
 same-length c = c .before .loop .inv .long
@@ -57,7 +57,7 @@ report-unmarked-spec =
     (λ c κs. search needs)
     (λ c κs. search needs)
     (λ c κs. search needs)
-    put-fault-requires
+    add-fault-requires
     (λ c. search needs)
     (λ c. search needs)
     loop-again

@@ -2,7 +2,7 @@
 use mathlib.Core.Path.{sym, _∙_}
 use borrow.Author.Needs.{needs}
 use Rattle.laws.proofs.Tests.{or-left}
-use Rattle.model.proofs.NamesResolved.{or-skip}
+use Rattle.laws.proofs.Tests.{or-skip}
 use Rattle.model.proofs.names.is_flawed.Statement.{statement}
 use Rattle.model.proofs.names.is_flawed.Tie as tie
 

@@ -23,8 +23,8 @@ loop-holds c =
     (length (s .lines .now)) (s .faults .now)
     (names-single (s .places .now) (s .lines .now) (s .bounds .now) (s .kinds .now) (s .slots .now))
 
-put-fault-requires : tie.Need-put-fault-requires Inv-loop μ-loop
-put-fault-requires c κs =
+add-fault-requires : tie.Need-add-fault-requires Inv-loop μ-loop
+add-fault-requires c κs =
     let at = c .before .before .before .before .before .before in
     let s = at .before .before .before .before .before .before .before in
     omega (arith, at .loop .inv .few, at .loop .inv .within, s .pre)
@@ -42,7 +42,7 @@ loop-again c =
     flaw-found (s .places .now) (s .lines .now) (s .bounds .now) (s .kinds .now) (s .slots .now) (at .loop .j)
     (flaw .flaw-in .ensures) (bound .before .short-at .ensures .0) (bound .short-at2 .ensures .0)
     (line .short-at3 .ensures .0) in
-    reports-next (at .loop .inv) (test .loop-test .taken) found (put .put-fault .ensures)
+    reports-next (at .loop .inv) (test .loop-test .taken) found (put .add-fault .ensures)
 
 same-length : tie.Need-same-length Inv-loop μ-loop
 same-length c = c .before .loop .inv .long
@@ -63,7 +63,7 @@ report-nameless-spec =
     (λ c κs. search needs)
     (λ c κs. search needs)
     (λ c κs. search needs)
-    put-fault-requires
+    add-fault-requires
     (λ c. search needs)
     (λ c. search needs)
     loop-again

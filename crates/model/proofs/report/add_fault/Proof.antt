@@ -1,8 +1,8 @@
 -- A fault that stands is written behind those before it.
 use borrow.Author.Needs.{needs}
 use Rattle.model.proofs.FaultsListed.{fault-put, fault-none}
-use Rattle.model.proofs.report.put_fault.Statement.{statement}
-use Rattle.model.proofs.report.put_fault.Tie as tie
+use Rattle.model.proofs.report.add_fault.Statement.{statement}
+use Rattle.model.proofs.report.add_fault.Tie as tie
 
 returns : tie.Need-returns
 returns c =
@@ -12,8 +12,8 @@ returns c =
 returns-2 : tie.Need-returns-2
 returns-2 c = fault-none _ _ _ _ _ (c .if1 .left)
 
-pub put-fault-spec : {M : Type 1} → statement M
-put-fault-spec =
+pub add-fault-spec : {M : Type 1} → statement M
+add-fault-spec =
     tie.close
     (tie.spec
     (λ c κs. search needs)

@@ -1,0 +1,77 @@
+-- The arrays of a sheet that is laid out fit.
+use Prim.Native.Nat.{ℕ, zero, suc, _+_, _*_, _≤_, _<_}
+use mathlib.Core.Path.{_≡_, refl, ap, _∙_}
+use mathlib.Core.Bool.{true, false, not}
+use mathlib.Core.List.{List, [], _∷_}
+use native.Mathlib.Omega.{arith}
+use native.Mathlib.Numerals.{add-one}
+use native.Mathlib.Nat.{add-zero}
+use borrow.Author.Tests.{le-leb, eq-eqb, le-ltb}
+use lib.Dec.{eqb, leb}
+use lib.ListN.{length, getD, length-append, length-map}
+use Rattle.limits.specs.Limits.{mostStatements, mostDefinitions, textBytes, faultBytes}
+use Rattle.laws.specs.Lists.{concat-map}
+use Rattle.laws.specs.Places.{anyIn}
+use Rattle.laws.proofs.Gathers.{none-any}
+use Rattle.laws.proofs.Tests.{and-both}
+use Rattle.drafts.specs.Drafts.{Draft, draftsOf}
+use Rattle.sheet.specs.Sheet.{Numbered}
+use Rattle.sheet.specs.Layout.{draftsIn, boundsFrom, Laid}
+use Rattle.model.specs.Plan.{falls, inTurn, roomy, fit}
+
+-- ---- the bounds: one more than there are statements, from the first draft to the last, none before the one in front
+-- of it
+pub bounds-many : (o : ℕ) (ss : List Numbered) → length (boundsFrom o ss) ≡ length ss + 1
+unfolding boundsFrom
+bounds-many o [] = refl
+bounds-many o (s ∷ ss) = omega (arith, bounds-many (o + length (draftsOf (s .says))) ss)
+
+bounds-begin : (o : ℕ) (ss : List Numbered) → getD (boundsFrom o ss) 0 0 ≡ o
+unfolding boundsFrom
+bounds-begin o [] = refl
+bounds-begin o (s ∷ ss) = refl
+
+bounds-end : (o : ℕ) (ss : List Numbered) → getD (boundsFrom o ss) (length ss) 0 ≡ o + length (draftsIn ss)
+unfolding boundsFrom concat-map
+bounds-end o [] = rw add-zero
+bounds-end o (s ∷ ss) =
+    omega (arith, bounds-end (o + length (draftsOf (s .says))) ss, length-append (draftsOf (s .says)) (draftsIn ss))
+
+bounds-rise : (o : ℕ) (ss : List Numbered) (j : ℕ) → j < length ss
+    → getD (boundsFrom o ss) j 0 ≤ getD (boundsFrom o ss) (suc j) 0
+unfolding boundsFrom
+bounds-rise o [] j h = absurd (omega arith)
+bounds-rise o (s ∷ ss) zero h = omega (arith, bounds-begin (o + length (draftsOf (s .says))) ss)
+bounds-rise o (s ∷ ss) (suc j) h = bounds-rise (o + length (draftsOf (s .says))) ss j (omega arith)
+
+-- FIT: with room for all
+pub laid-fits : (ss : List Numbered) (kinds args lines bounds : List ℕ) → Laid ss kinds args lines bounds → (a u f : ℕ)
+    → length ss ≤ mostStatements → length kinds ≤ textBytes → length kinds ≤ a → length kinds ≤ u
+    → faultBytes * length ss ≤ f
+    → fit lines bounds kinds a u f mostDefinitions mostStatements mostStatements ≡ true
+unfolding fit roomy inTurn
+laid-fits ss kinds args lines bounds laid a u f few short ha hu hf =
+    let n : length lines ≡ length ss = ap length (laid .lines-held) ∙ length-map ss (λ (s : Numbered). s .line) in
+    let m : length kinds ≡ length (draftsIn ss) =
+    ap length (laid .kinds-held) ∙ length-map (draftsIn ss) (λ (d : Draft). d .kind) in
+    let rises : (j : ℕ) → 0 ≤ j → j < 0 + length ss → falls bounds j ≡ false = λ j _ h.
+    rw (laid .bounds-held, add-one)
+    (le-ltb (getD (boundsFrom 0 ss) (suc j) 0) (getD (boundsFrom 0 ss) j 0) (bounds-rise 0 ss j (omega arith))) in
+    let first : eqb (getD bounds 0 0) 0 ≡ true =
+    eq-eqb (getD bounds 0 0) 0 (rw (laid .bounds-held) (bounds-begin 0 ss)) in
+    let last : eqb (getD bounds (length lines) 0) (length kinds) ≡ true =
+    eq-eqb (getD bounds (length lines) 0) (length kinds)
+    (rw (n, laid .bounds-held) (omega (arith, bounds-end 0 ss, m))) in
+    let turn : not (anyIn (falls bounds) (length lines) 0) ≡ true =
+    rw (n, none-any (falls bounds) (length ss) 0 rises) in
+    let most : leb mostStatements mostStatements ≡ true = le-leb mostStatements mostStatements (omega arith) in
+    let room : roomy mostDefinitions mostStatements mostStatements ≡ true =
+    and-both _ _ (le-leb mostDefinitions mostDefinitions (omega arith)) (and-both _ _ most most) in
+    and-both _ _ (le-leb (length lines) mostStatements (omega arith))
+    (and-both _ _
+    (eq-eqb (length bounds) (length lines + 1) (rw (laid .bounds-held) (omega (arith, bounds-many 0 ss, n))))
+    (and-both _ _ (le-leb _ _ short)
+    (and-both _ _ (le-leb _ _ ha)
+    (and-both _ _ (le-leb _ _ hu)
+    (and-both _ _ (le-leb (faultBytes * length lines) f (rw n hf))
+    (and-both _ _ room (and-both _ _ first (and-both _ _ last turn))))))))
