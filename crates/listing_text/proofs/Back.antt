@@ -16,12 +16,13 @@ use Rattle.laws.proofs.Along.{gather-over}
 use Rattle.laws.proofs.Lists.{concat-append}
 use Rattle.bits.specs.Low.{lowBytes, lowWord}
 use Rattle.bits.proofs.Lows.{length-low, word-bytes}
+use Rattle.drafts.specs.Kinds.{closes}
 use Rattle.records.specs.Fields.{kindOf, operandOf, bitsOf}
 use Rattle.records.specs.Record.{Rec, recBytes, programBytes, field}
 use Rattle.sheet.specs.Sheet.{Fault, faultEntry, faultList}
 use Rattle.listing_text.specs.Listing.{line, line2}
-use Rattle.listing_text.specs.Written.{faultAt, ending, endedAt}
-use Rattle.listing_text.proofs.Numbers.{FaultBelow}
+use Rattle.listing_text.specs.Written.{faultAt, endedAt}
+use Rattle.model.proofs.NumbersBelow.{FaultBelow}
 
 -- ---- fields of bytes that are known from a place on
 
@@ -97,7 +98,7 @@ length-record r = simp (length-append, length-low)
 
 -- the line of the statement that a record ends, if it ends one
 abbrev pub endedBy : Rec → List ℕ
-endedBy r = cond (ending (kindOf (r .instr))) (line (r .line)) []
+endedBy r = cond (closes (kindOf (r .instr))) (line (r .line)) []
 
 -- its line is below b
 abbrev pub RecBelow : ℕ → Rec → Type 0
@@ -118,7 +119,7 @@ record-back p rest i r e h =
     let t : drop (o + 4) p ≡ low ++ (bits ++ rest) =
     further p x (low ++ (bits ++ rest)) o 4 d (omega (arith, length-low 2 (operandOf (r .instr)))) in
     let l = number-back p (bits ++ rest) (o + 4) 4 (r .line) t (omega arith) in
-    ap₂ (λ (k l : ℕ). cond (ending k) (line l) []) k l
+    ap₂ (λ (k l : ℕ). cond (closes k) (line l) []) k l
 
 -- .. of each record of a program
 pub records-back : (rs : List Rec) (rest : List ℕ) → Every (RecBelow 65536) rs

@@ -18,11 +18,11 @@ use Rattle.sheet.specs.Reader.{sheetOf}
 use Rattle.model.specs.Definitions.{definitions, equationAt}
 use Rattle.model.specs.Faults.{modelFaults, orderOf}
 use Rattle.program.specs.Program.{program}
-use Rattle.translator.specs.Verdict.{Decision, refused, faulty, translated, ifFaults, programmed, modelled, judged}
+use Rattle.translator.specs.Verdict.{Decision, refused, faulty, translated, ifFaults, programmed, modelled, decided}
 use Rattle.translator.specs.Verdict.{verdictOf}
 use Rattle.listing_text.specs.Listing.{line}
-use Rattle.listing_text.proofs.Numbers.{ReportBelow, SaidBelow, FaultBelow, sheet-below, faults-below}
-use Rattle.listing_text.proofs.Numbers.{said-below, definitions-below, model-below}
+use Rattle.model.proofs.NumbersBelow.{ReportBelow, SaidBelow, FaultBelow, sheet-below, faults-below}
+use Rattle.model.proofs.NumbersBelow.{said-below, definitions-below, model-below}
 use Rattle.listing_text.proofs.Back.{endedBy, RecBelow}
 use Rattle.listing_text.proofs.Ordered.{program-ends, program-below}
 
@@ -58,8 +58,8 @@ fair-model room ss p =
     (λ _. fair-faults 7 (modelFaults ss) next (lit< tt) (model-below 65536 (lit< tt) ss p) (fair-program room ss p))
 
 -- by the sheet
-fair-sheet : (room : ℕ) (ss : Sheet) → Every (ReportBelow 65536) ss → Fair (judged room ss)
-unfolding judged
+fair-sheet : (room : ℕ) (ss : Sheet) → Every (ReportBelow 65536) ss → Fair (decided room ss)
+unfolding decided
 fair-sheet room ss p =
     let next = modelled room (said ss) in
     cond-ind Fair (ltb mostStatements (length ss)) (refused 4) (ifFaults 5 (statementFaults ss) next) (λ _. lit< tt)
@@ -70,7 +70,7 @@ fair-sheet room ss p =
 pub fair : (text : List ℕ) (faults room : ℕ) → Fair (verdictOf text faults room)
 unfolding verdictOf
 fair text faults room =
-    let next = judged room (sheetOf text) in
+    let next = decided room (sheetOf text) in
     let many = ltb textLines (length (linesOf text)) in
     let long = cond many (refused 3) next in
     cond-ind Fair (ltb faults faultRoom) (refused 1) (cond (ltb textBytes (length text)) (refused 2) long)

@@ -2,7 +2,6 @@ mod Figures
 mod Puts
 mod Fields
 mod Reach
-mod Numbers
 mod Back
 mod Ordered
 mod Fair

@@ -18,7 +18,7 @@ use Rattle.translator.specs.Contract.{numberIn, countIn, Translates}
 use Rattle.translator.proofs.Deciding.{length-program}
 use Rattle.translator.proofs.Counted.{few, count-few}
 use Rattle.translator.proofs.Verdicts.{by-number}
-use Rattle.listing_text.specs.Listing.{listed, listing}
+use Rattle.listing_text.specs.Listing.{listingOf, listing}
 use Rattle.listing_text.specs.Written.{head, written}
 use Rattle.listing_text.specs.Contract.{Lists}
 use Rattle.listing_text.proofs.Back.{front, faults-back, records-back}
@@ -31,8 +31,8 @@ module _ (text f p : List ℕ) (room-faults : faultRoom ≤ length f) (room-prog
 
   -- what is written is what is listed of its verdict
   written-of : (v : Decision) → verdict ≡ v → Fair v
-      → written (numberOf v) (countOf v) (faultsAfter v f) (programAfter v p) ≡ listed v
-  unfolding written listed gather
+      → written (numberOf v) (countOf v) (faultsAfter v f) (programAfter v p) ≡ listingOf v
+  unfolding written listingOf gather
   written-of (refused n) e h = rw (ne-eqb n 0 (λ e. omega arith)) (append-nil (head 78 79 n))
   written-of (faulty n fs) e h =
       let most : length fs ≤ mostStatements = rw e at (few text (length f) (length p)) in
@@ -55,7 +55,7 @@ module _ (text f p : List ℕ) (room-faults : faultRoom ≤ length f) (room-prog
         (count-few verdict (few text (length f) (length p)))
 
     -- and what is written of that is what is listed
-    listed-of : written (numberIn r) (countIn r) f′ p′ ≡ listed verdict
+    listed-of : written (numberIn r) (countIn r) f′ p′ ≡ listingOf verdict
     unfolding translation
     listed-of =
         let o = by-number text f p e in

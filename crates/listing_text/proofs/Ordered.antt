@@ -15,7 +15,7 @@ use Rattle.records.specs.declared.Instr.{Instr}
 use Rattle.records.specs.Record.{Rec, rec}
 use Rattle.program.specs.Program.{instrItem, constantRecs, initialRecs, lastInstr, code, equationRecs, program}
 use Rattle.listing_text.specs.Listing.{line}
-use Rattle.listing_text.proofs.Numbers.{DefBelow, equation-below}
+use Rattle.model.proofs.NumbersBelow.{DefBelow, equation-below}
 use Rattle.listing_text.proofs.Back.{endedBy, RecBelow}
 
 -- what pushes or works out a value ends no statement

@@ -1,19 +1,13 @@
--- Laws of what is put: nothing, a byte past the end, one part behind another, what a loop writes.
+-- Laws of what is put: a byte past the end, what has another name, what a loop writes.
 use Prim.Native.Nat.{ℕ, _+_, _-_, _≤_, _<_}
-use mathlib.Core.Path.{_≡_, refl, sym, _∙_}
-use mathlib.Core.List.{List, [], _∷_, _++_}
+use mathlib.Core.Path.{_≡_, refl, sym}
+use mathlib.Core.List.{List, [], _∷_}
 use native.Mathlib.Nat.{sub-zero}
-use native.Mathlib.Omega.{arith}
-use lib.ListN.{length, length-append}
+use lib.ListN.{length}
 use lib.Seq.{set-out}
 use Rattle.laws.specs.Places.{gather}
 use Rattle.laws.specs.Put.{Put}
-use Rattle.laws.proofs.Sets.{sets-append}
 use Rattle.laws.proofs.Gathers.{Writes, writes-next, writes-count, writes-all}
-
--- where there is nothing to write, nothing is
-pub put-none : {what : List ℕ} (w : ℕ) (buf : List ℕ) → what ≡ [] → Put what w w buf buf
-put-none w buf e = record { behind = rw e (omega arith); written = rw e }
 
 -- past the end nothing is written
 pub put-out : (b at : ℕ) (old : List ℕ) → length old ≤ at → Put (b ∷ []) at (at + 1) old old
@@ -22,15 +16,6 @@ put-out b at old h = record { behind = refl; written = sym (set-out old at b h) 
 -- what is put under another name
 pub put-as : {x y : List ℕ} {w r : ℕ} {b b₁ : List ℕ} → x ≡ y → Put y w r b b₁ → Put x w r b b₁
 put-as e p = rw e p
-
--- one part and then another, where the first ended
-pub put-both : {x y : List ℕ} {w m r : ℕ} {b b₁ b₂ : List ℕ} → Put x w m b b₁ → Put y m r b₁ b₂ → Put (x ++ y) w r b b₂
-put-both {x} {y} {w} {b = b} p q =
-    record {
-      behind = omega (arith, p .behind, q .behind, length-append x y);
-      written = q .written
-          ∙ rw (p .written, p .behind, sets-append b w x y);
-    }
 
 -- ---- a loop that writes
 module _ {f : ℕ → List ℕ} {n i w₀ w : ℕ} {buf₀ buf : List ℕ} where

@@ -14,9 +14,10 @@ use Rattle.laws.specs.Put.{Put}
 use Rattle.laws.proofs.Gathers.{Writes, gather-step}
 use Rattle.laws.proofs.Tests.{cond-ind}
 use Rattle.bits.specs.Low.{lowWord}
+use Rattle.drafts.specs.Kinds.{closes}
 use Rattle.records.specs.Record.{field}
 use Rattle.listing_text.specs.Listing.{figures, line, line2}
-use Rattle.listing_text.specs.Written.{ending, detailAt, head, InReach}
+use Rattle.listing_text.specs.Written.{detailAt, head, InReach}
 use Rattle.listing_text.proofs.Figures.{few-figures}
 
 -- ---- what follows what
@@ -78,7 +79,7 @@ gather-within f m h (suc k) i =
 detail-short : (ordered : Bool) (l : List ℕ) → Bytes l → (i : ℕ) → length (detailAt ordered l i) ≤ 4294967298
 detail-short true l b i =
     let n = field l (i * recordBytes + 4) 4 in
-    cond-ind (λ (x : List ℕ). length x ≤ 4294967298) (ending (field l (i * recordBytes) 1)) (line n) []
+    cond-ind (λ (x : List ℕ). length x ≤ 4294967298) (closes (field l (i * recordBytes) 1)) (line n) []
     (λ _. omega (arith, line-short n, field-small l (i * recordBytes + 4) 4 b)) (λ _. omega arith)
 detail-short false l b i =
     let m = field-small l (i * faultBytes) 2 b in

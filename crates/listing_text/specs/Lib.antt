@@ -1,5 +1,5 @@
 -- the paper
 pub mod Listing
+pub mod Contract
 -- as code holds it
 pub mod Written
-pub mod Contract

@@ -30,11 +30,11 @@ line2 m n = figures m ++ (32 ∷ line n)
 
 -- OK and the record count, then the first line of each ordered statement; otherwise NO and the number, then line and
 -- code of each fault
-unfoldable pub listed : Decision → List ℕ
-listed (refused n) = bytes "NO " ++ line n
-listed (faulty n fs) = bytes "NO " ++ (line n ++ concat-map (λ (f : Fault). line2 (f .line) (f .code)) fs)
-listed (translated rs ls) = bytes "OK " ++ (line (length rs) ++ concat-map line ls)
+unfoldable pub listingOf : Decision → List ℕ
+listingOf (refused n) = bytes "NO " ++ line n
+listingOf (faulty n fs) = bytes "NO " ++ (line n ++ concat-map (λ (f : Fault). line2 (f .line) (f .code)) fs)
+listingOf (translated rs ls) = bytes "OK " ++ (line (length rs) ++ concat-map line ls)
 
 -- the listing program lends faultRoom and programRoom bytes
 unfoldable pub listing : List ℕ → List ℕ
-listing text = listed (verdictOf text faultRoom programRoom)
+listing text = listingOf (verdictOf text faultRoom programRoom)

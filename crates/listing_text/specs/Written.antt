@@ -1,13 +1,14 @@
 -- The listing as code writes it: by a verdict's number and count, from the bytes of a fault list or of a program. Every
 -- read past an end gives 0.
 use Prim.Native.Nat.{ℕ, _+_, _*_, _<_}
-use mathlib.Core.Bool.{Bool, true, false, cond, _&&_}
+use mathlib.Core.Bool.{Bool, true, false, cond}
 use mathlib.Core.List.{List, [], _∷_, _++_}
-use lib.Dec.{eqb, leb}
+use lib.Dec.{eqb}
 use lib.ListN.{length}
 use Rattle.limits.specs.Limits.{faultBytes, recordBytes}
 use Rattle.laws.specs.Text.{bytes}
 use Rattle.laws.specs.Places.{gather}
+use Rattle.drafts.specs.Kinds.{closes}
 use Rattle.records.specs.Record.{field}
 use Rattle.listing_text.specs.Listing.{line, line2}
 
@@ -15,13 +16,9 @@ use Rattle.listing_text.specs.Listing.{line, line2}
 abbrev pub faultAt : List ℕ → ℕ → List ℕ
 faultAt list i = line2 (field list (i * faultBytes) 2) (field list (i * faultBytes + 2) 1)
 
--- a store or a derivative ends a statement
-abbrev pub ending : ℕ → Bool
-ending kind = leb 13 kind && leb kind 14
-
--- the first line of the statement that record i of a program ends, if it ends one
+-- the first line of the statement that record i of a program ends, if it ends one: a store or a derivative does
 abbrev pub endedAt : List ℕ → ℕ → List ℕ
-endedAt program i = cond (ending (field program (i * recordBytes) 1)) (line (field program (i * recordBytes + 4) 4)) []
+endedAt program i = cond (closes (field program (i * recordBytes) 1)) (line (field program (i * recordBytes + 4) 4)) []
 
 -- either, of a program or of a list
 abbrev pub detailAt : Bool → List ℕ → ℕ → List ℕ

@@ -10,6 +10,8 @@ ghost use Rattle.translator.specs.Contract.{numberIn, countIn};
 ghost use Rattle.listing_text.specs.Listing.{figures, line, line2};
 ghost use Rattle.listing_text.specs.Contract.{Lists};
 ghost use Rattle.listing_text.specs.Written.{faultAt, endedAt, head, detailAt, written, InReach};
+use drafts::RATE;
+use drafts::STORE;
 use limits::FAULT_BYTES;
 use limits::FAULT_ROOM;
 use limits::PROGRAM_ROOM;
@@ -86,7 +88,7 @@ fn low_at(s: &[u8], at: usize, n: usize) -> u64
 }
 
 // Writes line and code of a fault.
-fn put_fault(list: &[u8], i: usize, out: &mut [u8], at: usize) -> usize
+fn put_fault_line(list: &[u8], i: usize, out: &mut [u8], at: usize) -> usize
     requires { ⌜ (i < mostRecords) × InReach (faultAt (now list) i) at ⌝ }
     ensures { λ r. ⌜ Put (faultAt (now (list .entry)) i) at r (now (out .entry)) (now (out .exit)) ⌝ }
 {
@@ -101,10 +103,10 @@ fn put_ended(program: &[u8], i: usize, out: &mut [u8], at: usize) -> usize
 {
     let o = i * RECORD_BYTES;
     let kind = low_at(program, o, 1);
-    if kind < 13 {
+    if kind < STORE as u64 {
         return at;
     }
-    if 14 < kind {
+    if (RATE as u64) < kind {
         return at;
     }
     put_line(low_at(program, o + 4, 4), out, at)
@@ -118,7 +120,7 @@ fn put_detail(ordered: bool, from: &[u8], i: usize, out: &mut [u8], at: usize) -
     if ordered {
         return put_ended(from, i, out, at);
     }
-    put_fault(from, i, out, at)
+    put_fault_line(from, i, out, at)
 }
 
 // Writes so many of them.

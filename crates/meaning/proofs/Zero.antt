@@ -18,7 +18,7 @@ use Rattle.model.specs.Definitions.{definitions}
 use Rattle.model.specs.Faults.{modelFaults, orderOf}
 use Rattle.records.specs.Record.{Rec}
 use Rattle.program.specs.Program.{program}
-use Rattle.translator.specs.Verdict.{Decision, refused, faulty, translated, ifFaults, programmed, modelled, judged}
+use Rattle.translator.specs.Verdict.{Decision, refused, faulty, translated, ifFaults, programmed, modelled, decided}
 use Rattle.translator.specs.Verdict.{verdictOf, numberOf}
 
 -- no statement fault, no model fault, not too many definitions; the program is that of the order, and has room
@@ -76,8 +76,8 @@ module _ (text : List ℕ) (room : ℕ) where
       (known-fitted a (ltb-false mostDefinitions (length ds) t)))
 
   -- 4 and 5
-  known-judged : Known text room (judged room sheet)
-  unfolding judged
+  known-judged : Known text room (decided room sheet)
+  unfolding decided
   known-judged =
       cond-ind (Known text room) (ltb mostStatements (length sheet)) (refused 4) _ (λ _. lit< tt)
       (λ _. known-faults 5 (statementFaults sheet) (modelled room (said sheet)) (lit< tt) known-modelled)
@@ -89,7 +89,7 @@ known text faults room =
     let K = Known text room in
     cond-ind K (ltb faults faultRoom) (refused 1) _ (λ _. lit< tt)
     (λ _. cond-ind K (ltb textBytes (length text)) (refused 2) _ (λ _. lit< tt)
-    (λ _. cond-ind K (ltb textLines (length (linesOf text))) (refused 3) (judged room (sheetOf text)) (λ _. lit< tt)
+    (λ _. cond-ind K (ltb textLines (length (linesOf text))) (refused 3) (decided room (sheetOf text)) (λ _. lit< tt)
     (λ _. known-judged text room)))
 
 -- a text that is translated is clear

@@ -8,7 +8,7 @@ use Rattle.laws.specs.Every.{Every}
 use Rattle.laws.proofs.Every.{every-append, every-anywhere, every-mapped, every-concat, every-part}
 use Rattle.laws.specs.Lists.{numbers}
 use Rattle.deck.specs.Lines.{Line, linesOf, dotted, passed}
-use Rattle.deck.specs.Reading.{Statement, State, fresh, inside, goes-on, ends, after, ended, left, reading}
+use Rattle.deck.specs.Reading.{Statement, State, fresh, inside, goes-on, justClosed, after, ended, left, reading}
 use Rattle.deck.specs.Reports.{Report, report}
 use Rattle.drafts.specs.Tree.{Constant, Says, constants, assignment, state}
 use Rattle.sheet.specs.Sheet.{Told, says, faulty, Sheet, Numbered, Fault, saidBy, faultBy, said, statementFaults}
@@ -66,14 +66,15 @@ module _ (b : ℕ) where
   reading-below fresh n (l ∷ ls) h o = go (passed l) (dotted l) (λ s o. reading-below s (suc n) ls (omega arith) o)
     where
       go : (p d : Bool) → ((s : State) → Open s → Every FirstBelow (reading s (suc n) ls))
-          → Every FirstBelow (cond p [] (ends d n (l ∷ [])) ++ reading (cond p fresh (goes-on d n (l ∷ []))) (suc n) ls)
+          → Every FirstBelow
+          (cond p [] (justClosed d n (l ∷ [])) ++ reading (cond p fresh (goes-on d n (l ∷ []))) (suc n) ls)
       go true d ih = ih fresh tt
       go false true ih = ih (inside n (l ∷ [])) (omega arith)
       go false false ih = (omega arith, ih fresh tt)
   reading-below (inside f cs) n (l ∷ ls) h o = go (dotted l) (λ s o. reading-below s (suc n) ls (omega arith) o)
     where
       go : (d : Bool) → ((s : State) → Open s → Every FirstBelow (reading s (suc n) ls))
-          → Every FirstBelow (ends d f (cs ++ (l ∷ [])) ++ reading (goes-on d f (cs ++ (l ∷ []))) (suc n) ls)
+          → Every FirstBelow (justClosed d f (cs ++ (l ∷ [])) ++ reading (goes-on d f (cs ++ (l ∷ []))) (suc n) ls)
       go true ih = ih (inside f (cs ++ (l ∷ []))) o
       go false ih = (o, ih fresh tt)
 

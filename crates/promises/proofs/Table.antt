@@ -28,15 +28,15 @@ use Rattle.order.specs.Greedy.{all, first, ready, next as nextReady, place, ord
 use Rattle.model.specs.Definitions.{placeIn}
 use Rattle.model.specs.Faults.{again, faults21, within, modelFaults}
 use Rattle.program.specs.Program.{valueIn, program}
-use Rattle.translator.specs.Verdict.{judged, verdictOf}
-use Rattle.listing_text.specs.Listing.{figuresIn, listed, listing}
+use Rattle.translator.specs.Verdict.{decided, verdictOf}
+use Rattle.listing_text.specs.Listing.{figuresIn, listingOf, listing}
 use Rattle.meaning.specs.Depth.{highest, heightOf}
 use Rattle.promises.specs.Table.{Trial, trials, shown, wanted, tank, deck, loop, Plain, numberFor}
 
 -- THE TABLE. Each text has the verdict and the listing that stand beside it
 pub tried : map shown trials ≡ map wanted trials
-unfolding trials listing listed figuresIn verdictOf judged linesOf trimmed dotted passed after ended left reading partOf
-    joined anyLong sizeFlaw told sheetOf
+unfolding trials listing listingOf figuresIn verdictOf decided linesOf trimmed dotted passed after ended left reading
+    partOf joined anyLong sizeFlaw told sheetOf
     concat-map sameBytes numbers run count lowWord decimal digitsFrom exponentFrom tenTo scaled tokenOf numberAt nameAt
     tokenAt cutAt
     lookUp symbolNamed rowFrom rowOf
@@ -55,8 +55,8 @@ each-trial = at-mem shown wanted trials tried
 pub computed : (heightOf (verdictOf deck faultRoom programRoom) ≡ stackPlaces)
     × (numberFor (bytes tank) ≡ 0) × Plain (bytes tank)
     × (numberFor loop ≡ 7) × Plain loop
-unfolding highest verdictOf judged linesOf trimmed dotted passed after ended left reading partOf joined anyLong sizeFlaw
-    told sheetOf concat-map
+unfolding highest verdictOf decided linesOf trimmed dotted passed after ended left reading partOf joined anyLong
+    sizeFlaw told sheetOf concat-map
     sameBytes numbers run count lowWord decimal digitsFrom exponentFrom tenTo scaled tokenOf numberAt nameAt tokenAt
     cutAt
     lookUp symbolNamed rowFrom rowOf names

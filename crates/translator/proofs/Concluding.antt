@@ -24,11 +24,11 @@ use Rattle.model.proofs.NoModelFault.{order-good}
 use Rattle.model.specs.Definitions.{Def, definitions, equationCount}
 use Rattle.model.specs.Faults.{faults21, nameFaults, faults24, modelFaults, orderOf, usesIn as uses}
 use Rattle.model.specs.Places.{keysIn, placesIn, doubles, resolved, nameless, equatedIn, assignedSlots, usedIn}
-use Rattle.model.specs.Places.{startsFrom, loopAt, loops}
+use Rattle.model.specs.Places.{loopAt, loops}
 use Rattle.model.specs.Plan.{Lent, lent, PlanOutcome, planOutcome, refused, faulted, some, fit, orderedPlan, weighed}
 use Rattle.model.specs.Plan.{tested, linkedPlan, distinct}
 use Rattle.model.specs.Plan.{sheeted, planned}
-use Rattle.translator.specs.Working.{blank, held}
+use Rattle.translator.specs.Working.{blank, padded}
 use Rattle.model.proofs.ArraysMean.{keys-meant, doubles-meant, names-meant, equated-meant, order-meant, loops-meant}
 
 -- without a 24 all equations are placed
@@ -77,18 +77,15 @@ module _ (ss : List Numbered) (kinds args lines bounds : List ℕ) (laid : Laid 
   abbrev table : List ℕ
   table = usedIn assigned bounds kinds slots equated
 
-  abbrev starts : List ℕ
-  starts = startsFrom 0 assigned bounds kinds slots equated
-
   -- the three arrays: with the places; with the equations too; with their order too
   abbrev placed : Lent
-  placed = lent (held mostDefinitions places) (replicate mostStatements 0) (replicate mostStatements 0)
+  placed = lent (padded mostDefinitions places) (replicate mostStatements 0) (replicate mostStatements 0)
 
   abbrev ruled : Lent
-  ruled = lent (held mostDefinitions places) (held mostStatements equated) (replicate mostStatements 0)
+  ruled = lent (padded mostDefinitions places) (padded mostStatements equated) (replicate mostStatements 0)
 
   abbrev filled : Lent
-  filled = lent (held mostDefinitions places) (held mostStatements equated) (held mostStatements (orderOf ds))
+  filled = lent (padded mostDefinitions places) (padded mostStatements equated) (padded mostStatements (orderOf ds))
 
   -- the plan of a sheet without fault
   abbrev pub soundPlan : PlanOutcome

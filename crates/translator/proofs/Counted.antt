@@ -26,7 +26,7 @@ use Rattle.records.specs.Record.{Rec}
 use Rattle.program.specs.Program.{program}
 use Rattle.drafts.specs.Kinds.{writes}
 use Rattle.program.specs.Written.{recordCount}
-use Rattle.translator.specs.Verdict.{Decision, refused, ifFaults, fitted, modelled, judged, verdictOf, countOf}
+use Rattle.translator.specs.Verdict.{Decision, refused, ifFaults, fitted, modelled, decided, verdictOf, countOf}
 use Rattle.translator.specs.Verdict.{faulty as flawed, translated}
 
 -- at most one for each element
@@ -142,9 +142,9 @@ few-modelled room ss h =
     (model-few ss mostStatements h (omega (arith, ltb-false mostDefinitions (length ds) e)))
     (few-fitted room (program ds (orderOf ds)) _))
 
-few-judged : (room : ℕ) (sheet : Sheet) → Few (judged room sheet)
-unfolding judged
-few-judged room sheet =
+few-decided : (room : ℕ) (sheet : Sheet) → Few (decided room sheet)
+unfolding decided
+few-decided room sheet =
     cond-ind Few (ltb mostStatements (length sheet)) (refused 4) _ (λ _. tt)
     (λ e.
     let h = ltb-false mostStatements (length sheet) e in
@@ -158,7 +158,7 @@ few text faults room =
     cond-ind Few (ltb faults faultRoom) (refused 1) _ (λ _. tt)
     (λ _. cond-ind Few (ltb textBytes (length text)) (refused 2) _ (λ _. tt)
     (λ _. cond-ind Few (ltb textLines (length (linesOf text))) (refused 3) _ (λ _. tt)
-    (λ _. few-judged room (sheetOf text))))
+    (λ _. few-decided room (sheetOf text))))
 
 -- the count is at most that of the most records
 pub count-few : (v : Decision) → Few v → countOf v ≤ mostRecords

@@ -5,7 +5,6 @@ mod Parsing
 mod Turns
 mod Concluding
 pub mod Deciding
-mod Fitting
 pub mod Counted
 mod Writing
 mod Rooms

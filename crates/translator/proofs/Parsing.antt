@@ -24,9 +24,10 @@ use Rattle.grammar.proofs.Accepts.{written}
 use Rattle.grammar.proofs.Room.{room}
 use Rattle.sheet.specs.Sheet.{says}
 use Rattle.sheet.specs.Reader.{parsed, scanned, sized, told}
+use Rattle.sheet.specs.Layout.{draftKinds, draftArgs}
 use Rattle.translator.specs.declared.Told.{Told as Answer}
 use Rattle.translator.specs.declared.Told.the-variants.{Says, Faulty}
-use Rattle.translator.specs.Working.{kindsOf, argsOf, TellsOf, Tells, RowRoom}
+use Rattle.translator.specs.Working.{TellsOf, Tells, RowRoom}
 
 -- what is written from a place on keeps what stands before
 take-before : (p : ℕ) (l : List ℕ) (i : ℕ) (vs : List ℕ) → p ≤ i → take p (sets l i vs) ≡ take p l
@@ -63,11 +64,11 @@ module _ {ks us : List ℕ} {p : ℕ} {l u : List ℕ} (h : RowRoom ks us p l u)
   unfolding wrote
   replied = ap (λ (z : ParseOutcome Parsed). z .reply) same
 
-  kinds-are : l′ ≡ sets l p (kindsOf (outOf ps))
+  kinds-are : l′ ≡ sets l p (draftKinds (outOf ps))
   unfolding wrote
   kinds-are = ap (λ (z : ParseOutcome Parsed). z .kinds) same
 
-  args-are : u′ ≡ sets u p (argsOf (outOf ps))
+  args-are : u′ ≡ sets u p (draftArgs (outOf ps))
   unfolding wrote
   args-are = ap (λ (z : ParseOutcome Parsed). z .args) same
 
@@ -77,21 +78,21 @@ module _ {ks us : List ℕ} {p : ℕ} {l u : List ℕ} (h : RowRoom ks us p l u)
   by-read (read x) e a =
       let d : outOf ps ≡ draftsOf x = written (symbols ps) x e in (
         ap answerOf a ∙ ap (λ (ds : List Draft). Says (p + length ds)) d,
-        kinds-are ∙ ap (λ (ds : List Draft). sets l p (kindsOf ds)) d,
-        args-are ∙ ap (λ (ds : List Draft). sets u p (argsOf ds)) d,
+        kinds-are ∙ ap (λ (ds : List Draft). sets l p (draftKinds ds)) d,
+        args-are ∙ ap (λ (ds : List Draft). sets u p (draftArgs ds)) d,
       )
   by-read (fault c i) e a = (
     ap answerOf a,
-    ap (take p) kinds-are ∙ take-before p l p (kindsOf (outOf ps)) (omega arith),
-    ap (take p) args-are ∙ take-before p u p (argsOf (outOf ps)) (omega arith),
+    ap (take p) kinds-are ∙ take-before p l p (draftKinds (outOf ps)) (omega arith),
+    ap (take p) args-are ∙ take-before p u p (draftArgs (outOf ps)) (omega arith),
   )
 
   -- the answer and the buffers are what the row tells
   telling : Tells (parsed ps (readRow (symbols ps))) p l u (answerOf r) l′ u′
   telling =
       record {
-        long-kinds = ap length kinds-are ∙ length-sets l p (kindsOf (outOf ps));
-        long-args = ap length args-are ∙ length-sets u p (argsOf (outOf ps));
+        long-kinds = ap length kinds-are ∙ length-sets l p (draftKinds (outOf ps));
+        long-args = ap length args-are ∙ length-sets u p (draftArgs (outOf ps));
         by-told = by-read (readRow (symbols ps)) refl replied;
       }
 

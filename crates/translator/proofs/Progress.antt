@@ -24,10 +24,10 @@ use Rattle.drafts.specs.Drafts.{Draft, draftsOf}
 use Rattle.sheet.specs.Sheet.{Told, says, faulty, Sheet, Numbered, said, Fault, statementFaults, entryOf, faultEntry}
 use Rattle.sheet.specs.Sheet.{faultList}
 use Rattle.sheet.specs.Reader.{told, sheetOf}
-use Rattle.sheet.specs.Layout.{draftsIn, boundsFrom}
+use Rattle.sheet.specs.Layout.{draftsIn, draftKinds, draftArgs, boundsFrom}
 use Rattle.sheet.proofs.Entries.{list-length}
-use Rattle.translator.specs.declared.Tally.{Tally}
-use Rattle.translator.specs.Working.{kindsOf, argsOf, Progress, Read}
+use Rattle.translator.specs.declared.SoFar.{SoFar}
+use Rattle.translator.specs.Working.{Progress, Read}
 
 -- ---- rows written behind what is held
 
@@ -118,7 +118,7 @@ module _ (text list : List ℕ) (kinds args lines bounds : List ℕ) where
       }
 
 -- ---- one statement more, found at the cursor c
-module _ {text list₀ kinds args lines bounds list : List ℕ} {c : Cursor} {n : Tally}
+module _ {text list₀ kinds args lines bounds list : List ℕ} {c : Cursor} {n : SoFar}
     (p : Progress text list₀ c n kinds args lines bounds list) {f s k : ℕ} {d g : Bool} {nx : Cursor}
     (w : Walk text c f s k d g nx) where
   here : Told → Report Told
@@ -139,7 +139,7 @@ module _ {text list₀ kinds args lines bounds list : List ℕ} {c : Cursor} {n 
       → n .statements < length lines → n .statements + 1 < length bounds
       → Progress text list₀ nx
       (record { statements = n .statements + 1; drafts = n .drafts + length (draftsOf x); faults = n .faults })
-      (sets kinds (n .drafts) (kindsOf (draftsOf x))) (sets args (n .drafts) (argsOf (draftsOf x)))
+      (sets kinds (n .drafts) (draftKinds (draftsOf x))) (sets args (n .drafts) (draftArgs (draftsOf x)))
       (set lines (n .statements) f)
       (set bounds (n .statements + 1) (n .drafts + length (draftsOf x))) list
   unfolding here concat-map
@@ -195,8 +195,8 @@ module _ {text list₀ kinds args lines bounds list : List ℕ} {c : Cursor} {n 
         statements = p .statements ∙ sym (ap length same);
         drafts = p .drafts ∙ sym (ap (λ (ss : List Numbered). length (draftsIn ss)) same);
         faults = omega (arith, p .faults, ap length more, length-append old (new ∷ []));
-        kinds-held = hk ∙ p .kinds-held ∙ sym (ap (λ (ss : List Numbered). kindsOf (draftsIn ss)) same);
-        args-held = ha ∙ p .args-held ∙ sym (ap (λ (ss : List Numbered). argsOf (draftsIn ss)) same);
+        kinds-held = hk ∙ p .kinds-held ∙ sym (ap (λ (ss : List Numbered). draftKinds (draftsIn ss)) same);
+        args-held = ha ∙ p .args-held ∙ sym (ap (λ (ss : List Numbered). draftArgs (draftsIn ss)) same);
         lines-held = p .lines-held ∙ sym (ap (map (λ (z : Numbered). z .line)) same);
         bounds-held = p .bounds-held ∙ sym (ap (boundsFrom 0) same);
         listed =
@@ -208,7 +208,7 @@ module _ {text list₀ kinds args lines bounds list : List ℕ} {c : Cursor} {n 
       }
 
 -- ---- the end: nothing more is found
-module _ {text list₀ kinds args lines bounds list : List ℕ} {c : Cursor} {n : Tally}
+module _ {text list₀ kinds args lines bounds list : List ℕ} {c : Cursor} {n : SoFar}
     (p : Progress text list₀ c n kinds args lines bounds list) where
   -- all is done
   pub all-done : statementsFrom text c ≡ [] → p .done ≡ sheetOf text
@@ -223,8 +223,8 @@ module _ {text list₀ kinds args lines bounds list : List ℕ} {c : Cursor} {n 
         faults = p .faults ∙ ap (λ (ss : Sheet). length (statementFaults ss)) q;
         laid =
             record {
-              kinds-held = p .kinds-held ∙ ap (λ (ss : Sheet). kindsOf (draftsIn (said ss))) q;
-              args-held = p .args-held ∙ ap (λ (ss : Sheet). argsOf (draftsIn (said ss))) q;
+              kinds-held = p .kinds-held ∙ ap (λ (ss : Sheet). draftKinds (draftsIn (said ss))) q;
+              args-held = p .args-held ∙ ap (λ (ss : Sheet). draftArgs (draftsIn (said ss))) q;
               lines-held = p .lines-held ∙ ap (λ (ss : Sheet). map (λ (z : Numbered). z .line) (said ss)) q;
               bounds-held = p .bounds-held ∙ ap (λ (ss : Sheet). boundsFrom 0 (said ss)) q;
             };

@@ -15,23 +15,23 @@ use Rattle.drafts.specs.Drafts.{Draft}
 use Rattle.sheet.specs.Sheet.{Numbered, Fault, said, statementFaults, faultList}
 use Rattle.sheet.specs.Reader.{sheetOf}
 use Rattle.sheet.specs.Layout.{draftsIn, Laid}
-use Rattle.translator.specs.declared.Tally.{Tally}
+use Rattle.translator.specs.declared.SoFar.{SoFar}
 use Rattle.translator.specs.declared.Verdict.{Verdict}
 use Rattle.translator.specs.declared.Verdict.the-variants.{Faulty}
 use Rattle.translator.specs.Contract.{reply, replyOf}
-use Rattle.translator.specs.Verdict.{ifFaults, modelled, judged}
-use Rattle.translator.specs.Working.{Read, Ready, Concludes, Taken, Room, Judges}
-use Rattle.translator.proofs.Fitting.{bounds-many, laid-fits}
+use Rattle.translator.specs.Verdict.{ifFaults, modelled, decided}
+use Rattle.translator.specs.Working.{Read, Ready, Concludes, Taken, Room, Decides}
+use Rattle.model.proofs.LaidFits.{bounds-many, laid-fits}
 use Rattle.translator.proofs.Counted.{counts}
 
 module _ {text list₀ kinds₀ args₀ lines₀ bounds₀ : List ℕ} (room : Room text list₀ kinds₀ args₀ lines₀ bounds₀)
-    {n : Tally} {kinds args lines bounds list : List ℕ} (r : Read text list₀ n kinds args lines bounds list) where
+    {n : SoFar} {kinds args lines bounds list : List ℕ} (r : Read text list₀ n kinds args lines bounds list) where
   few : ltb mostStatements (length (sheetOf text)) ≡ false
   few = le-ltb mostStatements (length (sheetOf text)) (room .taken .few)
 
   -- 5: some fault stands, and the list is written
-  pub says-five : (p : List ℕ) → 0 < n .faults → Judges text list₀ p (Faulty 5 (n .faults)) list p
-  unfolding judged
+  pub says-five : (p : List ℕ) → 0 < n .faults → Decides text list₀ p (Faulty 5 (n .faults)) list p
+  unfolding decided
   says-five p h = rw (few, r .faults, r .listed) (go (statementFaults (sheetOf text)) (rw (← r .faults) h))
     where
       go : (fs : List Fault) → 0 < length fs
@@ -55,8 +55,8 @@ module _ {text list₀ kinds₀ args₀ lines₀ bounds₀ : List ℕ} (room : R
 
     -- the model decides
     pub says-model : (v : Verdict) (p : List ℕ) {f′ p′ : List ℕ} → Concludes (said (sheetOf text)) list p v f′ p′
-        → Judges text list₀ p v f′ p′
-    unfolding judged
+        → Decides text list₀ p v f′ p′
+    unfolding decided
     says-model v p w = rw (few, clean, ← listed-none) w
 
   -- no more statements than there may be

@@ -8,7 +8,7 @@ use native.Mathlib.Omega.{arith}
 use borrow.Author.Tests.{lt-ltb, ltb-true}
 use lib.Dec.{ltb}
 use lib.ListN.{length, getD, length-map}
-use Rattle.laws.proofs.Tests.{not-both, cond-ind, lt-or-ge}
+use Rattle.laws.proofs.Tests.{not-both, cond-ind, or-true, lt-or-ge}
 use Rattle.limits.specs.Limits.{faultRoom, textBytes, textLines, mostStatements, mostDefinitions, mostRecords}
 use Rattle.limits.specs.Limits.{recordBytes}
 use Rattle.deck.specs.Lines.{linesOf}
@@ -17,7 +17,8 @@ use Rattle.sheet.specs.Sheet.{Fault}
 use Rattle.sheet.specs.Reader.{told, sheetOf, faultsOf}
 use Rattle.sheet.specs.Numbers.{statementsOf}
 use Rattle.model.specs.Text.{textDefinitions}
-use Rattle.translator.specs.Verdict.{Decision, refused, faulty, translated, ifFaults, judged, verdictOf, numberOf}
+use Rattle.translator.specs.Verdict.{Decision, refused, faulty, translated, ifFaults, decided, verdictOf}
+use Rattle.translator.specs.Verdict.{numberOf}
 use Rattle.translator.specs.Verdict.{faultsAfter, programAfter, translation}
 use Rattle.translator.specs.Rules.{recordsOf, modelFaultsOf, Reason, Exactly, Writes, room, bytes, lines}
 use Rattle.translator.specs.Rules.{statements}
@@ -41,11 +42,6 @@ either : (a b : Bool) → (a ≡ true) ⊎ (b ≡ true) → (a || b) ≡ true
 either true b h = refl
 either false b (inl e) = absurd (not-both e refl)
 either false b (inr e) = e
-
--- and back
-which : (a b : Bool) → (a || b) ≡ true → (a ≡ true) ⊎ (b ≡ true)
-which true b e = inl refl
-which false b e = inr e
 
 module _ (text : List ℕ) (f p : ℕ) where
   -- the test of a rule; there is none of 0
@@ -87,7 +83,7 @@ module _ (text : List ℕ) (f p : ℕ) where
       let rs = recordsOf text in
       records
       (⊎-elim (λ a. inl (ltb-true mostRecords (length rs) a)) (λ b. inr (ltb-true (p / recordBytes) (length rs) b))
-      (which (ltb mostRecords (length rs)) (ltb (p / recordBytes) (length rs)) t))
+      (or-true (ltb mostRecords (length rs)) (ltb (p / recordBytes) (length rs)) t))
   from-test (suc (suc (suc (suc (suc (suc (suc (suc (suc n))))))))) t = absurd (not-both t refl)
 
   -- where every test fails no rule holds
@@ -195,7 +191,7 @@ module _ (text f p : List ℕ) where
 
   -- so it is with every verdict
   wrote-all : Wrote (verdictOf text (length f) (length p))
-  unfolding verdictOf judged
+  unfolding verdictOf decided
   wrote-all =
       let ds = textDefinitions text in
       let rs = recordsOf text in

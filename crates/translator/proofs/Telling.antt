@@ -27,7 +27,7 @@ use Rattle.sheet.specs.Sheet.{Told, says, faulty, entryOf}
 use Rattle.sheet.specs.Reader.{parsed, scanned, tokened, sized, told}
 use Rattle.translator.specs.declared.Told.{Told as Answer}
 use Rattle.translator.specs.declared.Told.the-variants.{Says, Faulty}
-use Rattle.translator.specs.declared.Tally.{Tally}
+use Rattle.translator.specs.declared.SoFar.{SoFar}
 use Rattle.translator.specs.Working.{TellsOf, Tells, Size, AddsOf, Adds}
 
 -- ---- what is told
@@ -110,7 +110,7 @@ module _ (cards : List Line) (closed : Bool) where
   told-joined e = ap (λ (f : Flaw). sized f (joined cards)) e
 
 -- ---- one statement more
-module _ {t : Told} {l u l′ u′ : List ℕ} {r : Answer} (n : Tally) (w : Tells t (n .drafts) l u r l′ u′) where
+module _ {t : Told} {l u l′ u′ : List ℕ} {r : Answer} (n : SoFar) (w : Tells t (n .drafts) l u r l′ u′) where
   -- where it says something, by at most m drafts, the answer is not too far on
   pub end-near : {end : ℕ} (m : ℕ) → ((x : Statement) → t ≡ says x → length (draftsOf x) ≤ m) → r ≡ Says end
       → end ≤ n .drafts + m

@@ -2,7 +2,7 @@
 use Prim.Native.Nat.{ℕ, _+_, _-_, _≤_, _<_}
 use mathlib.Core.Path.{_≡_, refl, ap, _∙_}
 use mathlib.Core.Bool.{Bool, true, false}
-use mathlib.Core.List.{List, [], _∷_, _++_, map}
+use mathlib.Core.List.{List, _∷_, _++_, map}
 use native.Mathlib.Omega.{arith}
 use lib.ListN.{length, replicate, length-append, length-set}
 use lib.Seq.{length-sets}
@@ -17,7 +17,7 @@ use Rattle.deck.specs.Walks.{Walk}
 use Rattle.deck.proofs.Walking.{walk, walk-end}
 use Rattle.sheet.specs.Sheet.{Told, says, faulty}
 use Rattle.sheet.specs.Reader.{told, sheetOf}
-use Rattle.translator.specs.declared.Tally.{Tally}
+use Rattle.translator.specs.declared.SoFar.{SoFar}
 use Rattle.translator.specs.Working.{Able, AddsOf, Adds, Progress, Room, Read}
 use Rattle.translator.proofs.Counted.{counts}
 use Rattle.translator.proofs.Parsing.{drafts-few}
@@ -30,7 +30,7 @@ closed k true long h = refl
 closed k false long h = absurd (omega arith)
 
 -- what is read so far; the buffers are as long as those of the beginning
-pub record Going (text kinds₀ args₀ lines₀ bounds₀ list₀ kinds args lines bounds list : List ℕ) (n : Tally)
+pub record Going (text kinds₀ args₀ lines₀ bounds₀ list₀ kinds args lines bounds list : List ℕ) (n : SoFar)
     (c : Cursor) : Type 0 where
   pub progress : Progress text list₀ c n kinds args lines bounds list
   pub long-kinds : length kinds ≡ length kinds₀
@@ -52,7 +52,7 @@ module _ {text kinds args lines bounds list : List ℕ} where
         long-bounds = refl;
       }
 
-module _ {text kinds₀ args₀ lines₀ bounds₀ list₀ kinds args lines bounds list : List ℕ} {n : Tally} {c : Cursor}
+module _ {text kinds₀ args₀ lines₀ bounds₀ list₀ kinds args lines bounds list : List ℕ} {n : SoFar} {c : Cursor}
     (room : Room text list₀ kinds₀ args₀ lines₀ bounds₀)
     (g : Going text kinds₀ args₀ lines₀ bounds₀ list₀ kinds args lines bounds list n c) where
   -- the list keeps its length too
@@ -112,7 +112,7 @@ module _ {text kinds₀ args₀ lines₀ bounds₀ list₀ kinds args lines boun
         }
 
     -- behind it
-    pub going-next : {kinds′ args′ lines′ bounds′ list′ : List ℕ} {n′ : Tally}
+    pub going-next : {kinds′ args′ lines′ bounds′ list′ : List ℕ} {n′ : SoFar}
         → Adds (told (cardsAt text s k) d) f n kinds args lines bounds list n′ kinds′ args′ lines′ bounds′ list′
         → Going text kinds₀ args₀ lines₀ bounds₀ list₀ kinds′ args′ lines′ bounds′ list′ n′ nx
     going-next {kinds′} {args′} {lines′} {bounds′} {list′} {n′} w =

@@ -16,9 +16,9 @@ use Rattle.sheet.specs.Reader.{told, sheetOf}
 use Rattle.translator.specs.declared.Verdict.{Verdict}
 use Rattle.translator.specs.declared.Verdict.the-variants.{Refused}
 use Rattle.translator.specs.Contract.{Reply, byNumber, replyOf, Translates, Gives}
-use Rattle.translator.specs.Verdict.{Decision, refused, faulty, translated, judged, verdictOf}
+use Rattle.translator.specs.Verdict.{Decision, refused, faulty, translated, decided, verdictOf}
 use Rattle.translator.specs.Verdict.{translationOf, translation}
-use Rattle.translator.specs.Working.{Taken, Judges}
+use Rattle.translator.specs.Working.{Taken, Decides}
 
 -- a report for each statement
 pub sheet-many : (text : List ℕ) → length (sheetOf text) ≡ length (reading fresh 1 (linesOf text))
@@ -67,15 +67,15 @@ module _ (text f p : List ℕ) where
         lined = le-ltb textLines (length (linesOf text)) lines
 
         pub says-four : mostStatements < length (reading fresh 1 (linesOf text)) → Translates text f p (Refused 4) f p
-        unfolding verdictOf judged
+        unfolding verdictOf decided
         says-four h =
             rw
             (enough, brief, lined, sheet-many text, lt-ltb mostStatements (length (reading fresh 1 (linesOf text))) h)
 
         -- behind them the sheet's verdict is the text's
-        pub says-judged : (r : Verdict) {f′ p′ : List ℕ} → Judges text f p r f′ p′ → Translates text f p r f′ p′
+        pub says-decided : (r : Verdict) {f′ p′ : List ℕ} → Decides text f p r f′ p′ → Translates text f p r f′ p′
         unfolding verdictOf
-        says-judged r w = rw (enough, brief, lined) w
+        says-decided r w = rw (enough, brief, lined) w
 
 -- the reply to a verdict has its number and count
 by-case : (v : Decision) (f p : List ℕ)

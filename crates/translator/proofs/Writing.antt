@@ -8,7 +8,7 @@ use native.Mathlib.Nat.{zero-add}
 use borrow.Author.Tests.{leb-true, ltb-true, ltb-false}
 use lib.Dec.{leb, ltb}
 use lib.ListN.{length, take, replicate, length-replicate}
-use lib.Seq.{sets, length-sets, length-take-le, take-all}
+use lib.Seq.{sets, length-sets, take-all}
 use Rattle.limits.specs.Limits.{mostDefinitions, mostStatements, mostRecords, recordBytes}
 use Rattle.laws.proofs.Tests.{and-true}
 use Rattle.laws.proofs.Bools.{or-false}
@@ -26,7 +26,7 @@ use Rattle.model.proofs.ArraysMean.{places-meant, equated-meant}
 use Rattle.program.specs.Written.{recordCount, writtenProgram, fitting}
 use Rattle.translator.specs.declared.Verdict.{Verdict}
 use Rattle.translator.specs.declared.Verdict.the-variants.{Refused, Faulty, Translated}
-use Rattle.translator.specs.Working.{blank, held, Ready, Planned, Concludes}
+use Rattle.translator.specs.Working.{blank, padded, Ready, Planned, Concludes}
 use Rattle.translator.proofs.Progress.{take-sets}
 use Rattle.translator.proofs.Concluding.{Conclusion, concluded, soundPlan, all-placed}
 use Rattle.translator.proofs.Deciding.{written, decides-six, decides-seven, decides-sound, decides-eight}
@@ -34,18 +34,14 @@ use Rattle.translator.proofs.Deciding.{decides-eight′, decides-zero}
 use Rattle.translator.proofs.Deciding.{program-long}
 
 -- a row that an array holds stands at its front
-pub take-held : (m : ℕ) (l : List ℕ) (n : ℕ) → n ≡ length l → length l ≤ m → take n (held m l) ≡ l
-take-held m l n e h =
+pub take-padded : (m : ℕ) (l : List ℕ) (n : ℕ) → n ≡ length l → length l ≤ m → take n (padded m l) ≡ l
+take-padded m l n e h =
     let long = length-replicate {A = ℕ} m 0 in
     ap (λ (k : ℕ). take k (sets (replicate m 0) 0 l)) (e ∙ sym (zero-add (length l)))
     ∙ take-sets (replicate m 0) 0 l (omega (arith, long, h))
 
-length-held : (m : ℕ) (l : List ℕ) → length (held m l) ≡ m
-length-held m l = length-sets (replicate m 0) 0 l ∙ length-replicate {A = ℕ} m 0
-
--- a front has its length
-pub front : (n : ℕ) (l : List ℕ) → n ≤ length l → n ≡ length (take n l)
-front n l h = sym (length-take-le n l h)
+length-padded : (m : ℕ) (l : List ℕ) → length (padded m l) ≡ m
+length-padded m l = length-sets (replicate m 0) 0 l ∙ length-replicate {A = ℕ} m 0
 
 -- ---- the plan of a sound model
 module _ {p : Plan} {places equated order lines bounds kinds args : List ℕ}
@@ -76,32 +72,32 @@ module _ {p : Plan} {places equated order lines bounds kinds args : List ℕ}
 
   -- the three rows, cut from their arrays
   pub places-room : p .definitions ≤ length places
-  places-room = rw (s .places-held, length-held mostDefinitions (placesIn kinds))
+  places-room = rw (s .places-held, length-padded mostDefinitions (placesIn kinds))
       (omega (arith, s .definitions-counted, places-short))
 
   pub equated-room : p .equations ≤ length equated
-  equated-room = rw (s .equated-held, length-held mostStatements (equatedIn (length lines) bounds kinds))
+  equated-room = rw (s .equated-held, length-padded mostStatements (equatedIn (length lines) bounds kinds))
       (omega (arith, s .equations-counted, equated-short))
 
   pub order-room : p .equations ≤ length order
   order-room =
-      rw (s .order-held, length-held mostStatements (orderOf ds)) (omega (arith, s .equations-counted, equated-short))
+      rw (s .order-held, length-padded mostStatements (orderOf ds)) (omega (arith, s .equations-counted, equated-short))
 
   pub places-cut : take (p .definitions) places ≡ placesIn kinds
   places-cut =
       rw (s .places-held)
-      (take-held mostDefinitions (placesIn kinds) (p .definitions) (s .definitions-counted) places-short)
+      (take-padded mostDefinitions (placesIn kinds) (p .definitions) (s .definitions-counted) places-short)
 
   pub equated-cut : take (p .equations) equated ≡ equatedIn (length lines) bounds kinds
   equated-cut =
       rw (s .equated-held)
-      (take-held mostStatements (equatedIn (length lines) bounds kinds) (p .equations)
+      (take-padded mostStatements (equatedIn (length lines) bounds kinds) (p .equations)
       (s .equations-counted) equated-short)
 
   pub order-cut : take (p .equations) order ≡ orderOf ds
   order-cut =
       rw (s .order-held)
-      (take-held mostStatements (orderOf ds) (p .equations)
+      (take-padded mostStatements (orderOf ds) (p .equations)
       (s .equations-counted ∙ equated-many ∙ sym order-many) order-short)
 
   -- what is written is the program's bytes

@@ -2,7 +2,8 @@
 pub mod Verdict
 pub mod Refusals
 pub mod Rules
--- as code holds it
 pub mod Contract
-pub mod Working
+-- what theorems say of a caller's answer
 pub mod Replies
+-- as code holds it
+pub mod Working

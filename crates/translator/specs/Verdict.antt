@@ -44,8 +44,8 @@ modelled room ss =
     cond (ltb mostDefinitions (length (definitions ss))) (refused 6) faults
 
 -- 4: over mostStatements statements; 5: a statement fault stands. By the sheet alone, whatever the reader was
-unfoldable pub judged : ℕ → Sheet → Decision
-judged room sheet =
+unfoldable pub decided : ℕ → Sheet → Decision
+decided room sheet =
     let next = modelled room (said sheet) in
     let faults = ifFaults 5 (statementFaults sheet) next in
     cond (ltb mostStatements (length sheet)) (refused 4) faults
@@ -53,7 +53,7 @@ judged room sheet =
 -- 1: lent fault list under faultRoom bytes; 2: text over textBytes bytes; 3: over textLines lines
 unfoldable pub verdictOf : List ℕ → ℕ → ℕ → Decision
 verdictOf text faults room =
-    let next = judged room (sheetOf text) in
+    let next = decided room (sheetOf text) in
     let long = cond (ltb textLines (length (linesOf text))) (refused 3) next in
     cond (ltb faults faultRoom) (refused 1) (cond (ltb textBytes (length text)) (refused 2) long)
 

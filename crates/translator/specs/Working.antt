@@ -14,10 +14,10 @@ use Rattle.deck.specs.Faults.{sizeFlaw}
 use Rattle.deck.specs.Codes.{sizeCode, flawOf, joinedRoom}
 use Rattle.deck.specs.Reports.{report}
 use Rattle.deck.specs.Next.{statementsFrom, cardsAt}
-use Rattle.drafts.specs.Drafts.{Draft, draftsOf}
+use Rattle.drafts.specs.Drafts.{draftsOf}
 use Rattle.sheet.specs.Sheet.{Told, says, faulty, Sheet, Numbered, said, statementFaults, entryOf, faultList}
 use Rattle.sheet.specs.Reader.{told, sheetOf}
-use Rattle.sheet.specs.Layout.{draftsIn, boundsFrom, Laid}
+use Rattle.sheet.specs.Layout.{draftsIn, draftKinds, draftArgs, boundsFrom, Laid}
 use Rattle.model.specs.Definitions.{definitions}
 use Rattle.model.specs.Faults.{modelFaults, orderOf}
 use Rattle.model.specs.Places.{keysIn, placesIn, resolved, equatedIn}
@@ -25,25 +25,18 @@ use Rattle.model.specs.Plan.{Lent, lent, fit}
 use Rattle.model.specs.declared.answer.Plan.{Plan}
 use Rattle.translator.specs.declared.Verdict.{Verdict}
 use Rattle.translator.specs.Contract.{reply, replyOf}
-use Rattle.translator.specs.Verdict.{modelled, judged}
+use Rattle.translator.specs.Verdict.{modelled, decided}
 use Rattle.translator.specs.declared.Told.{Told as Answer}
 use Rattle.translator.specs.declared.Told.the-variants.{Says, Faulty}
-use Rattle.translator.specs.declared.Tally.{Tally}
-
--- the kinds of drafts, and their arguments
-abbrev pub kindsOf : List Draft → List ℕ
-kindsOf ds = map (λ (d : Draft). d .kind) ds
-
-abbrev pub argsOf : List Draft → List ℕ
-argsOf ds = map (λ (d : Draft). d .arg) ds
+use Rattle.translator.specs.declared.SoFar.{SoFar}
 
 -- ---- one statement
 
 -- what is told of it: where it says something, the answer is the place behind its drafts, which stand from the place p
 -- on; where it has a fault, the answer is the code, and what stands before the place is kept
 abbrev pub TellsOf : Told → ℕ → List ℕ → List ℕ → Answer → List ℕ → List ℕ → Type 0
-TellsOf (says x) p l u r l′ u′ = (r ≡ Says (p + length (draftsOf x))) × (l′ ≡ sets l p (kindsOf (draftsOf x)))
-    × (u′ ≡ sets u p (argsOf (draftsOf x)))
+TellsOf (says x) p l u r l′ u′ = (r ≡ Says (p + length (draftsOf x))) × (l′ ≡ sets l p (draftKinds (draftsOf x)))
+    × (u′ ≡ sets u p (draftArgs (draftsOf x)))
 TellsOf (faulty c q) p l u r l′ u′ = (r ≡ Faulty c) × (take p l′ ≡ take p l) × (take p u′ ≡ take p u)
 
 -- of what was told, by reading, and by what stands in the buffers before and after
@@ -93,7 +86,7 @@ pub record Before (text : List ℕ) (start cards next code : ℕ) (ks us : List 
 -- ---- one statement more
 
 -- what it asks of the arrays besides
-pub record Able (text : List ℕ) (first start cards : ℕ) (closed long : Bool) (next : ℕ) (n : Tally)
+pub record Able (text : List ℕ) (first start cards : ℕ) (closed long : Bool) (next : ℕ) (n : SoFar)
     (ks us kinds args lines bounds : List ℕ) : Type 0 where
   pub size : Size (cardsAt text start cards) closed (sizeCode cards closed long)
   pub before : Before text start cards next (sizeCode cards closed long) ks us (n .drafts) kinds args
@@ -105,12 +98,12 @@ pub record Able (text : List ℕ) (first start cards : ℕ) (closed long : Bool)
 
 -- what it gives: where the statement says x, its drafts, its number and their end are noted; where it has a fault, that
 -- is listed
-abbrev pub AddsOf : Told → ℕ → Tally → List ℕ → List ℕ → List ℕ → List ℕ → List ℕ
-    → Tally → List ℕ → List ℕ → List ℕ → List ℕ → List ℕ → Type 0
+abbrev pub AddsOf : Told → ℕ → SoFar → List ℕ → List ℕ → List ℕ → List ℕ → List ℕ
+    → SoFar → List ℕ → List ℕ → List ℕ → List ℕ → List ℕ → Type 0
 AddsOf (says x) first n l u ls bs fs r l′ u′ ls′ bs′ fs′ =
     (r ≡ record { statements = n .statements + 1; drafts = n .drafts + length (draftsOf x); faults = n .faults })
-    × (l′ ≡ sets l (n .drafts) (kindsOf (draftsOf x)))
-    × (u′ ≡ sets u (n .drafts) (argsOf (draftsOf x)))
+    × (l′ ≡ sets l (n .drafts) (draftKinds (draftsOf x)))
+    × (u′ ≡ sets u (n .drafts) (draftArgs (draftsOf x)))
     × (ls′ ≡ set ls (n .statements) first)
     × (bs′ ≡ set bs (n .statements + 1) (n .drafts + length (draftsOf x)))
     × (fs′ ≡ fs)
@@ -123,7 +116,7 @@ AddsOf (faulty c q) first n l u ls bs fs r l′ u′ ls′ bs′ fs′ =
     × (fs′ ≡ sets fs (faultBytes * n .faults) (entryOf first c))
 
 -- by what was told, and by what stands in the buffers before and after
-pub record Adds (t : Told) (first : ℕ) (n : Tally) (l u ls bs fs : List ℕ) (r : Tally)
+pub record Adds (t : Told) (first : ℕ) (n : SoFar) (l u ls bs fs : List ℕ) (r : SoFar)
     (l′ u′ ls′ bs′ fs′ : List ℕ) : Type 0 where
   pub long-kinds : length l′ ≡ length l
   pub long-args : length u′ ≡ length u
@@ -133,7 +126,7 @@ pub record Adds (t : Told) (first : ℕ) (n : Tally) (l u ls bs fs : List ℕ) (
 
 -- Reading stands at the cursor c. The reports behind it are `done`; they are held in the arrays, and their faults in
 -- the list
-pub record Progress (text list₀ : List ℕ) (c : Cursor) (n : Tally)
+pub record Progress (text list₀ : List ℕ) (c : Cursor) (n : SoFar)
     (kinds args lines bounds list : List ℕ) : Type 0 where
   pub done : Sheet
   pub split : sheetOf text ≡ done ++ map (report told) (statementsFrom text c)
@@ -141,8 +134,8 @@ pub record Progress (text list₀ : List ℕ) (c : Cursor) (n : Tally)
   pub statements : n .statements ≡ length (said done)
   pub drafts : n .drafts ≡ length (draftsIn (said done))
   pub faults : n .faults ≡ length (statementFaults done)
-  pub kinds-held : take (n .drafts) kinds ≡ kindsOf (draftsIn (said done))
-  pub args-held : take (n .drafts) args ≡ argsOf (draftsIn (said done))
+  pub kinds-held : take (n .drafts) kinds ≡ draftKinds (draftsIn (said done))
+  pub args-held : take (n .drafts) args ≡ draftArgs (draftsIn (said done))
   pub lines-held : take (n .statements) lines ≡ map (λ (s : Numbered). s .line) (said done)
   pub bounds-held : take (suc (n .statements)) bounds ≡ boundsFrom 0 (said done)
   pub listed : list ≡ sets list₀ 0 (faultList (statementFaults done))
@@ -165,7 +158,7 @@ pub record Room (text list kinds args lines bounds : List ℕ) : Type 0 where
   pub bounds-first : take 1 bounds ≡ 0 ∷ []
 
 -- what reading all gives: the whole sheet is done
-pub record Read (text list₀ : List ℕ) (n : Tally) (kinds args lines bounds list : List ℕ) : Type 0 where
+pub record Read (text list₀ : List ℕ) (n : SoFar) (kinds args lines bounds list : List ℕ) : Type 0 where
   pub statements : n .statements ≡ length (said (sheetOf text))
   pub drafts : n .drafts ≡ length (draftsIn (said (sheetOf text)))
   pub faults : n .faults ≡ length (statementFaults (sheetOf text))
@@ -177,8 +170,8 @@ pub record Read (text list₀ : List ℕ) (n : Tally) (kinds args lines bounds l
 -- ---- from the sheet to the verdict
 
 -- a row at the front of an array of n zeros
-abbrev pub held : ℕ → List ℕ → List ℕ
-held n l = sets (replicate n 0) 0 l
+abbrev pub padded : ℕ → List ℕ → List ℕ
+padded n l = sets (replicate n 0) 0 l
 
 -- the three arrays that are lent to the plan: a place for each definition, for each statement, and for the order of
 -- these
@@ -204,9 +197,9 @@ pub record Planned (p : Plan) (places equated order lines bounds kinds args : Li
   pub definitions-counted : p .definitions ≡ length (placesIn kinds)
   pub equations-counted : p .equations ≡ length (equatedIn (length lines) bounds kinds)
   pub short : length lines ≤ mostStatements
-  pub places-held : places ≡ held mostDefinitions (placesIn kinds)
-  pub equated-held : equated ≡ held mostStatements (equatedIn (length lines) bounds kinds)
-  pub order-held : order ≡ held mostStatements (orderOf (definitions statements))
+  pub places-held : places ≡ padded mostDefinitions (placesIn kinds)
+  pub equated-held : equated ≡ padded mostStatements (equatedIn (length lines) bounds kinds)
+  pub order-held : order ≡ padded mostStatements (orderOf (definitions statements))
 
 -- the answer r and the buffers f′ and p′ are what the verdict on the model of the statements gives for the buffers f
 -- and p
@@ -214,8 +207,8 @@ abbrev pub Concludes : List Numbered → List ℕ → List ℕ → Verdict → L
 Concludes ss f p r f′ p′ = reply r f′ p′ ≡ replyOf (modelled (length p) ss) f p
 
 -- the answer r and the buffers f′ and p′ are what the sheet's verdict gives for the buffers f and p
-abbrev pub Judges : List ℕ → List ℕ → List ℕ → Verdict → List ℕ → List ℕ → Type 0
-Judges text f p r f′ p′ = reply r f′ p′ ≡ replyOf (judged (length p) (sheetOf text)) f p
+abbrev pub Decides : List ℕ → List ℕ → List ℕ → Verdict → List ℕ → List ℕ → Type 0
+Decides text f p r f′ p′ = reply r f′ p′ ≡ replyOf (decided (length p) (sheetOf text)) f p
 
 -- the most bytes of a text in the smallest room, and in the next
 abbrev pub small : ℕ

@@ -39,7 +39,7 @@ enum Told {
 }
 
 // How many statements without fault, drafts and faults there are so far.
-struct Tally {
+struct SoFar {
     statements: usize,
     drafts: usize,
     faults: usize,
@@ -150,7 +150,7 @@ fn read_one(
     closed: bool,
     long: bool,
     next: usize,
-    n: Tally,
+    n: SoFar,
     row_kinds: &mut [u8],
     row_args: &mut [u64],
     kinds: &mut [u8],
@@ -158,7 +158,7 @@ fn read_one(
     lines: &mut [u16],
     bounds: &mut [u16],
     list: &mut [u8],
-) -> Tally
+) -> SoFar
     requires { ⌜ Able (now text) first start cards closed long next n (now «row_kinds») (now «row_args») (now kinds)
         (now args) (now lines) (now bounds) ⌝ }
     ensures { λ r. ⌜ Adds (told (cardsAt (now (text .entry)) start cards) closed) first n
@@ -185,7 +185,7 @@ fn read_one(
         Told::Says(end) => {
             lines[s] = first as u16;
             bounds[s + 1] = end as u16;
-            Tally {
+            SoFar {
                 statements: s + 1,
                 drafts: end,
                 faults: f,
@@ -193,7 +193,7 @@ fn read_one(
         }
         Told::Faulty(fault) => {
             sheet::put_fault(list, f, first, fault);
-            Tally {
+            SoFar {
                 statements: s,
                 drafts: d,
                 faults: f + 1,
@@ -210,14 +210,14 @@ fn read_all(
     lines: &mut [u16],
     bounds: &mut [u16],
     list: &mut [u8],
-) -> Tally
+) -> SoFar
     requires { ⌜ Room (now text) (now list) (now kinds) (now args) (now lines) (now bounds) ⌝ }
     ensures { λ r. ⌜ Read (now (text .entry)) (now (list .entry)) r
         (now (kinds .exit)) (now (args .exit)) (now (lines .exit)) (now (bounds .exit)) (now (list .exit)) ⌝ }
 {
     let mut row_kinds = [0u8; deck::JOINED_BYTES];
     let mut row_args = [0u64; deck::JOINED_BYTES];
-    let mut n = Tally {
+    let mut n = SoFar {
         statements: 0,
         drafts: 0,
         faults: 0,

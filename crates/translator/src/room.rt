@@ -2,21 +2,21 @@
 // so there are rooms of three sizes. The text's length alone tells the room: a text has no more drafts than bytes.
 ghost use Prim.Native.Nat.{_≤_};
 ghost use lib.ListN.{length};
-ghost use Rattle.translator.specs.Working.{Taken, Room, Judges, small, quarter};
+ghost use Rattle.translator.specs.Working.{Taken, Room, Decides, small, quarter};
 use super::Verdict;
 use super::finish::conclude;
 use super::read_all;
 use limits::STATEMENTS;
 use limits::TEXT_BYTES;
 
-// The most bytes of a text that is judged in the smallest room: it has no more statements than there may be.
+// The most bytes of a text that is read in the smallest room: it has no more statements than there may be.
 pub(crate) const SMALL: usize = STATEMENTS;
 
-// The most bytes of one that is judged in the next.
+// The most bytes of one that is read in the next.
 const QUARTER: usize = TEXT_BYTES / 4;
 
 // The verdict on a text that is not too large: 5 with the faults listed, or the verdict on its model.
-fn judge(
+fn decide(
     text: &[u8],
     faults: &mut [u8],
     program: &mut [u8],
@@ -28,7 +28,7 @@ fn judge(
 ) -> Verdict
     requires { ⌜ (Room (now text) (now faults) (now kinds) (now args) (now lines) (now bounds))
         × (length (now text) ≤ length (now used)) ⌝ }
-    ensures { λ r. ⌜ Judges (now (text .entry)) (now (faults .entry)) (now (program .entry)) r
+    ensures { λ r. ⌜ Decides (now (text .entry)) (now (faults .entry)) (now (program .entry)) r
         (now (faults .exit)) (now (program .exit)) ⌝ }
 {
     let n = read_all(
@@ -60,7 +60,7 @@ fn judge(
 // A text of a few lines.
 pub(crate) fn in_small_room(text: &[u8], faults: &mut [u8], program: &mut [u8]) -> Verdict
     requires { ⌜ (Taken (now text) (now faults)) × (length (now text) ≤ small) ⌝ }
-    ensures { λ r. ⌜ Judges (now (text .entry)) (now (faults .entry)) (now (program .entry)) r
+    ensures { λ r. ⌜ Decides (now (text .entry)) (now (faults .entry)) (now (program .entry)) r
         (now (faults .exit)) (now (program .exit)) ⌝ }
 {
     let mut kinds = [0u8; SMALL];
@@ -68,7 +68,7 @@ pub(crate) fn in_small_room(text: &[u8], faults: &mut [u8], program: &mut [u8]) 
     let mut used = [0u16; SMALL];
     let mut lines = [0u16; STATEMENTS];
     let mut bounds = [0u16; STATEMENTS + 1];
-    judge(
+    decide(
         text,
         faults,
         program,
@@ -83,7 +83,7 @@ pub(crate) fn in_small_room(text: &[u8], faults: &mut [u8], program: &mut [u8]) 
 // A text of some length.
 fn in_quarter_room(text: &[u8], faults: &mut [u8], program: &mut [u8]) -> Verdict
     requires { ⌜ (Taken (now text) (now faults)) × (length (now text) ≤ quarter) ⌝ }
-    ensures { λ r. ⌜ Judges (now (text .entry)) (now (faults .entry)) (now (program .entry)) r
+    ensures { λ r. ⌜ Decides (now (text .entry)) (now (faults .entry)) (now (program .entry)) r
         (now (faults .exit)) (now (program .exit)) ⌝ }
 {
     let mut kinds = [0u8; QUARTER];
@@ -91,7 +91,7 @@ fn in_quarter_room(text: &[u8], faults: &mut [u8], program: &mut [u8]) -> Verdic
     let mut used = [0u16; QUARTER];
     let mut lines = [0u16; STATEMENTS];
     let mut bounds = [0u16; STATEMENTS + 1];
-    judge(
+    decide(
         text,
         faults,
         program,
@@ -106,7 +106,7 @@ fn in_quarter_room(text: &[u8], faults: &mut [u8], program: &mut [u8]) -> Verdic
 // Any text that is taken.
 fn in_whole_room(text: &[u8], faults: &mut [u8], program: &mut [u8]) -> Verdict
     requires { ⌜ Taken (now text) (now faults) ⌝ }
-    ensures { λ r. ⌜ Judges (now (text .entry)) (now (faults .entry)) (now (program .entry)) r
+    ensures { λ r. ⌜ Decides (now (text .entry)) (now (faults .entry)) (now (program .entry)) r
         (now (faults .exit)) (now (program .exit)) ⌝ }
 {
     let mut kinds = [0u8; TEXT_BYTES];
@@ -114,7 +114,7 @@ fn in_whole_room(text: &[u8], faults: &mut [u8], program: &mut [u8]) -> Verdict
     let mut used = [0u16; TEXT_BYTES];
     let mut lines = [0u16; STATEMENTS];
     let mut bounds = [0u16; STATEMENTS + 1];
-    judge(
+    decide(
         text,
         faults,
         program,
@@ -130,7 +130,7 @@ fn in_whole_room(text: &[u8], faults: &mut [u8], program: &mut [u8]) -> Verdict
 // frame of its own, so that a small text touches no page of these rooms.
 pub(crate) fn in_large_room(text: &[u8], faults: &mut [u8], program: &mut [u8]) -> Verdict
     requires { ⌜ Taken (now text) (now faults) ⌝ }
-    ensures { λ r. ⌜ Judges (now (text .entry)) (now (faults .entry)) (now (program .entry)) r
+    ensures { λ r. ⌜ Decides (now (text .entry)) (now (faults .entry)) (now (program .entry)) r
         (now (faults .exit)) (now (program .exit)) ⌝ }
 {
     if text.len() <= QUARTER {

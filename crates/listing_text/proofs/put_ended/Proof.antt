@@ -1,6 +1,7 @@
 -- By the record's kind.
 use borrow.Author.Needs.{needs}
-use Rattle.listing_text.proofs.Puts.{put-none, put-as}
+use Rattle.model.proofs.Puts.{put-none}
+use Rattle.listing_text.proofs.Puts.{put-as}
 use Rattle.listing_text.proofs.Fields.{ends-below, ends-above, ends-there}
 use Rattle.listing_text.proofs.put_ended.Statement.{statement}
 use Rattle.listing_text.proofs.put_ended.Tie as tie
@@ -34,5 +35,15 @@ returns-3 c =
 pub put-ended-spec : {M : Type 1} → statement M
 put-ended-spec =
     tie.close
-    (tie.spec (λ c. search needs) (λ c κs. search needs) returns returns-2 (λ c. search needs)
-    (λ c κs. search needs) put-line-requires (λ c. search needs) returns-3)
+    (tie.spec
+    (λ c. search needs)
+    (λ c κs. search needs)
+    (λ c. search needs)
+    returns
+    (λ c. search needs)
+    returns-2
+    (λ c. search needs)
+    (λ c κs. search needs)
+    put-line-requires
+    (λ c. search needs)
+    returns-3)

@@ -2,7 +2,7 @@
 use native.Mathlib.Omega.{arith}
 use borrow.Author.Needs.{needs}
 use Rattle.translator.proofs.Verdicts.{bytes-sized, lines-sized, taken-so}
-use Rattle.translator.proofs.Verdicts.{says-one, says-two, says-three, says-four, says-judged}
+use Rattle.translator.proofs.Verdicts.{says-one, says-two, says-three, says-four, says-decided}
 use Rattle.translator.proofs.translate.Statement.{statement}
 use Rattle.translator.proofs.translate.Tie as tie
 
@@ -32,7 +32,7 @@ returns-3 c =
     let i = k .before .before .before in
     let a = i .before .before .before .before .before .before .args in
     let sized = bytes-sized (a .text .now) (i .if3 .taken) in
-    says-judged (a .text .now) (a .faults .now) (a .program .now) (i .before .before .if1 .left) (i .before .if2 .left)
+    says-decided (a .text .now) (a .faults .now) (a .program .now) (i .before .before .if1 .left) (i .before .if2 .left)
     (sized .0) (k .in-small-room .result) (k .in-small-room .ensures)
 
 -- ---- few lines
@@ -54,7 +54,7 @@ returns-4 c =
     let n = i .before in
     let a = start n .args in
     let sized = lines-sized (a .text .now) (omega (arith, n .line-count .ensures, i .if4 .taken)) in
-    says-judged (a .text .now) (a .faults .now) (a .program .now) (n .before .before .before .if1 .left)
+    says-decided (a .text .now) (a .faults .now) (a .program .now) (n .before .before .before .if1 .left)
     (n .before .before .if2 .left) (sized .0) (k .in-large-room .result) (k .in-large-room .ensures)
 
 -- ---- all are counted
@@ -93,7 +93,7 @@ returns-7 c =
     let v = i .before .before in
     let n = v .before .before in
     let a = start n .args in
-    says-judged (a .text .now) (a .faults .now) (a .program .now) (n .before .before .before .if1 .left)
+    says-decided (a .text .now) (a .faults .now) (a .program .now) (n .before .before .before .if1 .left)
     (n .before .before .if2 .left) (rw (v .survey .ensures) at (i .if5 .left)) (k .in-large-room2 .result)
     (k .in-large-room2 .ensures)
 

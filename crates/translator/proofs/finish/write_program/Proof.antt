@@ -1,7 +1,8 @@
 -- The records are too many, or too many for the room; or the program is written.
 use mathlib.Core.Path.{refl}
 use borrow.Author.Needs.{needs}
-use Rattle.translator.proofs.Writing.{front, places-room, equated-room, order-room, says-eight, says-zero}
+use Rattle.model.proofs.PlanStages.{prefix-length}
+use Rattle.translator.proofs.Writing.{places-room, equated-room, order-room, says-eight, says-zero}
 use Rattle.translator.proofs.finish.write_program.Statement.{statement}
 use Rattle.translator.proofs.finish.write_program.Tie as tie
 
@@ -15,17 +16,17 @@ returns c = λ s f. says-eight s (S (c .before) .args .out .now) (c .before .is-
 slice-aggregate-put-program : tie.Need-slice-aggregate-put-program
 slice-aggregate-put-program c =
     let s = S (c .before .before) in
-    front (s .args .plan .definitions) (s .args .places .now) (places-room (s .pre))
+    prefix-length (s .args .plan .definitions) (s .args .places .now) (places-room (s .pre))
 
 slice-aggregate-put-program-2 : tie.Need-slice-aggregate-put-program-2
 slice-aggregate-put-program-2 c =
     let s = S (c .before .before .before) in
-    front (s .args .plan .equations) (s .args .equated .now) (equated-room (s .pre))
+    prefix-length (s .args .plan .equations) (s .args .equated .now) (equated-room (s .pre))
 
 slice-aggregate-put-program-3 : tie.Need-slice-aggregate-put-program-3
 slice-aggregate-put-program-3 c =
     let s = S (c .before .before .before .before) in
-    front (s .args .plan .equations) (s .args .order .now) (order-room (s .pre))
+    prefix-length (s .args .plan .equations) (s .args .order .now) (order-room (s .pre))
 
 returns-2 : tie.Need-returns-2
 returns-2 c =

@@ -5,8 +5,8 @@ use Rattle.translator.proofs.Rooms.{room-of}
 use Rattle.translator.proofs.room.in_quarter_room.Statement.{statement}
 use Rattle.translator.proofs.room.in_quarter_room.Tie as tie
 
-judge-requires : tie.Need-judge-requires
-judge-requires c κs =
+decide-requires : tie.Need-decide-requires
+decide-requires c κs =
     let start = c .before .before .before .before .before .before .before .before .before .before in
     (room-of quarter (start .pre .0) (start .pre .1), start .pre .1)
 
@@ -19,7 +19,7 @@ in-quarter-room-spec =
     (λ c. search needs)
     (λ c. search needs)
     (λ c. search needs)
-    judge-requires
+    decide-requires
     (λ c. search needs)
     (λ c. search needs)
     (λ c. search needs))

@@ -1,7 +1,7 @@
 -- Both numbers are read from the list.
 use borrow.Author.Needs.{needs}
-use Rattle.listing_text.proofs.put_fault.Statement.{statement}
-use Rattle.listing_text.proofs.put_fault.Tie as tie
+use Rattle.listing_text.proofs.put_fault_line.Statement.{statement}
+use Rattle.listing_text.proofs.put_fault_line.Tie as tie
 
 put-pair-requires : tie.Need-put-pair-requires
 put-pair-requires c κs =
@@ -14,8 +14,8 @@ returns c =
     let l = p .before .before in
     rw (← (l .low-at2 .ensures), ← (l .before .low-at .ensures)) (p .put-pair .ensures)
 
-pub put-fault-spec : {M : Type 1} → statement M
-put-fault-spec =
+pub put-fault-line-spec : {M : Type 1} → statement M
+put-fault-line-spec =
     tie.close
     (tie.spec (λ c. search needs) (λ c κs. search needs) (λ c. search needs) (λ c κs. search needs) put-pair-requires
     (λ c. search needs) returns)

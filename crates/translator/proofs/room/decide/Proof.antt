@@ -4,8 +4,8 @@ use borrow.Author.Needs.{needs}
 use Rattle.translator.proofs.Rooms.{says-five, says-model, statements-few, lines-many, lines-enough, bounds-laid}
 use Rattle.translator.proofs.Rooms.{bounds-count, bounds-enough, kinds-many, kinds-enough, args-many}
 use Rattle.translator.proofs.Rooms.{args-enough, ready-so}
-use Rattle.translator.proofs.room.judge.Statement.{statement}
-use Rattle.translator.proofs.room.judge.Tie as tie
+use Rattle.translator.proofs.room.decide.Statement.{statement}
+use Rattle.translator.proofs.room.decide.Tie as tie
 
 -- where the function begins, and where all is read
 abbrev start : tie.After-read-all → tie.Start
@@ -75,8 +75,8 @@ returns-2 c =
     says-model room all (clean .if1 .left) (done .conclude .result) (start r .args .program .now)
     (done .conclude .ensures _ (bounds-laid room all))
 
-pub judge-spec : {M : Type 1} → statement M
-judge-spec =
+pub decide-spec : {M : Type 1} → statement M
+decide-spec =
     tie.close
     (tie.spec
     (λ c κs. search needs)
