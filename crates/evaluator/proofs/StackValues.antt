@@ -37,7 +37,8 @@ down-at l (suc n) (suc k) h =
     rw e (down-at l n k (omega arith))
 
 -- x is put for the k topmost
-pub put-done : (k : ℕ) (l : List Float) (n : ℕ) (x : Float) → HasPlace k l n → Yields k l n x (set l (n - k) x) (n - k + 1)
+pub put-done : (k : ℕ) (l : List Float) (n : ℕ) (x : Float) → HasPlace k l n
+    → Yields k l n x (set l (n - k) x) (n - k + 1)
 put-done k l n x h =
     record {
       stack = down-put l (n - k) x (omega (arith, h .high, h .full)) ∙ rw (down-drop l n k);

@@ -19,6 +19,7 @@ use Rattle.bits.proofs.Lows.{length-low, word-bytes}
 use Rattle.drafts.specs.Kinds.{closes}
 use Rattle.records.specs.Fields.{kindOf, operandOf, bitsOf}
 use Rattle.records.specs.Record.{Rec, recBytes, programBytes, field}
+use Rattle.records.proofs.ReadBack.{length-record}
 use Rattle.sheet.specs.Sheet.{Fault, faultEntry, faultList}
 use Rattle.listing_text.specs.Listing.{line, line2}
 use Rattle.listing_text.specs.Written.{faultAt, endedAt}
@@ -90,11 +91,6 @@ faults-back fs rest p =
     (rw e (row-at faultEntry faultBytes length-entry a f b rest)) (every-inside (FaultBelow 65536) a f b (rw e at p)))
 
 -- ---- records
-
--- the bytes of a record
-length-record : (r : Rec) → length (recBytes r) ≡ recordBytes
-unfolding recBytes
-length-record r = simp (length-append, length-low)
 
 -- the line of the statement that a record ends, if it ends one
 abbrev pub endedBy : Rec → List ℕ

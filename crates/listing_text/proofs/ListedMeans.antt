@@ -15,7 +15,7 @@ use Rattle.translator.specs.Verdict.{Decision, refused, faulty, translated, ver
 use Rattle.translator.specs.Verdict.{numberOf, countOf, faultsAfter, programAfter, Translation, translation}
 use Rattle.translator.specs.declared.Verdict.{Verdict}
 use Rattle.translator.specs.Contract.{numberIn, countIn, Translates}
-use Rattle.translator.proofs.Deciding.{length-program}
+use Rattle.records.proofs.ReadBack.{length-program}
 use Rattle.translator.proofs.Counted.{few, count-few}
 use Rattle.translator.proofs.Verdicts.{by-number}
 use Rattle.listing_text.specs.Listing.{listingOf, listing}

@@ -28,7 +28,7 @@ use Rattle.evaluator.specs.Evaluate.{refusal}
 use Rattle.model.specs.Text.{textDefinitions}
 use Rattle.meaning.specs.Slots.{definitionAt, Resolved}
 use Rattle.meaning.proofs.Texts.{FitsTree, definitions-fit, equations-fit}
-use Rattle.meaning.proofs.Zero.{Clear, clear}
+use Rattle.translator.proofs.Zero.{Clear, clear}
 use Rattle.meaning.proofs.Owned.{names-known}
 use Rattle.meaning.proofs.Initials.{resolved}
 use Rattle.meaning.proofs.Readable.{readable}

@@ -19,7 +19,7 @@ use Rattle.evaluator.specs.Evaluate.{ran, evaluated, started, moveAll, advanced
 use Rattle.meaning.specs.Statements.{slotAmong, Resolves, Solution, Stepping}
 use Rattle.meaning.specs.Recorded.{ConstantRecorded, AssignmentRecorded, StateRecorded, NothingLost}
 use Rattle.meaning.specs.Faithful.{saidIn, handedOn, Evaluates, Starts, Steps, HasSlots, Faithful}
-use Rattle.meaning.proofs.Zero.{Clear, clear, zero-translated}
+use Rattle.translator.proofs.Zero.{Clear, clear, zero-translated}
 use Rattle.meaning.proofs.Runs.{run-program}
 use Rattle.meaning.proofs.RunSolves.{solves}
 use Rattle.meaning.proofs.Statements.{by-places, resolves}

@@ -1,7 +1,6 @@
 pub mod Heights
 pub mod Numbers
 pub mod Texts
-pub mod Zero
 pub mod Postfix
 pub mod Settle
 pub mod Owned

@@ -18,7 +18,7 @@ means = lower.means
 pub statement-means : (cards : List Line) (closed : Bool) → StatementMeans cards closed
 statement-means = sheets.statement-means
 
--- THE EXCEPTION stands: as many openings as levels and then a function's name begin a statement with one level more, and
--- none with the levels that there are
+-- THE EXCEPTION stands: as many openings as levels and then a function's name begin a statement with one level more,
+-- and none with the levels that there are
 pub exception : Front (suc levels) (deepest levels) × (Front levels (deepest levels) → ⊥)
 exception = lower.exception

@@ -15,7 +15,7 @@ use Rattle.floesedge.specs.Contract.{TranslatesFixed}
 use Rattle.meaning.specs.Statements.{Solution}
 use Rattle.meaning.specs.ReadSlots.{shapes, SameRead, SameWritten}
 use Rattle.meaning.specs.Faithful.{saidIn, handedOn, HasSlots, Faithful}
-use Rattle.meaning.proofs.Zero.{clear}
+use Rattle.translator.proofs.Zero.{clear}
 use Rattle.meaning.proofs.Faithful.{faithful, by-answer}
 use Rattle.meaning.proofs.ReadSlots as slots
 

@@ -1,23 +1,22 @@
 -- From a plan to the verdict: what each answer of the code stands for.
 use Prim.Native.Nat.{ℕ, _*_, _/_, _<_, _≤_}
-use mathlib.Core.Path.{_≡_, refl, sym, ap, _∙_}
+use mathlib.Core.Path.{_≡_, sym, ap, _∙_}
 use mathlib.Core.Bool.{false}
-use mathlib.Core.List.{List, [], _∷_}
+use mathlib.Core.List.{List, []}
 use native.Mathlib.Omega.{arith}
 use borrow.Author.Tests.{lt-ltb, le-ltb}
 use lib.Dec.{ltb}
 use lib.ListN.{length}
 use lib.Seq.{sets}
 use Rattle.limits.specs.Limits.{mostDefinitions, mostRecords, recordBytes}
-use Rattle.laws.specs.Lists.{concat-map}
-use Rattle.bits.specs.Low.{lowBytes}
 use Rattle.sheet.specs.Sheet.{Numbered}
 use Rattle.sheet.specs.Layout.{Laid}
 use Rattle.model.specs.Definitions.{Def, definitions}
 use Rattle.model.specs.Faults.{modelFaults, orderOf}
 use Rattle.model.specs.Places.{keysIn, placesIn, resolved, equatedIn}
 use Rattle.model.specs.Plan.{PlanOutcome}
-use Rattle.records.specs.Record.{Rec, recBytes, programBytes}
+use Rattle.records.specs.Record.{Rec}
+use Rattle.records.proofs.ReadBack.{length-program}
 use Rattle.program.specs.Program.{program}
 use Rattle.program.specs.Written.{recordCount, writtenProgram}
 use Rattle.program.proofs.WrittenMeans.{count-meant, program-meant}
@@ -26,12 +25,6 @@ use Rattle.translator.specs.declared.Verdict.the-variants.{Refused, Faul
 use Rattle.translator.specs.Verdict.{programmed, modelled}
 use Rattle.translator.specs.Contract.{reply, replyOf}
 use Rattle.translator.proofs.Concluding.{soundPlan, Conclusion, many, flawed, sound}
-
--- the bytes of records
-pub length-program : (rs : List Rec) → length (programBytes rs) ≡ recordBytes * length rs
-unfolding programBytes concat-map recBytes lowBytes
-length-program [] = refl
-length-program (r ∷ rs) = omega (arith, length-program rs)
 
 module _ (ss : List Numbered) (kinds args lines bounds : List ℕ) (laid : Laid ss kinds args lines bounds)
     (used faults prog : List ℕ) where

@@ -11,5 +11,6 @@ mod Rooms
 pub mod Verdicts
 pub mod Given
 pub mod Replies
+pub mod Zero
 pub mod Agreement
 pub mod Rules

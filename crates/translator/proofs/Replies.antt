@@ -25,7 +25,7 @@ use Rattle.translator.specs.Contract.{numberIn, Reply, reply, replyOf, T
 use Rattle.translator.specs.Refusals.{Admitted}
 use Rattle.translator.specs.Replies.{Answered, Programmed, Unprogrammed, NoProgram, Convicts}
 use Rattle.translator.proofs.Counted.{few}
-use Rattle.translator.proofs.Deciding.{length-program}
+use Rattle.records.proofs.ReadBack.{length-program}
 use Rattle.translator.proofs.Verdicts.{by-number}
 use Rattle.translator.proofs.Given.{is-five, faulted-ind}
 

@@ -18,8 +18,8 @@ use Rattle.model.specs.Definitions.{definitions}
 use Rattle.model.specs.Faults.{modelFaults, orderOf}
 use Rattle.records.specs.Record.{Rec}
 use Rattle.program.specs.Program.{program}
-use Rattle.translator.specs.Verdict.{Decision, refused, faulty, translated, ifFaults, programmed, modelled, decided}
-use Rattle.translator.specs.Verdict.{verdictOf, numberOf}
+use Rattle.translator.specs.Verdict.{Decision, refused, faulty, translated, ifFaults, programmed}
+use Rattle.translator.specs.Verdict.{modelled, decided, verdictOf, numberOf}
 
 -- no statement fault, no model fault, not too many definitions; the program is that of the order, and has room
 pub record Clear (text : List ℕ) (room : ℕ) (rs : List Rec) : Type 0 where
@@ -76,9 +76,9 @@ module _ (text : List ℕ) (room : ℕ) where
       (known-fitted a (ltb-false mostDefinitions (length ds) t)))
 
   -- 4 and 5
-  known-judged : Known text room (decided room sheet)
+  known-decided : Known text room (decided room sheet)
   unfolding decided
-  known-judged =
+  known-decided =
       cond-ind (Known text room) (ltb mostStatements (length sheet)) (refused 4) _ (λ _. lit< tt)
       (λ _. known-faults 5 (statementFaults sheet) (modelled room (said sheet)) (lit< tt) known-modelled)
 
@@ -90,7 +90,7 @@ known text faults room =
     cond-ind K (ltb faults faultRoom) (refused 1) _ (λ _. lit< tt)
     (λ _. cond-ind K (ltb textBytes (length text)) (refused 2) _ (λ _. lit< tt)
     (λ _. cond-ind K (ltb textLines (length (linesOf text))) (refused 3) (decided room (sheetOf text)) (λ _. lit< tt)
-    (λ _. known-judged text room)))
+    (λ _. known-decided text room)))
 
 -- a text that is translated is clear
 pub clear : (text : List ℕ) (faults room : ℕ) (rs : List Rec) (ls : List ℕ)
