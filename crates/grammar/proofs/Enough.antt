@@ -51,7 +51,7 @@ size (last {w = w} h a) = let x = size a in rw (length-append w (mark 41 ∷ [])
 size (comma {w = w} {v = v} h a b) = let x = size a in rw (length-append w (mark 44 ∷ v)) (omega arith)
 
 -- so what is left is that much shorter
-pub left : (f : ℕ) (m : Mode) (d : ℕ) (s : List Symbol) → At m s → (e : Tree) (t : List Symbol)
+left : (f : ℕ) (m : Mode) (d : ℕ) (s : List Symbol) → At m s → (e : Tree) (t : List Symbol)
     → parse f m d s .end ≡ got e t
     → least m + length t ≤ length s
 left f m d s p e t h =

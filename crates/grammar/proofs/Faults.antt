@@ -44,7 +44,7 @@ same-stop d D c w t u h like le n =
     ∙ subst (λ (v : List Symbol). entire f D (v ++ u) .end ≡ bad c u) (sym q) (l .2 D u le n like)
 
 -- so none of these is derived
-pub refuse : (d D c : ℕ) (w t u : List Symbol) (x : Says) → ending d (w ++ t) ≡ bad c t → Like u t → d ≤ D
+refuse : (d D c : ℕ) (w t u : List Symbol) (x : Says) → ending d (w ++ t) ≡ bad c t → Like u t → d ≤ D
     → (c ≡ 19 → D ≡ d)
     → Derives D (w ++ u) x → ⊥
 refuse d D c w t u x h like le n a =
@@ -230,7 +230,7 @@ apart row i j W f T =
     ⊎-elim (λ lt. f j lt T) not-past (lt-or-ge j i)
 
 -- two meanings of a row are one
-pub only : {row : List Symbol} {c b i j : ℕ} → Stops row c i → Stops row b j → (c ≡ b) × (i ≡ j)
+only : {row : List Symbol} {c b i j : ℕ} → Stops row c i → Stops row b j → (c ≡ b) × (i ≡ j)
 only {row} {i = i} {j = j} (wrong W f) (wrong U g) =
     (refl, order-cases i j (before W U) (λ e. e) λ lt. sym (before U W lt))
   where

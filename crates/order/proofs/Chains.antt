@@ -24,6 +24,7 @@ any-true (suc k) f e =
     ⊎-elim (λ t. (k, omega arith, t)) (λ t. let r = any-true k f t in (r .0, omega arith, r .2))
     (or-true (f k) (any k f) e)
 
+-- and the other way
 any-intro : (k : ℕ) (f : ℕ → Bool) (j : ℕ) → j < k → f j ≡ true → any k f ≡ true
 unfolding any
 any-intro zero f j h e = absurd (omega arith)

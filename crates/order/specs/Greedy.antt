@@ -45,5 +45,6 @@ module _ (n : ℕ) (uses : ℕ → ℕ → Bool) where
   abbrev pub LeftOver : ℕ → Type 0
   LeftOver i = (i < n) × (count i order ≡ 0)
 
+  -- the same as a test
   abbrev pub leftOver : ℕ → Bool
   leftOver i = not (has i order)

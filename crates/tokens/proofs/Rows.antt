@@ -41,7 +41,7 @@ no-more (suc f) s i h =
     let c = cutAt s i in ap (λ (t : Token). ahead s t (c .at) (rowFrom f s (c .next))) (cut-end s i h)
 
 -- any two counts of cuts that reach the end give one row
-pub enough : (f g : ℕ) (s : List ℕ) (i : ℕ) → length s ≤ i + f → length s ≤ i + g → rowFrom f s i ≡ rowFrom g s i
+enough : (f g : ℕ) (s : List ℕ) (i : ℕ) → length s ≤ i + f → length s ≤ i + g → rowFrom f s i ≡ rowFrom g s i
 unfolding rowFrom
 enough zero g s i h k = sym (no-more g s i (omega arith))
 enough (suc f) zero s i h k = no-more (suc f) s i (omega arith)
