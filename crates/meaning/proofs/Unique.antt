@@ -60,18 +60,18 @@ nans (suc n) zero = refl
 nans (suc n) (suc p) = nans n p
 
 -- longer by these
-abbrev padded : List Float → List Float
-padded v = v ++ replicate slots nan
+abbrev lengthened : List Float → List Float
+lengthened v = v ++ replicate slots nan
 
 -- every place holds what it held
-same-padded : (v : List Float) (p : ℕ) → getD (padded v) p nan ≡ getD v p nan
-same-padded [] p = nans slots p
-same-padded (x ∷ v) zero = refl
-same-padded (x ∷ v) (suc p) = same-padded v p
+same-lengthened : (v : List Float) (p : ℕ) → getD (lengthened v) p nan ≡ getD v p nan
+same-lengthened [] p = nans slots p
+same-lengthened (x ∷ v) zero = refl
+same-lengthened (x ∷ v) (suc p) = same-lengthened v p
 
 -- it has a place for each slot
-padded-long : (v : List Float) → slots ≤ length (padded v)
-padded-long v = let n = length-append v (replicate slots nan) in
+lengthened-long : (v : List Float) → slots ≤ length (lengthened v)
+lengthened-long v = let n = length-append v (replicate slots nan) in
     let m : length (replicate slots nan) ≡ slots = length-replicate slots nan in omega arith
 
 module _ (ds : List Def) (one : Once (keys ds)) where
@@ -84,24 +84,24 @@ module _ (ds : List Def) (one : Once (keys ds)) where
   -- ---- a solution stays one in longer buffers
   module _ (v d v′ d′ : List Float) where
     -- the value of an expression is the same
-    same-value : (e : Tree) → valueOf slot (padded v′) e ≡ valueOf slot v′ e
-    same-value e = value-same slot e (padded v′) v′ (same-padded v′ 0) (λ k _. same-padded v′ (slot k))
+    same-value : (e : Tree) → valueOf slot (lengthened v′) e ≡ valueOf slot v′ e
+    same-value e = value-same slot e (lengthened v′) v′ (same-lengthened v′ 0) (λ k _. same-lengthened v′ (slot k))
 
     -- so each slot holds what it must
     longer-at : (w : What) (s : ℕ) → SlotHolds ds v d v′ d′ w s
-        → SlotHolds ds (padded v) (padded d) (padded v′) (padded d′) w s
-    longer-at (constant x) s h = (same-padded v′ s ∙ h .0, same-padded d′ s ∙ h .1 ∙ sym (same-padded d s))
+        → SlotHolds ds (lengthened v) (lengthened d) (lengthened v′) (lengthened d′) w s
+    longer-at (constant x) s h = (same-lengthened v′ s ∙ h .0, same-lengthened d′ s ∙ h .1 ∙ sym (same-lengthened d s))
     longer-at (assigned e) s h = (
-      same-padded v′ s ∙ h .0 ∙ sym (same-value e),
-      same-padded d′ s ∙ h .1 ∙ sym (same-padded d s),
+      same-lengthened v′ s ∙ h .0 ∙ sym (same-value e),
+      same-lengthened d′ s ∙ h .1 ∙ sym (same-lengthened d s),
     )
     longer-at (integral i e) s h = (
-      same-padded v′ s ∙ h .0 ∙ sym (same-padded v s),
-      same-padded d′ s ∙ h .1 ∙ sym (same-value e),
+      same-lengthened v′ s ∙ h .0 ∙ sym (same-lengthened v s),
+      same-lengthened d′ s ∙ h .1 ∙ sym (same-value e),
     )
 
     -- and so do all
-    longer : SlotsHold ds v d v′ d′ → SlotsHold ds (padded v) (padded d) (padded v′) (padded d′)
+    longer : SlotsHold ds v d v′ d′ → SlotsHold ds (lengthened v) (lengthened d) (lengthened v′) (lengthened d′)
     longer s =
         record {
           long = (
@@ -111,8 +111,8 @@ module _ (ds : List Def) (one : Once (keys ds)) where
           each = λ i h. longer-at (definitionAt ds i .what) (suc i) (s .each i h);
           rest =
               λ p h. (
-                same-padded v′ p ∙ s .rest p h .0 ∙ sym (same-padded v p),
-                same-padded d′ p ∙ s .rest p h .1 ∙ sym (same-padded d p),
+                same-lengthened v′ p ∙ s .rest p h .0 ∙ sym (same-lengthened v p),
+                same-lengthened d′ p ∙ s .rest p h .1 ∙ sym (same-lengthened d p),
               );
         }
 
@@ -243,12 +243,13 @@ module _ (ds : List Def) (one : Once (keys ds)) where
       -- the values are the same
       same-values : v₁ ≡ v₂
       same-values =
+          let first = longer v d v₁ d₁ s₁ in
+          let second = longer v d v₂ d₂ s₂ in
           ext-getD nan v₁ v₂ (s₁ .long .0 ∙ sym (s₂ .long .0))
           (λ s _.
-          sym (same-padded v₁ s)
-          ∙ agree-at (padded v) (padded d) (padded v₁) (padded d₁) (padded v₂) (padded d₂) (longer v d v₁ d₁ s₁)
-          (longer v d v₂ d₂ s₂) (padded-long v) (padded-long d) s
-          ∙ same-padded v₂ s)
+          sym (same-lengthened v₁ s)
+          ∙ agree-at _ _ _ _ _ _ first second (lengthened-long v) (lengthened-long d) s
+          ∙ same-lengthened v₂ s)
 
       -- then the derivatives are the same too
       derivs-by : (i : ℕ) (w : What) → SlotHolds ds v d v₁ d₁ w (suc i) → SlotHolds ds v d v₂ d₂ w (suc i)
