@@ -51,6 +51,13 @@ concat-same-in f g [] e = refl
 concat-same-in f g (a ∷ l) e =
     ap₂ _++_ (e a (omega (arith, count-cons-same a l))) (concat-same-in f g l (λ b h. e b (omega arith)))
 
+-- .. and so of two functions
+pub map-same-in : {B : Type 0} (f g : ℕ → B) (l : List ℕ) → ((a : ℕ) → a ∈ l → f a ≡ g a) → map f l ≡ map g l
+unfolding count
+map-same-in f g [] e = refl
+map-same-in f g (a ∷ l) e =
+    ap₂ _∷_ (e a (omega (arith, count-cons-same a l))) (map-same-in f g l (λ b h. e b (omega arith)))
+
 -- a function that gives nothing makes an empty row
 pub concat-none : {A B : Type 0} (f : A → List B) → ((a : A) → f a ≡ []) → (l : List A) → concat-map f l ≡ []
 unfolding concat-map

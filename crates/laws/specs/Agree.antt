@@ -14,6 +14,11 @@ Agree2 {A} {B} C = (r s : A) (a b : B) → C r a → C s b → (r ≡ s) × (a �
 abbrev pub Agree3 : {A B D : Type 0} → (A → B → D → Type 0) → Type 0
 Agree3 {A} {B} {D} C = (r s : A) (a b : B) (c d : D) → C r a c → C s b d → (r ≡ s) × (a ≡ b) × (c ≡ d)
 
+-- of four: an answer and three buffers
+abbrev pub Agree4 : {A B D E : Type 0} → (A → B → D → E → Type 0) → Type 0
+Agree4 {A} {B} {D} {E} C =
+    (r s : A) (a b : B) (c d : D) (e f : E) → C r a c e → C s b d f → (r ≡ s) × (a ≡ b) × (c ≡ d) × (e ≡ f)
+
 -- of five: an answer, three buffers, and further arrays that were lent
 abbrev pub Agree5 : {A B D E L : Type 0} → (A → B → D → E → L → Type 0) → Type 0
 Agree5 {A} {B} {D} {E} {L} C =

@@ -1,7 +1,6 @@
--- Faults and records read back from the bytes of a fault list and of a program.
+-- Faults read back from the bytes of a fault list.
 use Prim.Native.Nat.{ℕ, _+_, _*_, _^_, _≤_, _<_}
 use mathlib.Core.Path.{_≡_, sym, ap, ap₂, _∙_}
-use mathlib.Core.Bool.{cond}
 use mathlib.Core.List.{List, [], _∷_, _++_, append-assoc}
 use native.Mathlib.Nat.{suc-mul}
 use native.Mathlib.Omega.{arith}
@@ -9,20 +8,17 @@ use lib.ListN.{length, drop, length-append}
 use lib.Seq.{sets, sets-eq, take-at, drop-at, drop-drop}
 use Rattle.laws.specs.Every.{Every}
 use Rattle.laws.proofs.Every.{every-inside}
-use Rattle.limits.specs.Limits.{recordBytes, faultBytes}
+use Rattle.limits.specs.Limits.{faultBytes}
 use Rattle.laws.specs.Lists.{concat-map}
 use Rattle.laws.specs.Places.{gather}
 use Rattle.laws.proofs.Along.{gather-over}
 use Rattle.laws.proofs.Lists.{concat-append}
 use Rattle.bits.specs.Low.{lowBytes, lowWord}
 use Rattle.bits.proofs.Lows.{length-low, word-bytes}
-use Rattle.drafts.specs.Kinds.{closes}
-use Rattle.records.specs.Fields.{kindOf, operandOf, bitsOf}
-use Rattle.records.specs.Record.{Rec, recBytes, programBytes, field}
-use Rattle.records.proofs.ReadBack.{length-record}
+use Rattle.records.specs.Record.{field}
 use Rattle.sheet.specs.Sheet.{Fault, faultEntry, faultList}
-use Rattle.listing_text.specs.Listing.{line, line2}
-use Rattle.listing_text.specs.Written.{faultAt, endedAt}
+use Rattle.listing_text.specs.Listing.{line2}
+use Rattle.listing_text.specs.Written.{faultAt}
 use Rattle.model.proofs.NumbersBelow.{FaultBelow}
 
 -- ---- fields of bytes that are known from a place on
@@ -89,39 +85,3 @@ faults-back fs rest p =
     gather-over (faultAt (faultList fs ++ rest)) (λ (f : Fault). line2 (f .line) (f .code)) fs
     (λ a f b e. fault-back (faultList fs ++ rest) (faultList b ++ rest) (length a) f
     (rw e (row-at faultEntry faultBytes length-entry a f b rest)) (every-inside (FaultBelow 65536) a f b (rw e at p)))
-
--- ---- records
-
--- the line of the statement that a record ends, if it ends one
-abbrev pub endedBy : Rec → List ℕ
-endedBy r = cond (closes (kindOf (r .instr))) (line (r .line)) []
-
--- its line is below b
-abbrev pub RecBelow : ℕ → Rec → Type 0
-RecBelow b r = r .line < b
-
--- its kind and line are read back
-record-back : (p rest : List ℕ) (i : ℕ) (r : Rec) → drop (i * recordBytes) p ≡ recBytes r ++ rest → r .line < 65536
-    → endedAt p i ≡ endedBy r
-unfolding recBytes
-record-back p rest i r e h =
-    let o = i * recordBytes in
-    let x = kindOf (r .instr) ∷ 0 ∷ lowBytes 2 (operandOf (r .instr)) in
-    let low = lowBytes 4 (r .line) in
-    let bits = lowBytes 8 (bitsOf (r .instr)) in
-    let d : drop o p ≡ x ++ (low ++ (bits ++ rest)) =
-    e ∙ append-assoc x (low ++ bits) rest ∙ ap (λ (l : List ℕ). x ++ l) (append-assoc low bits rest) in
-    let k = byte-back p _ o (kindOf (r .instr)) d in
-    let t : drop (o + 4) p ≡ low ++ (bits ++ rest) =
-    further p x (low ++ (bits ++ rest)) o 4 d (omega (arith, length-low 2 (operandOf (r .instr)))) in
-    let l = number-back p (bits ++ rest) (o + 4) 4 (r .line) t (omega arith) in
-    ap₂ (λ (k l : ℕ). cond (closes k) (line l) []) k l
-
--- .. of each record of a program
-pub records-back : (rs : List Rec) (rest : List ℕ) → Every (RecBelow 65536) rs
-    → gather (endedAt (programBytes rs ++ rest)) (length rs) 0 ≡ concat-map endedBy rs
-unfolding programBytes
-records-back rs rest p =
-    gather-over (endedAt (programBytes rs ++ rest)) endedBy rs
-    (λ a r b e. record-back (programBytes rs ++ rest) (programBytes b ++ rest) (length a) r
-    (rw e (row-at recBytes recordBytes length-record a r b rest)) (every-inside (RecBelow 65536) a r b (rw e at p)))

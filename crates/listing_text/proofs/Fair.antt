@@ -1,8 +1,7 @@
--- Each verdict on a text is fair: its line numbers fit two bytes, and its records end the ordered statements in turn.
+-- Each verdict on a text is fair: no other is 0 than that with a program, and the lines of faults fit two bytes.
 use Prim.Native.Nat.{ℕ, _/_, _<_}
-use mathlib.Core.Path.{_≡_}
 use mathlib.Core.Bool.{cond, _||_}
-use mathlib.Core.List.{List, [], _∷_, map}
+use mathlib.Core.List.{List, [], _∷_}
 use native.Mathlib.Omega.{arith}
 use borrow.Author.Tests.{ltb-false}
 use lib.Dec.{ltb, lit<}
@@ -10,28 +9,24 @@ use lib.ListN.{length}
 use Rattle.laws.specs.Every.{Every}
 use Rattle.limits.specs.Limits.{faultRoom, textBytes, textLines, mostStatements, mostDefinitions, mostRecords}
 use Rattle.limits.specs.Limits.{recordBytes}
-use Rattle.laws.specs.Lists.{concat-map}
 use Rattle.laws.proofs.Tests.{cond-ind}
 use Rattle.deck.specs.Lines.{linesOf}
 use Rattle.sheet.specs.Sheet.{Sheet, Numbered, Fault, said, statementFaults}
 use Rattle.sheet.specs.Reader.{sheetOf}
-use Rattle.model.specs.Definitions.{definitions, equationAt}
+use Rattle.model.specs.Definitions.{definitions}
 use Rattle.model.specs.Faults.{modelFaults, orderOf}
+use Rattle.records.specs.Record.{Rec}
 use Rattle.program.specs.Program.{program}
-use Rattle.translator.specs.Verdict.{Decision, refused, faulty, translated, ifFaults, programmed, modelled, decided}
-use Rattle.translator.specs.Verdict.{verdictOf}
-use Rattle.listing_text.specs.Listing.{line}
+use Rattle.translator.specs.Verdict.{Decision, refused, faulty, translated, ifFaults, fitted, programmed, modelled}
+use Rattle.translator.specs.Verdict.{decided, verdictOf}
 use Rattle.model.proofs.NumbersBelow.{ReportBelow, SaidBelow, FaultBelow, sheet-below, faults-below}
-use Rattle.model.proofs.NumbersBelow.{said-below, definitions-below, model-below}
-use Rattle.listing_text.proofs.Back.{endedBy, RecBelow}
-use Rattle.listing_text.proofs.Ordered.{program-ends, program-below}
+use Rattle.model.proofs.NumbersBelow.{said-below, model-below}
 
--- no other verdict is 0 than that with a program; lines are small, and the records that end a statement have the
--- ordered lines
+-- a number that is not 0, and small lines; of a program nothing is asked
 abbrev pub Fair : Decision → Type 0
 Fair (refused n) = 0 < n
 Fair (faulty n fs) = (0 < n) × Every (FaultBelow 65536) fs
-Fair (translated rs ls) = Every (RecBelow 65536) rs × (concat-map endedBy rs ≡ concat-map line ls)
+Fair (translated rs ls) = Unit {0}
 
 -- if some fault stands, or else the next
 fair-faults : (n : ℕ) (fs : List Fault) (v : Decision) → 0 < n → Every (FaultBelow 65536) fs → Fair v
@@ -40,14 +35,10 @@ fair-faults n [] v z p q = q
 fair-faults n (f ∷ fs) v z p q = (z, p)
 
 -- by the records
-fair-program : (room : ℕ) (ss : List Numbered) → Every (SaidBelow 65536) ss → Fair (programmed room (definitions ss))
-fair-program room ss p =
-    let ds = definitions ss in
-    let q = orderOf ds in
-    let rs = program ds q in
+fair-fitted : (room : ℕ) (rs : List Rec) (ls : List ℕ) → Fair (fitted room rs ls)
+fair-fitted room rs ls =
     let many = ltb mostRecords (length rs) || ltb (room / recordBytes) (length rs) in
-    cond-ind Fair many (refused 8) (translated rs (map (λ (i : ℕ). equationAt ds i .line) q)) (λ _. lit< tt)
-    (λ _. (program-below ds 65536 (lit< tt) (definitions-below 65536 ss p) q, program-ends ds q))
+    cond-ind Fair many (refused 8) (translated rs ls) (λ _. lit< tt) (λ _. tt)
 
 -- by the model
 fair-model : (room : ℕ) (ss : List Numbered) → Every (SaidBelow 65536) ss → Fair (modelled room ss)
@@ -55,7 +46,8 @@ fair-model room ss p =
     let ds = definitions ss in
     let next = programmed room ds in
     cond-ind Fair (ltb mostDefinitions (length ds)) (refused 6) (ifFaults 7 (modelFaults ss) next) (λ _. lit< tt)
-    (λ _. fair-faults 7 (modelFaults ss) next (lit< tt) (model-below 65536 (lit< tt) ss p) (fair-program room ss p))
+    (λ _. fair-faults 7 (modelFaults ss) next (lit< tt) (model-below 65536 (lit< tt) ss p)
+    (fair-fitted room (program ds (orderOf ds)) _))
 
 -- by the sheet
 fair-sheet : (room : ℕ) (ss : Sheet) → Every (ReportBelow 65536) ss → Fair (decided room ss)

@@ -3,7 +3,6 @@ mod Puts
 mod Fields
 mod Reach
 mod Back
-mod Ordered
 mod Fair
 mod ListedMeans
 pub mod Agreement

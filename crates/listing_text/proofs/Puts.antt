@@ -1,6 +1,6 @@
--- Laws of what is put: a byte past the end, what has another name, what a loop writes.
+-- Laws of what is put: a byte past the end, what a loop writes.
 use Prim.Native.Nat.{ℕ, _+_, _-_, _≤_, _<_}
-use mathlib.Core.Path.{_≡_, refl, sym}
+use mathlib.Core.Path.{refl, sym}
 use mathlib.Core.List.{List, [], _∷_}
 use native.Mathlib.Nat.{sub-zero}
 use lib.ListN.{length}
@@ -12,10 +12,6 @@ use Rattle.laws.proofs.Gathers.{Writes, writes-next, writes-count, writes-all}
 -- past the end nothing is written
 pub put-out : (b at : ℕ) (old : List ℕ) → length old ≤ at → Put (b ∷ []) at (at + 1) old old
 put-out b at old h = record { behind = refl; written = sym (set-out old at b h) }
-
--- what is put under another name
-pub put-as : {x y : List ℕ} {w r : ℕ} {b b₁ : List ℕ} → x ≡ y → Put y w r b b₁ → Put x w r b b₁
-put-as e p = rw e p
 
 -- ---- a loop that writes
 module _ {f : ℕ → List ℕ} {n i w₀ w : ℕ} {buf₀ buf : List ℕ} where

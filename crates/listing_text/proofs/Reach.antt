@@ -8,13 +8,11 @@ use native.Mathlib.Omega.{arith}
 use lib.Dec.{lit<}
 use lib.ListN.{length, getD, take, drop, length-append}
 use lib.Seq.{getD-drop}
-use Rattle.limits.specs.Limits.{mostRecords, faultBytes, recordBytes}
+use Rattle.limits.specs.Limits.{mostRecords, faultBytes}
 use Rattle.laws.specs.Places.{gather}
 use Rattle.laws.specs.Put.{Put}
 use Rattle.laws.proofs.Gathers.{Writes, gather-step}
-use Rattle.laws.proofs.Tests.{cond-ind}
 use Rattle.bits.specs.Low.{lowWord}
-use Rattle.drafts.specs.Kinds.{closes}
 use Rattle.records.specs.Record.{field}
 use Rattle.listing_text.specs.Listing.{figures, line, line2}
 use Rattle.listing_text.specs.Written.{detailAt, head, InReach}
@@ -49,6 +47,10 @@ reach-turn {f} {n} {i} v h k =
 abbrev pub Bytes : List ℕ → Type 0
 Bytes l = (i : ℕ) → getD l i 0 < 256
 
+-- each is a number of two bytes
+abbrev pub Shorts : List ℕ → Type 0
+Shorts l = (i : ℕ) → getD l i 0 < 65536
+
 -- the number of n bytes
 word-small : (n : ℕ) (l : List ℕ) → Bytes l → lowWord (take n l) < 256 ^ n
 unfolding lowWord
@@ -75,20 +77,18 @@ gather-within f m h zero i = omega arith
 gather-within f m h (suc k) i =
     rw (suc-mul k m) (omega (arith, h i, gather-within f m h k (suc i), length-append (f i) (gather f k (suc i))))
 
--- the line of a fault, and of a statement
-detail-short : (ordered : Bool) (l : List ℕ) → Bytes l → (i : ℕ) → length (detailAt ordered l i) ≤ 4294967298
-detail-short true l b i =
-    let n = field l (i * recordBytes + 4) 4 in
-    cond-ind (λ (x : List ℕ). length x ≤ 4294967298) (closes (field l (i * recordBytes) 1)) (line n) []
-    (λ _. omega (arith, line-short n, field-small l (i * recordBytes + 4) 4 b)) (λ _. omega arith)
-detail-short false l b i =
+-- the line of a statement, and of a fault
+detail-short : (ok : Bool) (o l : List ℕ) → Shorts o → Bytes l → (i : ℕ) → length (detailAt ok o l i) ≤ 65796
+detail-short true o l s b i = omega (arith, line-short (getD o i 0), s i)
+detail-short false o l s b i =
     let m = field-small l (i * faultBytes) 2 b in
     let n = field-small l (i * faultBytes + 2) 1 b in
     omega (arith, pair-short (field l (i * faultBytes) 2) (field l (i * faultBytes + 2) 1))
 
 -- REACH: the first line, with no more than the most records, and as many lines behind it
-pub listing-reach : (ordered : Bool) (a b n count : ℕ) (l : List ℕ) → n ≤ mostRecords → count ≤ mostRecords → Bytes l
-    → InReach (head a b n ++ gather (detailAt ordered l) count 0) 0
-listing-reach ordered a b n count l h few bytes =
-    let g = gather-within (detailAt ordered l) 4294967298 (detail-short ordered l bytes) count 0 in
-    omega (arith, line-short n, length-append (head a b n) (gather (detailAt ordered l) count 0))
+pub listing-reach : (ok : Bool) (a b n count : ℕ) (o l : List ℕ) → n ≤ mostRecords → count ≤ mostRecords → Shorts o
+    → Bytes l
+    → InReach (head a b n ++ gather (detailAt ok o l) count 0) 0
+listing-reach ok a b n count o l h few shorts bytes =
+    let g = gather-within (detailAt ok o l) 65796 (detail-short ok o l shorts bytes) count 0 in
+    omega (arith, line-short n, length-append (head a b n) (gather (detailAt ok o l) count 0))

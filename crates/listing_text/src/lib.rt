@@ -9,13 +9,12 @@ ghost use Rattle.records.specs.Record.{field};
 ghost use Rattle.translator.specs.Contract.{numberIn, countIn};
 ghost use Rattle.listing_text.specs.Listing.{figures, line, line2};
 ghost use Rattle.listing_text.specs.Contract.{Lists};
-ghost use Rattle.listing_text.specs.Written.{faultAt, endedAt, head, detailAt, written, InReach};
-use drafts::RATE;
-use drafts::STORE;
+ghost use Rattle.listing_text.specs.Written.{faultAt, head, detailAt, written, InReach};
+use bits::reads::short_at;
 use limits::FAULT_BYTES;
 use limits::FAULT_ROOM;
 use limits::PROGRAM_ROOM;
-use limits::RECORD_BYTES;
+use limits::STATEMENTS;
 use translator::Verdict;
 
 // ---- numbers and lines. Each writer answers the place behind what it wrote; past the end of the lent bytes nothing is
@@ -96,43 +95,35 @@ fn put_fault_line(list: &[u8], i: usize, out: &mut [u8], at: usize) -> usize
     put_pair(low_at(list, o, 2), low_at(list, o + 2, 1), out, at)
 }
 
-// Writes the first line of the statement that a record ends, if it ends one.
-fn put_ended(program: &[u8], i: usize, out: &mut [u8], at: usize) -> usize
-    requires { ⌜ (i < mostRecords) × InReach (endedAt (now program) i) at ⌝ }
-    ensures { λ r. ⌜ Put (endedAt (now (program .entry)) i) at r (now (out .entry)) (now (out .exit)) ⌝ }
+// Writes the first line of an ordered statement, or else line and code of a fault.
+fn put_detail(ok: bool, ordered: &[u16], list: &[u8], i: usize, out: &mut [u8], at: usize) -> usize
+    requires { ⌜ (i < mostRecords) × InReach (detailAt ok (now ordered) (now list) i) at ⌝ }
+    ensures { λ r. ⌜ Put (detailAt ok (now (ordered .entry)) (now (list .entry)) i) at r (now (out .entry))
+        (now (out .exit)) ⌝ }
 {
-    let o = i * RECORD_BYTES;
-    let kind = low_at(program, o, 1);
-    if kind < STORE as u64 {
-        return at;
+    if ok {
+        return put_line(short_at(ordered, i) as u64, out, at);
     }
-    if (RATE as u64) < kind {
-        return at;
-    }
-    put_line(low_at(program, o + 4, 4), out, at)
-}
-
-// Writes a line of an ordered statement, read from a program, or else of a fault, read from a list.
-fn put_detail(ordered: bool, from: &[u8], i: usize, out: &mut [u8], at: usize) -> usize
-    requires { ⌜ (i < mostRecords) × InReach (detailAt ordered (now from) i) at ⌝ }
-    ensures { λ r. ⌜ Put (detailAt ordered (now (from .entry)) i) at r (now (out .entry)) (now (out .exit)) ⌝ }
-{
-    if ordered {
-        return put_ended(from, i, out, at);
-    }
-    put_fault_line(from, i, out, at)
+    put_fault_line(list, i, out, at)
 }
 
 // Writes so many of them.
-fn put_details(ordered: bool, from: &[u8], count: usize, out: &mut [u8], at: usize) -> usize
-    requires { ⌜ (count ≤ mostRecords) × InReach (gather (detailAt ordered (now from)) count 0) at ⌝ }
-    ensures { λ r. ⌜ Put (gather (detailAt ordered (now (from .entry))) count 0) at r (now (out .entry))
-        (now (out .exit)) ⌝ }
+fn put_details(
+    ok: bool,
+    ordered: &[u16],
+    list: &[u8],
+    count: usize,
+    out: &mut [u8],
+    at: usize,
+) -> usize
+    requires { ⌜ (count ≤ mostRecords) × InReach (gather (detailAt ok (now ordered) (now list)) count 0) at ⌝ }
+    ensures { λ r. ⌜ Put (gather (detailAt ok (now (ordered .entry)) (now (list .entry))) count 0) at r
+        (now (out .entry)) (now (out .exit)) ⌝ }
 {
     let mut w = at;
     let mut i: usize = 0;
     while i < count {
-        w = put_detail(ordered, from, i, &mut *out, w);
+        w = put_detail(ok, ordered, list, i, &mut *out, w);
         i += 1;
     }
     w
@@ -162,26 +153,60 @@ fn count_of(verdict: Verdict) -> usize
     }
 }
 
-// Writes the first line and, from a program or a list, so many lines behind it.
-fn put_all(a: u8, b: u8, n: u64, ordered: bool, from: &[u8], count: usize, out: &mut [u8]) -> usize
+// Writes the first line and, from an order or a list, so many lines behind it.
+fn put_all(
+    a: u8,
+    b: u8,
+    n: u64,
+    ok: bool,
+    ordered: &[u16],
+    list: &[u8],
+    count: usize,
+    out: &mut [u8],
+) -> usize
     requires { ⌜ (n ≤ mostRecords) × (count ≤ mostRecords) ⌝ }
-    ensures { λ r. ⌜ Put (head a b n ++ gather (detailAt ordered (now (from .entry))) count 0) 0 r
+    ensures { λ r. ⌜ Put (head a b n ++ gather (detailAt ok (now (ordered .entry)) (now (list .entry))) count 0) 0 r
         (now (out .entry)) (now (out .exit)) ⌝ }
 {
     let at = put_head(a, b, n, &mut *out);
-    put_details(ordered, from, count, out, at)
+    put_details(ok, ordered, list, count, out, at)
 }
 
-// Writes the listing of a verdict, with the faults or the program that it left.
-fn put_listing(number: u8, count: usize, faults: &[u8], program: &[u8], out: &mut [u8]) -> usize
-    requires { ⌜ count ≤ mostRecords ⌝ }
-    ensures { λ r. ⌜ Put (written number count (now (faults .entry)) (now (program .entry))) 0 r
+// Writes the listing of a verdict, with the faults or the order that it left.
+fn put_listing(
+    number: u8,
+    count: usize,
+    statements: usize,
+    faults: &[u8],
+    ordered: &[u16],
+    out: &mut [u8],
+) -> usize
+    requires { ⌜ (count ≤ mostRecords) × (statements ≤ mostRecords) ⌝ }
+    ensures { λ r. ⌜ Put (written number count statements (now (faults .entry)) (now (ordered .entry))) 0 r
         (now (out .entry)) (now (out .exit)) ⌝ }
 {
     if number == 0 {
-        return put_all(b'O', b'K', count as u64, true, program, count, out);
+        return put_all(
+            b'O',
+            b'K',
+            count as u64,
+            true,
+            ordered,
+            faults,
+            statements,
+            out,
+        );
     }
-    put_all(b'N', b'O', number as u64, false, faults, count, out)
+    put_all(
+        b'N',
+        b'O',
+        number as u64,
+        false,
+        ordered,
+        faults,
+        count,
+        out,
+    )
 }
 
 // The listing of a text, written to the front of what is lent, as far as there are places; how many bytes it has.
@@ -190,12 +215,15 @@ pub fn list(text: &[u8], out: &mut [u8]) -> usize
 {
     let mut faults = [0u8; FAULT_ROOM];
     let mut program = [0u8; PROGRAM_ROOM];
-    let verdict = translator::translate(text, &mut faults, &mut program);
+    let mut ordered = [0u16; STATEMENTS];
+    let r = translator::translate_in_order(text, &mut faults, &mut program, &mut ordered);
+    let verdict = r.verdict;
     put_listing(
         number_of(verdict),
         count_of(verdict),
+        r.statements,
         &faults,
-        &program,
+        &ordered,
         out,
     )
 }

@@ -44,7 +44,7 @@ module _ (b : ℕ) where
   abbrev pub SaidBelow : Numbered → Type 0
   SaidBelow s = s .line < b
 
-  abbrev pub DefBelow : Def → Type 0
+  abbrev DefBelow : Def → Type 0
   DefBelow d = d .line < b
 
   abbrev pub EquationBelow : Equation → Type 0
@@ -104,7 +104,7 @@ module _ (b : ℕ) where
       one l h (faulty c q) = tt
 
   -- of the definitions
-  pub definitions-below : (ss : List Numbered) → Every SaidBelow ss → Every DefBelow (definitions ss)
+  definitions-below : (ss : List Numbered) → Every SaidBelow ss → Every DefBelow (definitions ss)
   definitions-below ss p =
       every-concat SaidBelow DefBelow (λ s. definedBy (s .line) (s .says)) (λ s h. one (s .line) h (s .says)) ss p
     where
@@ -129,7 +129,7 @@ module _ (b : ℕ) where
       one d h (integral i e) = (h, tt)
 
   -- .. and of the equation at any place
-  pub equation-below : 0 < b → (ds : List Def) → Every DefBelow ds → (i : ℕ) → EquationBelow (equationAt ds i)
+  equation-below : 0 < b → (ds : List Def) → Every DefBelow ds → (i : ℕ) → EquationBelow (equationAt ds i)
   equation-below z ds p i = every-anywhere EquationBelow noEquation z (equations ds) i (equations-below ds p)
 
   -- of a model fault

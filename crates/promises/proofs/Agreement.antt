@@ -80,7 +80,7 @@ pub evaluator : Evaluator
 evaluator = record { evaluate = of-evaluator.evaluate; start = of-evaluator.start; step = of-evaluator.step }
 
 pub translator : Translator
-translator = record { translate = of-translator.translate }
+translator = record { translate = of-translator.translate; translate-in-order = of-translator.translate-in-order }
 
 pub listing : Listing
 listing = record { list = of-listing.list }

@@ -4,7 +4,7 @@ use Prim.Native.Nat.{ℕ}
 use mathlib.Core.Bool.{Bool}
 use mathlib.Core.List.{List}
 use lib.Ieee.{Float}
-use Rattle.laws.specs.Agree.{Agree, Agree2, Agree3, Agree5}
+use Rattle.laws.specs.Agree.{Agree, Agree2, Agree3, Agree4, Agree5}
 use Rattle.bits.specs.Contract.{Widens, Indexes, ReadsByte, ReadsShort, ReadsWord, TakesLeast, LeavesRoom, GetsLow}
 use Rattle.bits.specs.Contract.{PutsLow, PutsEight, GivesFloat, GivesBits}
 use Rattle.deck.specs.declared.Cursor.{Cursor}
@@ -19,7 +19,7 @@ use Rattle.model.specs.Plan.{Lent}
 use Rattle.model.specs.Contract.{Plans}
 use Rattle.program.specs.Contract.{CountsRecords, PutsProgram}
 use Rattle.evaluator.specs.Contract.{Evaluated, Started, Stepped}
-use Rattle.translator.specs.Contract.{Translates}
+use Rattle.translator.specs.Contract.{Translates, TranslatesInOrder}
 use Rattle.listing_text.specs.Contract.{Lists}
 use Rattle.floesedge.specs.Contract.{TranslatesFixed, EvaluatesFixed, StartsFixed, StepsFixed}
 use Rattle.tally.specs.declared.Tally.{Tally}
@@ -100,6 +100,7 @@ pub record Evaluator : Type 0 where
 -- a text translated
 pub record Translator : Type 0 where
   pub translate : (text f p : List ℕ) → Agree3 (Translates text f p)
+  pub translate-in-order : (text f p o : List ℕ) → Agree4 (TranslatesInOrder text f p o)
 
 -- a verdict as text
 pub record Listing : Type 0 where

@@ -1,13 +1,13 @@
--- How large a count is: at most one fault for each statement, so that the list holds them all, and no more records than
--- there may be.
+-- How large a count is: at most one fault for each statement, so that the list holds them all, no more records than
+-- there may be, and no more ordered statements.
 use Prim.Native.Nat.{ℕ, zero, suc, _+_, _/_, _≤_}
 use mathlib.Core.Path.{_≡_, refl, ap}
 use mathlib.Core.Bool.{Bool, true, false, _||_}
-use mathlib.Core.List.{List, [], _∷_, _++_}
+use mathlib.Core.List.{List, [], _∷_, _++_, map}
 use native.Mathlib.Omega.{arith}
 use borrow.Author.Tests.{ltb-false}
 use lib.Dec.{ltb}
-use lib.ListN.{length, length-append}
+use lib.ListN.{length, length-append, length-map}
 use Rattle.limits.specs.Limits.{mostStatements, mostDefinitions, mostRecords, recordBytes, faultRoom, textBytes}
 use Rattle.limits.specs.Limits.{textLines}
 use Rattle.laws.specs.Lists.{concat-map, numbers}
@@ -16,7 +16,9 @@ use Rattle.laws.proofs.Tests.{cond-ind}
 use Rattle.deck.specs.Lines.{linesOf}
 use Rattle.sheet.specs.Sheet.{Told, says, faulty, Sheet, Numbered, Fault, said, saidBy, faultBy, statementFaults}
 use Rattle.sheet.specs.Reader.{sheetOf}
+use Rattle.order.specs.Greedy.{order}
 use Rattle.order.specs.Order.{unsortable}
+use Rattle.order.proofs.Sorting.{place-length}
 use Rattle.model.specs.Definitions.{What, constant, assigned, integral, Def, keys, definedBy, definitions, equationOf}
 use Rattle.model.specs.Definitions.{equationAt, equationCount}
 use Rattle.model.specs.Faults.{faultIf, again, faults21, within, namedBy, initialOf, constantKeys, nameFault}
@@ -28,6 +30,7 @@ use Rattle.drafts.specs.Kinds.{writes}
 use Rattle.program.specs.Written.{recordCount}
 use Rattle.translator.specs.Verdict.{Decision, refused, ifFaults, fitted, modelled, decided, verdictOf, countOf}
 use Rattle.translator.specs.Verdict.{faulty as flawed, translated}
+use Rattle.translator.specs.Contract.{linesIn}
 
 -- at most one for each element
 pub concat-few : {A B : Type 0} (f : A → List B) → ((a : A) → length (f a) ≤ 1) → (l : List A)
@@ -73,6 +76,18 @@ equations-few ds = concat-few _ (λ d. one (d .line) (d .key) (d .what)) ds
     one l k (assigned e) = omega arith
     one l k (integral i e) = omega arith
 
+-- .. so no more are ordered
+order-few : (ds : List Def) → length (map (λ (i : ℕ). equationAt ds i .line) (orderOf ds)) ≤ length ds
+unfolding order
+order-few ds =
+    let n = equationCount ds in
+    omega (
+      arith,
+      equations-few ds,
+      place-length n (usesIn ds) n [],
+      length-map (orderOf ds) (λ (i : ℕ). equationAt ds i .line),
+    )
+
 numbers-many : (k i : ℕ) → length (numbers k i) ≡ k
 unfolding numbers
 numbers-many zero i = refl
@@ -117,30 +132,34 @@ faults-few sheet = omega (arith, counts sheet)
 
 -- ---- the verdict
 
--- faults are at most one for each statement, and records as many as there may be
+-- faults are at most one for each statement; records, and ordered statements, as many as there may be
 abbrev Few : Decision → Type 0
 Few (refused n) = Unit {0}
 Few (flawed n fs) = length fs ≤ mostStatements
-Few (translated rs ls) = length rs ≤ mostRecords
+Few (translated rs ls) = (length rs ≤ mostRecords) × (length ls ≤ mostStatements)
 
 few-if : (n : ℕ) (fs : List Fault) (next : Decision) → length fs ≤ mostStatements → Few next → Few (ifFaults n fs next)
 few-if n [] next h k = k
 few-if n (f ∷ fs) next h k = h
 
-few-fitted : (room : ℕ) (rs : List Rec) (ls : List ℕ) → Few (fitted room rs ls)
-few-fitted room rs ls =
+few-fitted : (room : ℕ) (rs : List Rec) (ls : List ℕ) → length ls ≤ mostStatements → Few (fitted room rs ls)
+few-fitted room rs ls h =
     cond-ind Few (ltb mostRecords (length rs) || ltb (room / recordBytes) (length rs)) (refused 8) (translated rs ls)
     (λ _. tt)
-    (λ e. ltb-false mostRecords (length rs)
-    (or-false (ltb mostRecords (length rs)) (ltb (room / recordBytes) (length rs)) e .0))
+    (λ e. (
+      ltb-false mostRecords (length rs)
+          (or-false (ltb mostRecords (length rs)) (ltb (room / recordBytes) (length rs)) e .0),
+      h,
+    ))
 
 few-modelled : (room : ℕ) (ss : List Numbered) → length ss ≤ mostStatements → Few (modelled room ss)
 few-modelled room ss h =
     let ds = definitions ss in
     cond-ind Few (ltb mostDefinitions (length ds)) (refused 6) _ (λ _. tt)
-    (λ e. few-if 7 (modelFaults ss) _
-    (model-few ss mostStatements h (omega (arith, ltb-false mostDefinitions (length ds) e)))
-    (few-fitted room (program ds (orderOf ds)) _))
+    (λ e.
+    let few : length ds ≤ mostDefinitions = ltb-false mostDefinitions (length ds) e in
+    few-if 7 (modelFaults ss) _ (model-few ss mostStatements h (omega (arith, few)))
+    (few-fitted room (program ds (orderOf ds)) _ (omega (arith, few, order-few ds))))
 
 few-decided : (room : ℕ) (sheet : Sheet) → Few (decided room sheet)
 unfolding decided
@@ -164,7 +183,13 @@ few text faults room =
 pub count-few : (v : Decision) → Few v → countOf v ≤ mostRecords
 count-few (refused n) h = omega arith
 count-few (flawed n fs) h = omega arith
-count-few (translated rs ls) h = h
+count-few (translated rs ls) h = h .0
+
+-- and no more lines are named than there may be statements
+pub lines-few : (v : Decision) → Few v → length (linesIn v) ≤ mostStatements
+lines-few (refused n) h = omega arith
+lines-few (flawed n fs) h = omega arith
+lines-few (translated rs ls) h = h .1
 
 -- no more records than drafts
 pub records-few : (kinds : List ℕ) → recordCount kinds ≤ length kinds

@@ -23,11 +23,13 @@ use Rattle.program.proofs.WrittenMeans.{count-meant, program-meant}
 use Rattle.translator.specs.declared.Verdict.{Verdict}
 use Rattle.translator.specs.declared.Verdict.the-variants.{Refused, Faulty, Translated}
 use Rattle.translator.specs.Verdict.{programmed, modelled}
-use Rattle.translator.specs.Contract.{reply, replyOf}
+use Rattle.translator.specs.Contract.{ordered}
+use Rattle.translator.specs.Working.{orderedLines, Concludes}
+use Rattle.translator.proofs.Handing.{order-handed}
 use Rattle.translator.proofs.Concluding.{soundPlan, Conclusion, many, flawed, sound}
 
 module _ (ss : List Numbered) (kinds args lines bounds : List ℕ) (laid : Laid ss kinds args lines bounds)
-    (used faults prog : List ℕ) where
+    (used faults prog lent : List ℕ) where
   abbrev ds : List Def
   ds = definitions ss
 
@@ -40,9 +42,13 @@ module _ (ss : List Numbered) (kinds args lines bounds : List ℕ) (laid : Laid 
       writtenProgram (placesIn kinds) (equatedIn (length lines) bounds kinds) lines bounds kinds
       (resolved (keysIn kinds args) kinds args) (orderOf ds)
 
-  -- what the verdict on the model leaves
+  -- the first lines that it hands out
+  abbrev pub handed : List ℕ
+  handed = orderedLines (equatedIn (length lines) bounds kinds) lines (orderOf ds)
+
+  -- what the verdict on the model leaves, where nothing is ordered
   abbrev pub Decides : Verdict → List ℕ → List ℕ → Type 0
-  Decides r f p = reply r f p ≡ replyOf (modelled (length prog) ss) faults prog
+  Decides r f p = Concludes ss faults prog lent (ordered r 0) f p lent
 
   module _ (o : PlanOutcome) (c : Conclusion ss kinds args lines bounds laid used faults o) where
     -- number 6
@@ -98,11 +104,13 @@ module _ (ss : List Numbered) (kinds args lines bounds : List ℕ) (laid : Laid 
           lt-ltb (length prog / recordBytes) (length recs) (rw (← count) h),
         )
 
-    -- 0: the program is written
+    -- 0: the program is written, and the order handed out
     pub decides-zero : recordCount kinds ≤ mostRecords → recordCount kinds ≤ length prog / recordBytes
-        → Decides (Translated (recordCount kinds)) faults (sets prog 0 written)
+        → Concludes ss faults prog lent (ordered (Translated (recordCount kinds)) (length handed)) faults
+        (sets prog 0 written) (sets lent 0 handed)
     decides-zero h k =
         rw (
+          order-handed ss kinds args lines bounds laid clean,
           modelled-sound,
           le-ltb mostRecords (length recs) (rw (← count) h),
           le-ltb (length prog / recordBytes) (length recs) (rw (← count) k),

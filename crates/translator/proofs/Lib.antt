@@ -3,6 +3,7 @@ mod Progress
 mod Telling
 mod Parsing
 mod Turns
+mod Handing
 mod Concluding
 pub mod Deciding
 pub mod Counted

@@ -16,9 +16,9 @@ use Rattle.sheet.specs.Sheet.{Numbered, Fault, said, statementFaults, faultList
 use Rattle.sheet.specs.Reader.{sheetOf}
 use Rattle.sheet.specs.Layout.{draftsIn, Laid}
 use Rattle.translator.specs.declared.SoFar.{SoFar}
-use Rattle.translator.specs.declared.Verdict.{Verdict}
+use Rattle.translator.specs.declared.Ordered.{Ordered}
 use Rattle.translator.specs.declared.Verdict.the-variants.{Faulty}
-use Rattle.translator.specs.Contract.{reply, replyOf}
+use Rattle.translator.specs.Contract.{ordered, orderedReply, orderedReplyOf}
 use Rattle.translator.specs.Verdict.{ifFaults, modelled, decided}
 use Rattle.translator.specs.Working.{Read, Ready, Concludes, Taken, Room, Decides}
 use Rattle.model.proofs.LaidFits.{bounds-many, laid-fits}
@@ -30,13 +30,13 @@ module _ {text list₀ kinds₀ args₀ lines₀ bounds₀ : List ℕ} (room : R
   few = le-ltb mostStatements (length (sheetOf text)) (room .taken .few)
 
   -- 5: some fault stands, and the list is written
-  pub says-five : (p : List ℕ) → 0 < n .faults → Decides text list₀ p (Faulty 5 (n .faults)) list p
+  pub says-five : (p o : List ℕ) → 0 < n .faults → Decides text list₀ p o (ordered (Faulty 5 (n .faults)) 0) list p o
   unfolding decided
-  says-five p h = rw (few, r .faults, r .listed) (go (statementFaults (sheetOf text)) (rw (← r .faults) h))
+  says-five p o h = rw (few, r .faults, r .listed) (go (statementFaults (sheetOf text)) (rw (← r .faults) h))
     where
       go : (fs : List Fault) → 0 < length fs
-          → reply (Faulty 5 (length fs)) (sets list₀ 0 (faultList fs)) p
-          ≡ replyOf (ifFaults 5 fs (modelled (length p) (said (sheetOf text)))) list₀ p
+          → orderedReply (ordered (Faulty 5 (length fs)) 0) (sets list₀ 0 (faultList fs)) p o
+          ≡ orderedReplyOf (ifFaults 5 fs (modelled (length p) (said (sheetOf text)))) list₀ p o
       go [] h = absurd (omega arith)
       go (f ∷ fs) h = refl
 
@@ -54,10 +54,11 @@ module _ {text list₀ kinds₀ args₀ lines₀ bounds₀ : List ℕ} (room : R
     listed-none = r .listed ∙ ap (λ (fs : List Fault). sets list₀ 0 (faultList fs)) clean
 
     -- the model decides
-    pub says-model : (v : Verdict) (p : List ℕ) {f′ p′ : List ℕ} → Concludes (said (sheetOf text)) list p v f′ p′
-        → Decides text list₀ p v f′ p′
+    pub says-model : (v : Ordered) (p o : List ℕ) {f′ p′ o′ : List ℕ}
+        → Concludes (said (sheetOf text)) list p o v f′ p′ o′
+        → Decides text list₀ p o v f′ p′ o′
     unfolding decided
-    says-model v p w = rw (few, clean, ← listed-none) w
+    says-model v p o w = rw (few, clean, ← listed-none) w
 
   -- no more statements than there may be
   pub statements-few : n .statements ≤ mostStatements

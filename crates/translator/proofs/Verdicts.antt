@@ -13,9 +13,11 @@ use Rattle.deck.specs.Reading.{fresh, reading}
 use Rattle.deck.specs.Reports.{report}
 use Rattle.deck.proofs.Sizing.{statements-le, lines-le}
 use Rattle.sheet.specs.Reader.{told, sheetOf}
+use Rattle.translator.specs.declared.Ordered.{Ordered}
 use Rattle.translator.specs.declared.Verdict.{Verdict}
 use Rattle.translator.specs.declared.Verdict.the-variants.{Refused}
-use Rattle.translator.specs.Contract.{Reply, byNumber, replyOf, Translates, Gives}
+use Rattle.translator.specs.Contract.{Reply, reply, replyOf, Translates, ordered, OrderedReply}
+use Rattle.translator.specs.Contract.{TranslatesInOrder, byNumber, Gives}
 use Rattle.translator.specs.Verdict.{Decision, refused, faulty, translated, decided, verdictOf}
 use Rattle.translator.specs.Verdict.{translationOf, translation}
 use Rattle.translator.specs.Working.{Taken, Decides}
@@ -41,8 +43,8 @@ bytes-sized text h = lines-sized text (omega (arith, lines-le text))
 pub taken-so : (text f : List ℕ) → faultRoom ≤ length f → length text ≤ textBytes → Sized text → Taken text f
 taken-so text f room short sized = record { few = rw (sheet-many text) (sized .1); brief = short; list-room = room }
 
-module _ (text f p : List ℕ) where
-  pub says-one : length f < faultRoom → Translates text f p (Refused 1) f p
+module _ (text f p o : List ℕ) where
+  pub says-one : length f < faultRoom → TranslatesInOrder text f p o (ordered (Refused 1) 0) f p o
   unfolding verdictOf
   says-one h = rw (lt-ltb (length f) faultRoom h)
 
@@ -50,7 +52,7 @@ module _ (text f p : List ℕ) where
     enough : ltb (length f) faultRoom ≡ false
     enough = le-ltb (length f) faultRoom room
 
-    pub says-two : textBytes < length text → Translates text f p (Refused 2) f p
+    pub says-two : textBytes < length text → TranslatesInOrder text f p o (ordered (Refused 2) 0) f p o
     unfolding verdictOf
     says-two h = rw (enough, lt-ltb textBytes (length text) h)
 
@@ -58,7 +60,7 @@ module _ (text f p : List ℕ) where
       brief : ltb textBytes (length text) ≡ false
       brief = le-ltb textBytes (length text) short
 
-      pub says-three : textLines < length (linesOf text) → Translates text f p (Refused 3) f p
+      pub says-three : textLines < length (linesOf text) → TranslatesInOrder text f p o (ordered (Refused 3) 0) f p o
       unfolding verdictOf
       says-three h = rw (enough, brief, lt-ltb textLines (length (linesOf text)) h)
 
@@ -66,16 +68,23 @@ module _ (text f p : List ℕ) where
         lined : ltb textLines (length (linesOf text)) ≡ false
         lined = le-ltb textLines (length (linesOf text)) lines
 
-        pub says-four : mostStatements < length (reading fresh 1 (linesOf text)) → Translates text f p (Refused 4) f p
+        pub says-four : mostStatements < length (reading fresh 1 (linesOf text))
+            → TranslatesInOrder text f p o (ordered (Refused 4) 0) f p o
         unfolding verdictOf decided
         says-four h =
             rw
             (enough, brief, lined, sheet-many text, lt-ltb mostStatements (length (reading fresh 1 (linesOf text))) h)
 
         -- behind them the sheet's verdict is the text's
-        pub says-decided : (r : Verdict) {f′ p′ : List ℕ} → Decides text f p r f′ p′ → Translates text f p r f′ p′
+        pub says-decided : (r : Ordered) {f′ p′ o′ : List ℕ} → Decides text f p o r f′ p′ o′
+            → TranslatesInOrder text f p o r f′ p′ o′
         unfolding verdictOf
         says-decided r w = rw (enough, brief, lined) w
+
+-- THE VERDICT ALONE: an answer with the order is the answer without it
+pub without-order : (text f p o : List ℕ) {r : Ordered} {f′ p′ o′ : List ℕ} → TranslatesInOrder text f p o r f′ p′ o′
+    → Translates text f p (r .verdict) f′ p′
+without-order text f p o e = ap (λ (x : OrderedReply). reply (x .answer .verdict) (x .faults) (x .program)) e
 
 -- the reply to a verdict has its number and count
 by-case : (v : Decision) (f p : List ℕ)

@@ -7,7 +7,7 @@ use native.Mathlib.Omega.{arith}
 use native.Mathlib.Nat.{zero-add}
 use borrow.Author.Tests.{leb-true, ltb-true, ltb-false}
 use lib.Dec.{leb, ltb}
-use lib.ListN.{length, take, replicate, length-replicate}
+use lib.ListN.{length, take, replicate, length-map, length-replicate}
 use lib.Seq.{sets, length-sets, take-all}
 use Rattle.limits.specs.Limits.{mostDefinitions, mostStatements, mostRecords, recordBytes}
 use Rattle.laws.proofs.Tests.{and-true}
@@ -17,19 +17,20 @@ use Rattle.sheet.specs.Layout.{Laid}
 use Rattle.model.specs.Definitions.{Def, definitions, equationCount}
 use Rattle.model.specs.Faults.{modelFaults, orderOf}
 use Rattle.model.specs.Places.{placesIn, equatedIn}
-use Rattle.model.specs.Plan.{lent, PlanOutcome, planOutcome, fit}
+use Rattle.model.specs.Plan.{lent as arrays, PlanOutcome, planOutcome, fit}
 use Rattle.model.specs.Contract.{Plans}
 use Rattle.model.specs.declared.answer.Plan.{Plan}
 use Rattle.model.proofs.NoModelFault.{no-faults}
 use Rattle.model.proofs.PlanStages.{equated-few}
 use Rattle.model.proofs.ArraysMean.{places-meant, equated-meant}
 use Rattle.program.specs.Written.{recordCount, writtenProgram, fitting}
-use Rattle.translator.specs.declared.Verdict.{Verdict}
+use Rattle.translator.specs.declared.Ordered.{Ordered}
 use Rattle.translator.specs.declared.Verdict.the-variants.{Refused, Faulty, Translated}
-use Rattle.translator.specs.Working.{blank, padded, Ready, Planned, Concludes}
+use Rattle.translator.specs.Contract.{ordered}
+use Rattle.translator.specs.Working.{blank, padded, Ready, Planned, orderedLines, Concludes}
 use Rattle.translator.proofs.Progress.{take-sets}
 use Rattle.translator.proofs.Concluding.{Conclusion, concluded, soundPlan, all-placed}
-use Rattle.translator.proofs.Deciding.{written, decides-six, decides-seven, decides-sound, decides-eight}
+use Rattle.translator.proofs.Deciding.{written, handed, decides-six, decides-seven, decides-sound, decides-eight}
 use Rattle.translator.proofs.Deciding.{decides-eight′, decides-zero}
 use Rattle.translator.proofs.Deciding.{program-long}
 
@@ -104,26 +105,28 @@ module _ {p : Plan} {places equated order lines bounds kinds args : List ℕ}
   pub written-cut : {r₁ r₂ r₃ : List ℕ} → r₁ ≡ take (p .definitions) places → r₂ ≡ take (p .equations) equated
       → r₃ ≡ take (p .equations) order
       → writtenProgram r₁ r₂ lines bounds kinds args r₃ ≡ written (s .statements) kinds (s .unresolved) lines bounds
-      (s .laid) [] [] []
+      (s .laid) [] [] [] []
   written-cut e₁ e₂ e₃ = rw (e₁, e₂, e₃, places-cut, equated-cut, order-cut, s .args-resolved)
 
   -- ---- the answers
-  module _ (out : List ℕ) {over : Bool}
+  module _ (out lent : List ℕ) {over : Bool}
       (tested : over ≡ (ltb mostRecords (recordCount kinds) || ltb (length out / recordBytes) (recordCount kinds)))
     where
       -- the records are too many, or too many for the room
-      pub says-eight : over ≡ true → (f : List ℕ) → Concludes (s .statements) f out (Refused 8) f out
+      pub says-eight : over ≡ true → (f : List ℕ)
+          → Concludes (s .statements) f out lent (ordered (Refused 8) 0) f out lent
       says-eight t f = go (ltb mostRecords (recordCount kinds)) refl (sym tested ∙ t)
         where
           go : (b : Bool) → ltb mostRecords (recordCount kinds) ≡ b
               → (b || ltb (length out / recordBytes) (recordCount kinds)) ≡ true
-              → Concludes (s .statements) f out (Refused 8) f out
+              → Concludes (s .statements) f out lent (ordered (Refused 8) 0) f out lent
           go true e _ =
-              decides-eight (s .statements) kinds (s .unresolved) lines bounds (s .laid) [] f out (s .few) (s .clean)
-              (ltb-true mostRecords (recordCount kinds) e)
+              decides-eight (s .statements) kinds (s .unresolved) lines bounds (s .laid) [] f out lent (s .few)
+              (s .clean) (ltb-true mostRecords (recordCount kinds) e)
           go false e h =
-              decides-eight′ (s .statements) kinds (s .unresolved) lines bounds (s .laid) [] f out (s .few) (s .clean)
-              (ltb-true (length out / recordBytes) (recordCount kinds) h) (ltb-false mostRecords (recordCount kinds) e)
+              decides-eight′ (s .statements) kinds (s .unresolved) lines bounds (s .laid) [] f out lent (s .few)
+              (s .clean) (ltb-true (length out / recordBytes) (recordCount kinds) h)
+              (ltb-false mostRecords (recordCount kinds) e)
 
       -- or they are not, and the program is written
       module _ {r₁ r₂ r₃ : List ℕ} (e₁ : r₁ ≡ take (p .definitions) places) (e₂ : r₂ ≡ take (p .equations) equated)
@@ -142,7 +145,8 @@ module _ {p : Plan} {places equated order lines bounds kinds args : List ℕ}
             → n / recordBytes ≡ recordCount kinds
         counted e =
             let many =
-            program-long (s .statements) kinds (s .unresolved) lines bounds (s .laid) [] [] out (s .few) (s .clean) in
+            program-long (s .statements) kinds (s .unresolved) lines bounds (s .laid) [] [] out [] (s .few)
+            (s .clean) in
             rw (e, written-cut e₁ e₂ e₃) (omega (arith, many))
 
         -- there is room for all of them
@@ -150,29 +154,46 @@ module _ {p : Plan} {places equated order lines bounds kinds args : List ℕ}
             ≡ writtenProgram r₁ r₂ lines bounds kinds args r₃
         all-fits =
             let many =
-            program-long (s .statements) kinds (s .unresolved) lines bounds (s .laid) [] [] out (s .few) (s .clean) in
+            program-long (s .statements) kinds (s .unresolved) lines bounds (s .laid) [] [] out [] (s .few)
+            (s .clean) in
             rw (written-cut e₁ e₂ e₃)
             (take-all (recordBytes * (length out / recordBytes))
-            (written (s .statements) kinds (s .unresolved) lines bounds (s .laid) [] [] [])
+            (written (s .statements) kinds (s .unresolved) lines bounds (s .laid) [] [] [] [])
             (omega (arith, many, under .1)))
 
-        pub says-zero : {n : ℕ} {out′ : List ℕ}
+        -- the order is that of the definitions, and so long
+        handed-cut : orderedLines r₂ lines r₃
+            ≡ handed (s .statements) kinds (s .unresolved) lines bounds (s .laid) [] [] [] []
+        handed-cut = rw (e₂, e₃, equated-cut, order-cut)
+
+        handed-many : p .equations
+            ≡ length (handed (s .statements) kinds (s .unresolved) lines bounds (s .laid) [] [] [] [])
+        handed-many = s .equations-counted ∙ equated-many ∙ sym order-many ∙ sym (length-map (orderOf ds) _)
+
+        pub says-zero : {n : ℕ} {out′ lent′ : List ℕ}
             → (n ≡ length (fitting (length out) (writtenProgram r₁ r₂ lines bounds kinds args r₃)))
             × (out′ ≡ sets out 0 (fitting (length out) (writtenProgram r₁ r₂ lines bounds kinds args r₃)))
+            → lent′ ≡ sets lent 0 (orderedLines r₂ lines r₃)
             → (f : List ℕ)
-            → Concludes (s .statements) f out (Translated (n / recordBytes)) f out′
-        says-zero e f =
-            rw (counted (e .0 ∙ ap length all-fits), e .1 ∙ ap (sets out 0) all-fits, written-cut e₁ e₂ e₃)
-            (decides-zero (s .statements) kinds (s .unresolved) lines bounds (s .laid) [] f out (s .few) (s .clean)
+            → Concludes (s .statements) f out lent (ordered (Translated (n / recordBytes)) (p .equations)) f out′ lent′
+        says-zero e g f =
+            rw (
+              counted (e .0 ∙ ap length all-fits),
+              e .1 ∙ ap (sets out 0) all-fits,
+              written-cut e₁ e₂ e₃,
+              g ∙ ap (sets lent 0) handed-cut,
+              handed-many,
+            )
+            (decides-zero (s .statements) kinds (s .unresolved) lines bounds (s .laid) [] f out lent (s .few) (s .clean)
             (under .0) (under .1))
 
 -- ---- what is planned of statements that are laid out
 module _ {lines bounds kinds args used faults : List ℕ} (ready : Ready lines bounds kinds args used faults)
     {p : Plan} {args′ used′ faults′ places equated order : List ℕ}
-    (plans : Plans lines bounds kinds args used faults blank p args′ used′ faults′ (lent places equated order))
-    (ss : List Numbered) (laid : Laid ss kinds args lines bounds) (out : List ℕ) where
+    (plans : Plans lines bounds kinds args used faults blank p args′ used′ faults′ (arrays places equated order))
+    (ss : List Numbered) (laid : Laid ss kinds args lines bounds) (out lent : List ℕ) where
   abbrev reached : PlanOutcome
-  reached = planOutcome p args′ used′ faults′ (lent places equated order)
+  reached = planOutcome p args′ used′ faults′ (arrays places equated order)
 
   conclusion : Conclusion ss kinds args lines bounds laid used faults reached
   conclusion = rw plans (concluded ss kinds args lines bounds laid used faults (ready .fits))
@@ -181,17 +202,17 @@ module _ {lines bounds kinds args used faults : List ℕ} (ready : Ready lines b
   unfolding fit
   lines-short = leb-true _ _ (and-true (leb (length lines) mostStatements) _ (ready .fits) .0)
 
-  pub says-six : p .number ≡ 6 → Concludes ss faults out (Refused 6) faults′ out
-  says-six e = decides-six ss kinds args lines bounds laid used faults out reached conclusion e
+  pub says-six : p .number ≡ 6 → Concludes ss faults out lent (ordered (Refused 6) 0) faults′ out lent
+  says-six e = decides-six ss kinds args lines bounds laid used faults out lent reached conclusion e
 
-  pub says-seven : p .number ≡ 7 → Concludes ss faults out (Faulty 7 (p .count)) faults′ out
-  says-seven e = decides-seven ss kinds args lines bounds laid used faults out reached conclusion e
+  pub says-seven : p .number ≡ 7 → Concludes ss faults out lent (ordered (Faulty 7 (p .count)) 0) faults′ out lent
+  says-seven e = decides-seven ss kinds args lines bounds laid used faults out lent reached conclusion e
 
   -- neither number: the model is sound, the fault list untouched
   module _ (not-six : p .number ≡ 6 → ⊥) (not-seven : p .number ≡ 7 → ⊥) where
     sound : (ltb mostDefinitions (length (definitions ss)) ≡ false) × (modelFaults ss ≡ [])
         × (reached ≡ soundPlan ss kinds args lines bounds laid used faults)
-    sound = decides-sound ss kinds args lines bounds laid used faults out reached conclusion not-six not-seven
+    sound = decides-sound ss kinds args lines bounds laid used faults out lent reached conclusion not-six not-seven
 
     pub planned-so : Planned p places equated order lines bounds kinds args′
     planned-so =
@@ -211,9 +232,9 @@ module _ {lines bounds kinds args used faults : List ℕ} (ready : Ready lines b
           order-held = ap (λ (o : PlanOutcome). o .arrays .order) e;
         }
 
-    pub says-rest : (r : Verdict) {out′ : List ℕ}
+    pub says-rest : (r : Ordered) {out′ lent′ : List ℕ}
         → ((s : Planned p places equated order lines bounds kinds args′) (f : List ℕ)
-        → Concludes (s .statements) f out r f out′)
-        → Concludes ss faults out r faults′ out′
+        → Concludes (s .statements) f out lent r f out′ lent′)
+        → Concludes ss faults out lent r faults′ out′ lent′
     unfolding planned-so
     says-rest r w = rw (ap (λ (o : PlanOutcome). o .faults) (sound .2)) (w planned-so faults)

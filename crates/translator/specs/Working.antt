@@ -4,7 +4,7 @@ use mathlib.Core.Path.{_≡_}
 use mathlib.Core.Bool.{Bool, true, false}
 use mathlib.Core.List.{List, [], _∷_, _++_, map}
 use lib.Dec.{ltb}
-use lib.ListN.{length, take, drop, set, replicate}
+use lib.ListN.{length, getD, take, drop, set, replicate}
 use lib.Seq.{sets}
 use Rattle.limits.specs.Limits.{mostStatements, mostDefinitions, textBytes, faultRoom, faultBytes}
 use Rattle.deck.specs.declared.Cursor.{Cursor}
@@ -23,8 +23,8 @@ use Rattle.model.specs.Faults.{modelFaults, orderOf}
 use Rattle.model.specs.Places.{keysIn, placesIn, resolved, equatedIn}
 use Rattle.model.specs.Plan.{Lent, lent, fit}
 use Rattle.model.specs.declared.answer.Plan.{Plan}
-use Rattle.translator.specs.declared.Verdict.{Verdict}
-use Rattle.translator.specs.Contract.{reply, replyOf}
+use Rattle.translator.specs.declared.Ordered.{Ordered}
+use Rattle.translator.specs.Contract.{orderedReply, orderedReplyOf}
 use Rattle.translator.specs.Verdict.{modelled, decided}
 use Rattle.translator.specs.declared.Told.{Told as Answer}
 use Rattle.translator.specs.declared.Told.the-variants.{Says, Faulty}
@@ -201,14 +201,18 @@ pub record Planned (p : Plan) (places equated order lines bounds kinds args : Li
   pub equated-held : equated ≡ padded mostStatements (equatedIn (length lines) bounds kinds)
   pub order-held : order ≡ padded mostStatements (orderOf (definitions statements))
 
--- the answer r and the buffers f′ and p′ are what the verdict on the model of the statements gives for the buffers f
--- and p
-abbrev pub Concludes : List Numbered → List ℕ → List ℕ → Verdict → List ℕ → List ℕ → Type 0
-Concludes ss f p r f′ p′ = reply r f′ p′ ≡ replyOf (modelled (length p) ss) f p
+-- the first lines of the ordered statements: order gives places in equated, and these the statements
+abbrev pub orderedLines : List ℕ → List ℕ → List ℕ → List ℕ
+orderedLines equated lines order = map (λ (r : ℕ). getD lines (getD equated r 0) 0) order
 
--- the answer r and the buffers f′ and p′ are what the sheet's verdict gives for the buffers f and p
-abbrev pub Decides : List ℕ → List ℕ → List ℕ → Verdict → List ℕ → List ℕ → Type 0
-Decides text f p r f′ p′ = reply r f′ p′ ≡ replyOf (decided (length p) (sheetOf text)) f p
+-- the answer r and the buffers f′, p′ and o′ are what the verdict on the model of the statements gives for the buffers
+-- f, p and o
+abbrev pub Concludes : List Numbered → List ℕ → List ℕ → List ℕ → Ordered → List ℕ → List ℕ → List ℕ → Type 0
+Concludes ss f p o r f′ p′ o′ = orderedReply r f′ p′ o′ ≡ orderedReplyOf (modelled (length p) ss) f p o
+
+-- the answer r and the buffers f′, p′ and o′ are what the sheet's verdict gives for the buffers f, p and o
+abbrev pub Decides : List ℕ → List ℕ → List ℕ → List ℕ → Ordered → List ℕ → List ℕ → List ℕ → Type 0
+Decides text f p o r f′ p′ o′ = orderedReply r f′ p′ o′ ≡ orderedReplyOf (decided (length p) (sheetOf text)) f p o
 
 -- the most bytes of a text in the smallest room, and in the next
 abbrev pub small : ℕ

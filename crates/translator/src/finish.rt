@@ -4,12 +4,15 @@ ghost use mathlib.Core.Bool.{_||_};
 ghost use mathlib.Core.List.{List};
 ghost use Prim.Native.Nat.{ℕ};
 ghost use lib.Dec.{ltb};
+ghost use lib.Seq.{sets};
 ghost use Rattle.limits.specs.Limits.{mostRecords};
 ghost use Rattle.program.specs.Written.{recordCount};
 ghost use Rattle.sheet.specs.Sheet.{Numbered};
 ghost use Rattle.sheet.specs.Layout.{Laid};
-ghost use Rattle.translator.specs.Working.{Planned, Ready, Concludes};
+ghost use Rattle.translator.specs.Working.{Planned, Ready, Concludes, orderedLines};
+use super::Ordered;
 use super::Verdict;
+use bits::reads::short_at;
 use limits::DEFINITIONS;
 use limits::RECORD_BYTES;
 use limits::RECORDS;
@@ -34,8 +37,25 @@ fn is_over(kinds: &[u8], room: usize) -> bool
     room < n
 }
 
-// Writes the program of a sound model, if its records are few enough and there is room for them. The places of its
-// definitions, its equations and their order stand at the front of places, equated and order.
+// Writes the first line of each ordered statement, as far as there are places. Order gives places in equated, and these
+// the statements.
+fn put_order(equated: &[u16], lines: &[u16], order: &[u16], ordered: &mut [u16])
+    ensures { λ _. ⌜ now (ordered .exit) ≡ sets (now (ordered .entry)) 0
+        (orderedLines (now (equated .entry)) (now (lines .entry)) (now (order .entry))) ⌝ }
+{
+    let mut i: usize = 0;
+    while i < order.len() {
+        if ordered.len() <= i {
+            return;
+        }
+        ordered[i] = short_at(lines, short_at(equated, short_at(order, i))) as u16;
+        i += 1;
+    }
+}
+
+// Writes the program of a sound model, if its records are few enough and there is room for them, and the first lines of
+// its ordered statements. The places of its definitions, its equations and their order stand at the front of places,
+// equated and order.
 fn write_program(
     plan: Plan,
     places: &[u16],
@@ -46,15 +66,20 @@ fn write_program(
     kinds: &[u8],
     args: &[u64],
     out: &mut [u8],
-) -> Verdict
+    ordered: &mut [u16],
+) -> Ordered
     requires { ⌜ Planned plan (now places) (now equated) (now order) (now lines) (now bounds) (now kinds) (now args) ⌝ }
     ensures { λ r. ⌜ ((s : Planned plan (now (places .entry)) (now (equated .entry)) (now (order .entry))
         (now (lines .entry)) (now (bounds .entry))
         (now (kinds .entry)) (now (args .entry))) (f : List ℕ)
-        → Concludes (s .statements) f (now (out .entry)) r f (now (out .exit))) ⌝ }
+        → Concludes (s .statements) f (now (out .entry)) (now (ordered .entry))
+        r f (now (out .exit)) (now (ordered .exit))) ⌝ }
 {
     if is_over(kinds, out.len() / RECORD_BYTES) {
-        return Verdict::Refused(8);
+        return Ordered {
+            verdict: Verdict::Refused(8),
+            statements: 0,
+        };
     }
     let d = plan.definitions;
     let e = plan.equations;
@@ -68,10 +93,14 @@ fn write_program(
         &order[..e],
         out,
     );
-    Verdict::Translated(bytes / RECORD_BYTES)
+    put_order(&equated[..e], lines, &order[..e], ordered);
+    Ordered {
+        verdict: Verdict::Translated(bytes / RECORD_BYTES),
+        statements: e,
+    }
 }
 
-// The verdict on the model: 6, 7 with the faults listed, 8, or 0 with the program written.
+// The verdict on the model: 6, 7 with the faults listed, 8, or 0 with the program written and the order handed out.
 pub(crate) fn conclude(
     lines: &[u16],
     bounds: &[u16],
@@ -80,11 +109,13 @@ pub(crate) fn conclude(
     used: &mut [u16],
     faults: &mut [u8],
     out: &mut [u8],
-) -> Verdict
+    ordered: &mut [u16],
+) -> Ordered
     requires { ⌜ Ready (now lines) (now bounds) (now kinds) (now args) (now used) (now faults) ⌝ }
     ensures { λ r. ⌜ ((ss : List Numbered) → Laid ss (now (kinds .entry)) (now (args .entry)) (now (lines .entry))
         (now (bounds .entry))
-        → Concludes ss (now (faults .entry)) (now (out .entry)) r (now (faults .exit)) (now (out .exit))) ⌝ }
+        → Concludes ss (now (faults .entry)) (now (out .entry)) (now (ordered .entry))
+        r (now (faults .exit)) (now (out .exit)) (now (ordered .exit))) ⌝ }
 {
     let mut places = [0u16; DEFINITIONS];
     let mut equated = [0u16; STATEMENTS];
@@ -101,10 +132,16 @@ pub(crate) fn conclude(
         &mut order,
     );
     if plan.number == 6 {
-        return Verdict::Refused(6);
+        return Ordered {
+            verdict: Verdict::Refused(6),
+            statements: 0,
+        };
     }
     if plan.number == 7 {
-        return Verdict::Faulty(7, plan.count);
+        return Ordered {
+            verdict: Verdict::Faulty(7, plan.count),
+            statements: 0,
+        };
     }
     write_program(
         plan,
@@ -116,5 +153,6 @@ pub(crate) fn conclude(
         kinds,
         args,
         out,
+        ordered,
     )
 }

@@ -10,7 +10,7 @@ ghost use Rattle.deck.specs.Next.{cardsAt};
 ghost use Rattle.sheet.specs.Reader.{parsed, tokened, told};
 ghost use Rattle.translator.specs.Working.{Tells, RowRoom, JoinedRoom, CardsRoom, Size, Before};
 ghost use Rattle.translator.specs.Working.{Able, Adds, Room, Read};
-ghost use Rattle.translator.specs.Contract.{Translates};
+ghost use Rattle.translator.specs.Contract.{Translates, TranslatesInOrder};
 
 mod finish;
 mod room;
@@ -30,6 +30,12 @@ pub enum Verdict {
     Refused(u8),
     Faulty(u8, usize),
     Translated(usize),
+}
+
+// A verdict, and for 0 how many statements are ordered.
+pub struct Ordered {
+    pub verdict: Verdict,
+    pub statements: usize,
 }
 
 // What reading one statement gives: the place behind its drafts, or its fault.
@@ -257,32 +263,60 @@ fn read_all(
     }
 }
 
-// ---- the entry
+// ---- the entries
 
-// The verdict on a text: its number, the count, and the fault list or the program written to the front of what is lent.
-// Few bytes or few lines have few statements, which are not counted then.
+// The verdict on a text: its number, the count, and the fault list or the program written to the front of what is lent;
+// and the order of its statements, handed out by their first lines. Few bytes or few lines have few statements, which
+// are not counted then.
+pub fn translate_in_order(
+    text: &[u8],
+    faults: &mut [u8],
+    program: &mut [u8],
+    ordered: &mut [u16],
+) -> Ordered
+    ensures { λ r. ⌜ TranslatesInOrder (now (text .entry)) (now (faults .entry)) (now (program .entry))
+        (now (ordered .entry)) r (now (faults .exit)) (now (program .exit)) (now (ordered .exit)) ⌝ }
+{
+    if faults.len() < FAULT_ROOM {
+        return Ordered {
+            verdict: Verdict::Refused(1),
+            statements: 0,
+        };
+    }
+    if TEXT_BYTES < text.len() {
+        return Ordered {
+            verdict: Verdict::Refused(2),
+            statements: 0,
+        };
+    }
+    if text.len() <= room::SMALL {
+        return room::in_small_room(text, faults, program, ordered);
+    }
+    if deck::line_count(text) <= STATEMENTS {
+        return room::in_large_room(text, faults, program, ordered);
+    }
+    let sizes = deck::survey(text);
+    if TEXT_LINES < sizes.lines {
+        return Ordered {
+            verdict: Verdict::Refused(3),
+            statements: 0,
+        };
+    }
+    if STATEMENTS < sizes.statements {
+        return Ordered {
+            verdict: Verdict::Refused(4),
+            statements: 0,
+        };
+    }
+    room::in_large_room(text, faults, program, ordered)
+}
+
+// The verdict alone: no place is lent for the order.
 pub fn translate(text: &[u8], faults: &mut [u8], program: &mut [u8]) -> Verdict
     ensures { λ r. ⌜ Translates (now (text .entry)) (now (faults .entry)) (now (program .entry)) r
         (now (faults .exit)) (now (program .exit)) ⌝ }
 {
-    if faults.len() < FAULT_ROOM {
-        return Verdict::Refused(1);
-    }
-    if TEXT_BYTES < text.len() {
-        return Verdict::Refused(2);
-    }
-    if text.len() <= room::SMALL {
-        return room::in_small_room(text, faults, program);
-    }
-    if deck::line_count(text) <= STATEMENTS {
-        return room::in_large_room(text, faults, program);
-    }
-    let sizes = deck::survey(text);
-    if TEXT_LINES < sizes.lines {
-        return Verdict::Refused(3);
-    }
-    if STATEMENTS < sizes.statements {
-        return Verdict::Refused(4);
-    }
-    room::in_large_room(text, faults, program)
+    let mut none = [0u16; 0];
+    let r = translate_in_order(text, faults, program, &mut none);
+    r.verdict
 }

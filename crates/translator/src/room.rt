@@ -3,6 +3,7 @@
 ghost use Prim.Native.Nat.{_≤_};
 ghost use lib.ListN.{length};
 ghost use Rattle.translator.specs.Working.{Taken, Room, Decides, small, quarter};
+use super::Ordered;
 use super::Verdict;
 use super::finish::conclude;
 use super::read_all;
@@ -25,11 +26,12 @@ fn decide(
     used: &mut [u16],
     lines: &mut [u16],
     bounds: &mut [u16],
-) -> Verdict
+    ordered: &mut [u16],
+) -> Ordered
     requires { ⌜ (Room (now text) (now faults) (now kinds) (now args) (now lines) (now bounds))
         × (length (now text) ≤ length (now used)) ⌝ }
-    ensures { λ r. ⌜ Decides (now (text .entry)) (now (faults .entry)) (now (program .entry)) r
-        (now (faults .exit)) (now (program .exit)) ⌝ }
+    ensures { λ r. ⌜ Decides (now (text .entry)) (now (faults .entry)) (now (program .entry)) (now (ordered .entry))
+        r (now (faults .exit)) (now (program .exit)) (now (ordered .exit)) ⌝ }
 {
     let n = read_all(
         text,
@@ -40,7 +42,10 @@ fn decide(
         &mut *faults,
     );
     if 0 < n.faults {
-        return Verdict::Faulty(5, n.faults);
+        return Ordered {
+            verdict: Verdict::Faulty(5, n.faults),
+            statements: 0,
+        };
     }
     let s = n.statements;
     let d = n.drafts;
@@ -52,16 +57,22 @@ fn decide(
         used,
         faults,
         program,
+        ordered,
     )
 }
 
 // ---- the rooms
 
 // A text of a few lines.
-pub(crate) fn in_small_room(text: &[u8], faults: &mut [u8], program: &mut [u8]) -> Verdict
+pub(crate) fn in_small_room(
+    text: &[u8],
+    faults: &mut [u8],
+    program: &mut [u8],
+    ordered: &mut [u16],
+) -> Ordered
     requires { ⌜ (Taken (now text) (now faults)) × (length (now text) ≤ small) ⌝ }
-    ensures { λ r. ⌜ Decides (now (text .entry)) (now (faults .entry)) (now (program .entry)) r
-        (now (faults .exit)) (now (program .exit)) ⌝ }
+    ensures { λ r. ⌜ Decides (now (text .entry)) (now (faults .entry)) (now (program .entry)) (now (ordered .entry))
+        r (now (faults .exit)) (now (program .exit)) (now (ordered .exit)) ⌝ }
 {
     let mut kinds = [0u8; SMALL];
     let mut args = [0u64; SMALL];
@@ -77,14 +88,20 @@ pub(crate) fn in_small_room(text: &[u8], faults: &mut [u8], program: &mut [u8]) 
         &mut used,
         &mut lines,
         &mut bounds,
+        ordered,
     )
 }
 
 // A text of some length.
-fn in_quarter_room(text: &[u8], faults: &mut [u8], program: &mut [u8]) -> Verdict
+fn in_quarter_room(
+    text: &[u8],
+    faults: &mut [u8],
+    program: &mut [u8],
+    ordered: &mut [u16],
+) -> Ordered
     requires { ⌜ (Taken (now text) (now faults)) × (length (now text) ≤ quarter) ⌝ }
-    ensures { λ r. ⌜ Decides (now (text .entry)) (now (faults .entry)) (now (program .entry)) r
-        (now (faults .exit)) (now (program .exit)) ⌝ }
+    ensures { λ r. ⌜ Decides (now (text .entry)) (now (faults .entry)) (now (program .entry)) (now (ordered .entry))
+        r (now (faults .exit)) (now (program .exit)) (now (ordered .exit)) ⌝ }
 {
     let mut kinds = [0u8; QUARTER];
     let mut args = [0u64; QUARTER];
@@ -100,14 +117,15 @@ fn in_quarter_room(text: &[u8], faults: &mut [u8], program: &mut [u8]) -> Verdic
         &mut used,
         &mut lines,
         &mut bounds,
+        ordered,
     )
 }
 
 // Any text that is taken.
-fn in_whole_room(text: &[u8], faults: &mut [u8], program: &mut [u8]) -> Verdict
+fn in_whole_room(text: &[u8], faults: &mut [u8], program: &mut [u8], ordered: &mut [u16]) -> Ordered
     requires { ⌜ Taken (now text) (now faults) ⌝ }
-    ensures { λ r. ⌜ Decides (now (text .entry)) (now (faults .entry)) (now (program .entry)) r
-        (now (faults .exit)) (now (program .exit)) ⌝ }
+    ensures { λ r. ⌜ Decides (now (text .entry)) (now (faults .entry)) (now (program .entry)) (now (ordered .entry))
+        r (now (faults .exit)) (now (program .exit)) (now (ordered .exit)) ⌝ }
 {
     let mut kinds = [0u8; TEXT_BYTES];
     let mut args = [0u64; TEXT_BYTES];
@@ -123,18 +141,24 @@ fn in_whole_room(text: &[u8], faults: &mut [u8], program: &mut [u8]) -> Verdict
         &mut used,
         &mut lines,
         &mut bounds,
+        ordered,
     )
 }
 
 // A longer text, in the smaller of two rooms that has a place for each of its bytes. Called from two places, it keeps a
 // frame of its own, so that a small text touches no page of these rooms.
-pub(crate) fn in_large_room(text: &[u8], faults: &mut [u8], program: &mut [u8]) -> Verdict
+pub(crate) fn in_large_room(
+    text: &[u8],
+    faults: &mut [u8],
+    program: &mut [u8],
+    ordered: &mut [u16],
+) -> Ordered
     requires { ⌜ Taken (now text) (now faults) ⌝ }
-    ensures { λ r. ⌜ Decides (now (text .entry)) (now (faults .entry)) (now (program .entry)) r
-        (now (faults .exit)) (now (program .exit)) ⌝ }
+    ensures { λ r. ⌜ Decides (now (text .entry)) (now (faults .entry)) (now (program .entry)) (now (ordered .entry))
+        r (now (faults .exit)) (now (program .exit)) (now (ordered .exit)) ⌝ }
 {
     if text.len() <= QUARTER {
-        return in_quarter_room(text, faults, program);
+        return in_quarter_room(text, faults, program, ordered);
     }
-    in_whole_room(text, faults, program)
+    in_whole_room(text, faults, program, ordered)
 }

@@ -15,24 +15,25 @@ abbrev first : tie.Start → List ℕ
 first s = head (s .args .a) (s .args .b) (s .args .n)
 
 abbrev others : tie.Start → List ℕ
-others s = gather (detailAt (s .args .ordered) (s .args .from .now)) (s .args .count) 0
+others s = gather (detailAt (s .args .ok) (s .args .ordered .now) (s .args .list .now)) (s .args .count) 0
 
-reach : (k : tie.After-shared-slice-known) → InReach (first (k .before) ++ others (k .before)) 0
+reach : (k : tie.After-shared-slice-known2) → InReach (first (k .before .before) ++ others (k .before .before)) 0
 reach k =
-    let a = k .before .args in
-    listing-reach (a .ordered) (a .a) (a .b) (a .n) (a .count) (a .from .now) (k .before .pre .0) (k .before .pre .1)
-    (λ i. omega (arith, k .shared-slice-known .given i))
+    let s = k .before .before in
+    let a = s .args in
+    listing-reach (a .ok) (a .a) (a .b) (a .n) (a .count) (a .ordered .now) (a .list .now) (s .pre .0) (s .pre .1)
+    (λ i. omega (arith, k .before .shared-slice-known .given i)) (λ i. omega (arith, k .shared-slice-known2 .given i))
 
 put-head-requires : tie.Need-put-head-requires
 put-head-requires c κs =
     let k = c .before .before in
-    reach-first (first (k .before)) (others (k .before)) 0 (reach k)
+    reach-first (first (k .before .before)) (others (k .before .before)) 0 (reach k)
 
 put-details-requires : tie.Need-put-details-requires
 put-details-requires c κs =
     let h = c .before .before .before in
     let k = h .before .before .before in
-    (k .before .pre .1, reach-second (h .put-head .ensures) (others (k .before)) (reach k))
+    (k .before .before .pre .1, reach-second (h .put-head .ensures) (others (k .before .before)) (reach k))
 
 returns : tie.Need-returns
 returns c =

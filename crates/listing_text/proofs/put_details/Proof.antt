@@ -10,10 +10,10 @@ use Rattle.listing_text.proofs.put_details.Statement.{statement}
 use Rattle.listing_text.proofs.put_details.Tie as tie
 
 abbrev Inv-loop : tie.InvT-loop
-Inv-loop ordered from count out₀ at w₀ i₀ out w i = Writes (detailAt ordered from) count 0 i at w out₀ out
+Inv-loop ok ordered list count out₀ at w₀ i₀ out w i = Writes (detailAt ok ordered list) count 0 i at w out₀ out
 
 abbrev μ-loop : tie.MeasureT-loop
-μ-loop ordered from count out₀ at w₀ i₀ out w i = count - i
+μ-loop ok ordered list count out₀ at w₀ i₀ out w i = count - i
 
 loop-holds : tie.Need-loop-holds Inv-loop μ-loop
 loop-holds c = writes-first _ _ _ _ _
@@ -21,7 +21,7 @@ loop-holds c = writes-first _ _ _ _ _
 put-detail-requires : tie.Need-put-detail-requires Inv-loop μ-loop
 put-detail-requires c κs =
     let t = c .before in
-    let s = t .before .before .before .before in
+    let s = t .before .before .before .before .before in
     (omega (arith, t .loop-test .taken, s .pre .0), reach-turn (t .before .loop .inv) (t .loop-test .taken) (s .pre .1))
 
 loop-again : tie.Need-loop-again Inv-loop μ-loop

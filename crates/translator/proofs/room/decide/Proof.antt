@@ -10,7 +10,8 @@ use Rattle.translator.proofs.room.decide.Tie as tie
 -- where the function begins, and where all is read
 abbrev start : tie.After-read-all → tie.Start
 start r =
-    r .before .before .before .before .before .before .before .before .before .before .before .before .before .before
+    let a = r .before .before .before .before .before .before .before .before in
+    a .before .before .before .before .before .before .before
 
 abbrev read : tie.Else1 → tie.After-read-all
 read e = e .before .before .before .before .before .before .before .before .before .before .before .before
@@ -18,7 +19,8 @@ read e = e .before .before .before .before .before .before .before .before .befo
 returns : tie.Need-returns
 returns c =
     let r = c .before .before .before .before .before .before .before .before .before .before .before .before in
-    says-five (start r .pre .0) (r .read-all .ensures) (start r .args .program .now) (c .if1 .taken)
+    says-five (start r .pre .0) (r .read-all .ensures) (start r .args .program .now)
+    (start r .args .ordered .now) (c .if1 .taken)
 
 slice-reshare-prefix-conclude : tie.Need-slice-reshare-prefix-conclude
 slice-reshare-prefix-conclude c = let r = read c in lines-enough (start r .pre .0) (r .read-all .ensures)
@@ -62,18 +64,18 @@ slice-aggregate-conclude-4 c =
 
 conclude-requires : tie.Need-conclude-requires
 conclude-requires c κs =
-    let r = read (c .before .before .before .before .before .before .before) in
+    let r = read (c .before .before .before .before .before .before .before .before) in
     ready-so (start r .pre .0) (r .read-all .ensures) (start r .pre .1)
 
 returns-2 : tie.Need-returns-2
 returns-2 c =
-    let done = c .before .before .before .before .before .before .before .before in
-    let clean = done .before .before .before .before .before .before .before .before in
+    let done = c .before .before .before .before .before .before .before .before .before .before in
+    let clean = done .before .before .before .before .before .before .before .before .before in
     let r = read clean in
     let room = start r .pre .0 in
     let all = r .read-all .ensures in
     says-model room all (clean .if1 .left) (done .conclude .result) (start r .args .program .now)
-    (done .conclude .ensures _ (bounds-laid room all))
+    (start r .args .ordered .now) (done .conclude .ensures _ (bounds-laid room all))
 
 pub decide-spec : {M : Type 1} → statement M
 decide-spec =
@@ -96,6 +98,7 @@ decide-spec =
     slice-relend-prefix-conclude
     slice-aggregate-conclude-4
     conclude-requires
+    (λ c. search needs)
     (λ c. search needs)
     (λ c. search needs)
     (λ c. search needs)

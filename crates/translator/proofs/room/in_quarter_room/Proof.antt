@@ -7,7 +7,7 @@ use Rattle.translator.proofs.room.in_quarter_room.Tie as tie
 
 decide-requires : tie.Need-decide-requires
 decide-requires c κs =
-    let start = c .before .before .before .before .before .before .before .before .before .before in
+    let start = c .before .before .before .before .before .before .before .before .before .before .before .before in
     (room-of quarter (start .pre .0) (start .pre .1), start .pre .1)
 
 pub in-quarter-room-spec : {M : Type 1} → statement M
@@ -20,6 +20,7 @@ in-quarter-room-spec =
     (λ c. search needs)
     (λ c. search needs)
     decide-requires
+    (λ c. search needs)
     (λ c. search needs)
     (λ c. search needs)
     (λ c. search needs))

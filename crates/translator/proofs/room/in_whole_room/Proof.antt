@@ -7,7 +7,7 @@ use Rattle.translator.proofs.room.in_whole_room.Tie as tie
 
 decide-requires : tie.Need-decide-requires
 decide-requires c κs =
-    let start = c .before .before .before .before .before .before .before .before .before .before in
+    let start = c .before .before .before .before .before .before .before .before .before .before .before .before in
     (room-of textBytes (start .pre) (start .pre .brief), start .pre .brief)
 
 pub in-whole-room-spec : {M : Type 1} → statement M
@@ -20,6 +20,7 @@ in-whole-room-spec =
     (λ c. search needs)
     (λ c. search needs)
     decide-requires
+    (λ c. search needs)
     (λ c. search needs)
     (λ c. search needs)
     (λ c. search needs))

@@ -1,0 +1,26 @@
+-- A place for each byte of a text of a few lines.
+use borrow.Author.Needs.{needs}
+use Rattle.translator.specs.Working.{small}
+use Rattle.translator.proofs.Rooms.{room-of}
+use Rattle.translator.proofs.room.in_small_room.Statement.{statement}
+use Rattle.translator.proofs.room.in_small_room.Tie as tie
+
+decide-requires : tie.Need-decide-requires
+decide-requires c κs =
+    let start = c .before .before .before .before .before .before .before .before .before .before .before .before in
+    (room-of small (start .pre .0) (start .pre .1), start .pre .1)
+
+pub in-small-room-spec : {M : Type 1} → statement M
+in-small-room-spec =
+    tie.close
+    (tie.spec
+    (λ c. search needs)
+    (λ c. search needs)
+    (λ c. search needs)
+    (λ c. search needs)
+    (λ c. search needs)
+    decide-requires
+    (λ c. search needs)
+    (λ c. search needs)
+    (λ c. search needs)
+    (λ c. search needs))
