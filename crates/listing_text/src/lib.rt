@@ -172,30 +172,21 @@ fn put_all(
     put_details(ok, ordered, list, count, out, at)
 }
 
-// Writes the listing of a verdict, with the faults or the order that it left.
+// Writes the listing of a verdict, with the faults or so many lines of the order that it left.
 fn put_listing(
     number: u8,
     count: usize,
-    statements: usize,
+    lines: usize,
     faults: &[u8],
     ordered: &[u16],
     out: &mut [u8],
 ) -> usize
-    requires { ⌜ (count ≤ mostRecords) × (statements ≤ mostRecords) ⌝ }
-    ensures { λ r. ⌜ Put (written number count statements (now (faults .entry)) (now (ordered .entry))) 0 r
+    requires { ⌜ (count ≤ mostRecords) × (lines ≤ mostRecords) ⌝ }
+    ensures { λ r. ⌜ Put (written number count lines (now (faults .entry)) (now (ordered .entry))) 0 r
         (now (out .entry)) (now (out .exit)) ⌝ }
 {
     if number == 0 {
-        return put_all(
-            b'O',
-            b'K',
-            count as u64,
-            true,
-            ordered,
-            faults,
-            statements,
-            out,
-        );
+        return put_all(b'O', b'K', count as u64, true, ordered, faults, lines, out);
     }
     put_all(
         b'N',
