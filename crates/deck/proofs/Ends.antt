@@ -12,7 +12,7 @@ use lib.ListN.{length, getD, take, drop, drop-of-length-le, length-drop}
 use lib.Seq.{drop-cons, drop-drop, length-take-le}
 use Rattle.laws.specs.Counts.{once}
 use Rattle.deck.specs.Lines.{Line, cut, linesOf}
-use Rattle.deck.specs.Next.{width, Passes}
+use Rattle.deck.specs.Next.{width, SameEnd}
 use Rattle.deck.specs.Survey.{endsOf}
 
 -- ---- counted one by one, and part by part
@@ -184,17 +184,17 @@ width-clear (suc k) (b ∷ t) h e = go (eqb b 10) e (width-clear k t (omega arit
     go true e w = absurd (omega arith)
     go false e w = let z = w (omega arith) in omega arith
 
-pub passes-first : (t : List ℕ) (at : ℕ) → at ≤ length t → Passes t at at
+pub passes-first : (t : List ℕ) (at : ℕ) → at ≤ length t → SameEnd t at at
 passes-first t at h = record { from = omega arith; upto = h; same = refl }
 
 -- from one place to another, and on from there
-pub passes-both : {t : List ℕ} {at i j : ℕ} → Passes t at i → Passes t i j → Passes t at j
+pub passes-both : {t : List ℕ} {at i j : ℕ} → SameEnd t at i → SameEnd t i j → SameEnd t at j
 passes-both w v =
     record { from = omega (arith, w .from, v .from); upto = v .upto; same = omega (arith, w .same, v .same) }
 
-pub passes-on : {t : List ℕ} {at i : ℕ} (k : ℕ) → Passes t at i → i + k ≤ length t
+pub passes-on : {t : List ℕ} {at i : ℕ} (k : ℕ) → SameEnd t at i → i + k ≤ length t
     → ltb 0 (endsOf (take (i + k - i) (drop i t))) ≡ false
-    → Passes t at (i + k)
+    → SameEnd t at (i + k)
 passes-on {t} {at} {i} k w h q =
     let y : i + k - i ≡ k = omega arith in
     let e : endsOf (take k (drop i t)) ≡ 0 = omega (arith, ltb-false 0 (endsOf (take k (drop i t))) (rw y at q)) in

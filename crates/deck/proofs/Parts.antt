@@ -11,7 +11,7 @@ use borrow.Author.Tests.{leb-true, ltb-false}
 use Rattle.limits.specs.Limits.{mostCards, cardBytes}
 use Rattle.laws.proofs.Tests.{cond-ind, and-true, not-both}
 use Rattle.deck.specs.Lines.{Line, kept, trimmed, dotsAt, dotted}
-use Rattle.deck.specs.Joined.{partOf, joined}
+use Rattle.deck.specs.Joined.{linePart, joined}
 use Rattle.deck.specs.Faults.{none, flaw, at-start, anyLong, sizeFlaw}
 use Rattle.deck.specs.Codes.{sizeCode, flawOf, spaced, joinedRoom}
 
@@ -39,37 +39,37 @@ module _ (l : Line) where
   front n h = let e = length-take-le n l h in (omega arith, ap (λ (k : ℕ). take k l) e)
 
   -- so is its part
-  part : (length (partOf l) ≤ length l) × (take (length (partOf l)) l ≡ partOf l)
-  unfolding partOf
+  part : (length (linePart l) ≤ length l) × (take (length (linePart l)) l ≡ linePart l)
+  unfolding linePart
   part =
       cond-ind (λ (p : List ℕ). (length p ≤ length l) × (take (length p) l ≡ p)) (dotted l) _ _
       (λ _. front (trimmed l - 3) (omega (arith, trimmed-le l))) (λ _. (omega arith, take-length l))
 
   -- a part is no longer than its line
-  pub part-le : length (partOf l) ≤ length l
+  pub part-le : length (linePart l) ≤ length l
   part-le = part .0
 
   -- the line's front of the part's length is the part
-  pub part-take : take (length (partOf l)) l ≡ partOf l
+  pub part-take : take (length (linePart l)) l ≡ linePart l
   part-take = part .1
 
   -- with dots it ends in front of them
-  pub part-dotted : dotted l ≡ true → length (partOf l) ≡ trimmed l - 3
-  unfolding partOf
+  pub part-dotted : dotted l ≡ true → length (linePart l) ≡ trimmed l - 3
+  unfolding linePart
   part-dotted d = rw d (length-take-le (trimmed l - 3) l (omega (arith, trimmed-le l)))
 
   -- without dots it is the line
-  pub part-plain : dotted l ≡ false → length (partOf l) ≡ length l
-  unfolding partOf
+  pub part-plain : dotted l ≡ false → length (linePart l) ≡ length l
+  unfolding linePart
   part-plain d = rw d
 
 -- ---- the joined text
 
 -- it is its first part, and the others each behind a space
-pub joined-cons : (l : Line) (ls : List Line) → joined (l ∷ ls) ≡ partOf l ++ spaced ls
+pub joined-cons : (l : Line) (ls : List Line) → joined (l ∷ ls) ≡ linePart l ++ spaced ls
 unfolding joined spaced
-joined-cons l [] = sym (append-nil (partOf l))
-joined-cons l (m ∷ ls) = ap (λ (x : List ℕ). partOf l ++ (32 ∷ x)) (joined-cons m ls)
+joined-cons l [] = sym (append-nil (linePart l))
+joined-cons l (m ∷ ls) = ap (λ (x : List ℕ). linePart l ++ (32 ∷ x)) (joined-cons m ls)
 
 -- no line is long: the first is not, and none of the others is
 any-first : (l : Line) (ls : List Line) → anyLong (l ∷ ls) ≡ false → (length l ≤ cardBytes) × (anyLong ls ≡ false)

@@ -7,7 +7,7 @@ use lib.ListN.{length, take, length-append}
 use lib.Seq.{sets, length-sets}
 use Rattle.laws.proofs.Sets.{sets-append}
 use Rattle.deck.specs.Lines.{Line}
-use Rattle.deck.specs.Joined.{partOf, joined}
+use Rattle.deck.specs.Joined.{linePart, joined}
 use Rattle.deck.specs.Next.{cardsAt}
 use Rattle.deck.specs.Codes.{spaced}
 use Rattle.deck.proofs.Cutting.{lineOf, LineAt, lines-end}
@@ -48,20 +48,20 @@ module _ (t : List ℕ) (start cards to : ℕ) (old : List ℕ) where
   module _ (now : List ℕ) (at left w : ℕ) (j : Joining t start cards to old now at left w) where
     -- a space and the line's part are written
     pub joining-next : (e : ℕ) (new : List ℕ) (r : ℕ) → 0 < left → LineAt t at e
-        → r ≡ w + 1 + length (partOf (lineOf t at e))
-        → new ≡ sets now w (32 ∷ partOf (lineOf t at e)) → Joining t start cards to old new (e + 1) (left - 1) r
+        → r ≡ w + 1 + length (linePart (lineOf t at e))
+        → new ≡ sets now w (32 ∷ linePart (lineOf t at e)) → Joining t start cards to old new (e + 1) (left - 1) r
     unfolding spaced
     joining-next e new r z l p q =
         let line = lineOf t at e in
         let rest = spaced (cardsAt t (e + 1) (left - 1)) in
-        let all : spaced (cardsAt t at left) ≡ 32 ∷ (partOf line ++ rest) = ap spaced (cards-cons t at left e z l) in
-        let n : length (partOf line ++ rest) ≡ length (partOf line) + length rest = length-append (partOf line) rest in
-        let m : r ≡ w + length (32 ∷ partOf line) = omega arith in
+        let all : spaced (cardsAt t at left) ≡ 32 ∷ (linePart line ++ rest) = ap spaced (cards-cons t at left e z l) in
+        let n : length (linePart line ++ rest) ≡ length (linePart line) + length rest = length-append (linePart line) rest in
+        let m : r ≡ w + length (32 ∷ linePart line) = omega arith in
         record {
           before = omega (arith, j .before, l .from, l .long, part-le line);
-          long = ap length q ∙ length-sets now w (32 ∷ partOf line) ∙ j .long;
+          long = ap length q ∙ length-sets now w (32 ∷ linePart line) ∙ j .long;
           count = omega (arith, j .count, ap length all);
-          same = rw (q, m) (sym (sets-append now w (32 ∷ partOf line) rest) ∙ rw (← all) (j .same));
+          same = rw (q, m) (sym (sets-append now w (32 ∷ linePart line) rest) ∙ rw (← all) (j .same));
         }
 
     -- no line is left
@@ -82,12 +82,12 @@ module _ (t : List ℕ) (start cards : ℕ) (old : List ℕ) where
 
   -- the first part is written up to place n, and the others behind it
   pub join-all : (e : ℕ) (mid new : List ℕ) (n r : ℕ) → 0 < cards → LineAt t start e
-      → n ≡ 0 + length (partOf (lineOf t start e)) → mid ≡ sets old 0 (partOf (lineOf t start e))
+      → n ≡ 0 + length (linePart (lineOf t start e)) → mid ≡ sets old 0 (linePart (lineOf t start e))
       → r ≡ n + length (spaced (cardsAt t (e + 1) (cards - 1)))
       → new ≡ sets mid n (spaced (cardsAt t (e + 1) (cards - 1)))
       → (r ≡ length (joined (cardsAt t start cards))) × (new ≡ sets old 0 (joined (cardsAt t start cards)))
   join-all e mid new n r z l m p q w =
-      let part = partOf (lineOf t start e) in
+      let part = linePart (lineOf t start e) in
       let rest = spaced (cardsAt t (e + 1) (cards - 1)) in
       let all : joined (cardsAt t start cards) ≡ part ++ rest =
       ap joined (cards-cons t start cards e z l) ∙ joined-cons (lineOf t start e) _ in

@@ -6,7 +6,7 @@ use mathlib.Core.List.{List, [], _∷_, _++_}
 use lib.Dec.{eqb, ltb}
 use Rattle.limits.specs.Limits.{mostCards, cardBytes}
 use Rattle.deck.specs.Lines.{Line}
-use Rattle.deck.specs.Joined.{partOf}
+use Rattle.deck.specs.Joined.{linePart}
 use Rattle.deck.specs.Faults.{at-start, at-end, Flaw, none, flaw}
 
 -- the code, or 0: by the count of lines, whether the statement is closed, and whether a line has more than cardBytes
@@ -21,7 +21,7 @@ flawOf closed code = cond (eqb code 0) none (flaw code (cond closed at-start at-
 -- the parts of the lines behind a statement's first, each behind a space
 unfoldable pub spaced : List Line → List ℕ
 spaced [] = []
-spaced (l ∷ ls) = 32 ∷ (partOf l ++ spaced ls)
+spaced (l ∷ ls) = 32 ∷ (linePart l ++ spaced ls)
 
 -- the most bytes of a joined text without such a fault: mostCards parts of cardBytes bytes, with a space between each
 -- two

@@ -6,10 +6,10 @@ use lib.ListN.{take}
 use Rattle.deck.specs.Lines.{Line, dotted, trimmed}
 
 -- a line's part: without the closing dots, and the spaces behind them
-unfoldable pub partOf : Line → List ℕ
-partOf l = cond (dotted l) (take (trimmed l - 3) l) l
+unfoldable pub linePart : Line → List ℕ
+linePart l = cond (dotted l) (take (trimmed l - 3) l) l
 
 unfoldable pub joined : List Line → List ℕ
 joined [] = []
-joined (l ∷ []) = partOf l
-joined (l ∷ m ∷ ls) = partOf l ++ (32 ∷ joined (m ∷ ls))
+joined (l ∷ []) = linePart l
+joined (l ∷ m ∷ ls) = linePart l ++ (32 ∷ joined (m ∷ ls))

@@ -19,7 +19,7 @@ width [] = 0
 width (b ∷ t) = cond (eqb b 10) 0 (suc (width t))
 
 -- between two places of a text no byte 10 stands: from both it is the same line's end
-pub record Passes (t : List ℕ) (at i : ℕ) : Type 0 where
+pub record SameEnd (t : List ℕ) (at i : ℕ) : Type 0 where
   pub from : at ≤ i
   pub upto : i ≤ length t
   pub same : i + width (drop i t) ≡ at + width (drop at t)

@@ -20,10 +20,10 @@ abbrev pub sizesOf : List ℕ → Sizes
 sizesOf t = record { lines = length (linesOf t); statements = length (reading fresh 1 (linesOf t)) }
 
 -- how many statements begin in the lines, where one continues or none does
-unfoldable pub begun : Bool → List Line → ℕ
-begun more [] = 0
-begun true (l ∷ ls) = begun (dotted l) ls
-begun false (l ∷ ls) = cond (passed l) (begun false ls) (suc (begun (dotted l) ls))
+unfoldable pub countBegun : Bool → List Line → ℕ
+countBegun more [] = 0
+countBegun true (l ∷ ls) = countBegun (dotted l) ls
+countBegun false (l ∷ ls) = cond (passed l) (countBegun false ls) (suc (countBegun (dotted l) ls))
 
 -- the sizes so far with one line more
 abbrev pub withLine : SizesSoFar → Line → SizesSoFar

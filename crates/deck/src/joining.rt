@@ -8,13 +8,13 @@ ghost use mathlib.Core.List.{_∷_};
 ghost use Prim.Native.Nat.{_+_, _<_, _^_};
 ghost use lib.ListN.{length};
 ghost use lib.Seq.{sets};
-ghost use Rattle.deck.specs.Joined.{partOf};
+ghost use Rattle.deck.specs.Joined.{linePart};
 ghost use Rattle.deck.specs.Next.{cardsAt};
 ghost use Rattle.deck.specs.Codes.{spaced};
 
 // The length of a line's part.
 fn part_len(line: &[u8]) -> usize
-    ensures { λ r. ⌜ r ≡ length (partOf (now (line .entry))) ⌝ }
+    ensures { λ r. ⌜ r ≡ length (linePart (now (line .entry))) ⌝ }
 {
     let n = trim(line);
     if dots_at(line, n) {
@@ -38,8 +38,8 @@ fn copy(from: &[u8], out: &mut [u8], at: usize)
 // Writes a line's part from a place on; the place behind it.
 pub fn put_part(line: &[u8], out: &mut [u8], at: usize) -> usize
     requires { ⌜ at + length (now line) < 2 ^ 64 ⌝ }
-    ensures value { λ r. ⌜ r ≡ at + length (partOf (now (line .entry))) ⌝ }
-    ensures written { λ _. ⌜ now (out .exit) ≡ sets (now (out .entry)) at (partOf (now (line .entry))) ⌝ }
+    ensures value { λ r. ⌜ r ≡ at + length (linePart (now (line .entry))) ⌝ }
+    ensures written { λ _. ⌜ now (out .exit) ≡ sets (now (out .entry)) at (linePart (now (line .entry))) ⌝ }
 {
     let n = part_len(line);
     copy(&line[..n], &mut *out, at);
@@ -49,8 +49,8 @@ pub fn put_part(line: &[u8], out: &mut [u8], at: usize) -> usize
 // Writes a space and a line's part from a place on; the place behind them.
 fn put_spaced(line: &[u8], out: &mut [u8], at: usize) -> usize
     requires { ⌜ at + 1 + length (now line) < 2 ^ 64 ⌝ }
-    ensures value { λ r. ⌜ r ≡ at + 1 + length (partOf (now (line .entry))) ⌝ }
-    ensures written { λ _. ⌜ now (out .exit) ≡ sets (now (out .entry)) at (32 ∷ partOf (now (line .entry))) ⌝ }
+    ensures value { λ r. ⌜ r ≡ at + 1 + length (linePart (now (line .entry))) ⌝ }
+    ensures written { λ _. ⌜ now (out .exit) ≡ sets (now (out .entry)) at (32 ∷ linePart (now (line .entry))) ⌝ }
 {
     copy(b" ", &mut *out, at);
     put_part(line, out, at + 1)

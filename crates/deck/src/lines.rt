@@ -4,7 +4,7 @@ ghost use Prim.Native.Nat.{_+_, _<_, _≤_};
 ghost use lib.Dec.{ltb};
 ghost use lib.ListN.{length, drop};
 ghost use Rattle.deck.specs.Lines.{trimmed, dotsAt, dotted, passed};
-ghost use Rattle.deck.specs.Next.{width, Passes};
+ghost use Rattle.deck.specs.Next.{width, SameEnd};
 ghost use Rattle.deck.specs.Survey.{endsOf};
 
 // How many bytes are searched at once for a byte 10, at first and then.
@@ -28,7 +28,7 @@ fn has_end(part: &[u8]) -> bool
 // A place before which no byte 10 stands, from a place on: so many bytes are passed at once.
 fn pass(text: &[u8], at: usize, stride: usize) -> usize
     requires { ⌜ (at ≤ length (now text)) × (0 < stride) ⌝ }
-    ensures { λ r. ⌜ Passes (now (text .entry)) at r ⌝ }
+    ensures { λ r. ⌜ SameEnd (now (text .entry)) at r ⌝ }
 {
     let mut i = at;
     while stride <= text.len() - i {

@@ -14,7 +14,7 @@ use Rattle.evaluator.specs.Judge.{phaseOf}
 use Rattle.evaluator.specs.Machine.{Machine, step, run}
 use Rattle.evaluator.specs.Evaluate.{ran}
 use Rattle.evaluator.specs.Sound.{Sound, Granted}
-use Rattle.evaluator.specs.Stack.{down, machine, emptied, Ready, Steps, Ran}
+use Rattle.evaluator.specs.Stack.{down, machine, emptied, FindsRoom, OneStep, Ran}
 use Rattle.evaluator.specs.declared.stack.Stack.{Stack}
 use Rattle.evaluator.proofs.AcceptedSound.{sound-next}
 
@@ -49,7 +49,7 @@ first {p} {v} {d} s e h =
 module _ {p : List ℕ} {v₀ d₀ v d l : List Float} {n i : ℕ} (a : Running p v₀ d₀ v d l n i) where
   module _ {x : Instr} (h : i < length p / recordBytes) (e : x ≡ readAt p i) where
     -- what the next instruction asks
-    pub ready : Granted p v₀ d₀ → Ready x l n v d
+    pub ready : Granted p v₀ d₀ → FindsRoom x l n v d
     ready g =
         let f = sound-next (a .sound) h e .fits in
         record {
@@ -63,7 +63,7 @@ module _ {p : List ℕ} {v₀ d₀ v d l : List Float} {n i : ℕ} (a : Running 
         }
 
     -- after it
-    pub next : {v′ d′ l′ : List Float} {r : ℕ} → Steps x l n v d l′ r v′ d′ → length v′ ≡ length v
+    pub next : {v′ d′ l′ : List Float} {r : ℕ} → OneStep x l n v d l′ r v′ d′ → length v′ ≡ length v
         → length d′ ≡ length d → Running p v₀ d₀ v′ d′ l′ r (i + 1)
     unfolding run
     next {v′} {d′} {l′} {r} s lv ld =

@@ -21,7 +21,7 @@ use Rattle.records.specs.Decode.{readAt}
 use Rattle.records.specs.Record.{decodeAt, decoded}
 use Rattle.records.proofs.LeftRecords.{left, left-all, left-next, left-none}
 use Rattle.evaluator.specs.Judge.{ruleOf, takes, gives, phaseOf}
-use Rattle.evaluator.specs.Evaluate.{initially, eachState}
+use Rattle.evaluator.specs.Evaluate.{ifInitial, eachState}
 use Rattle.evaluator.specs.Sound.{Sound}
 use Rattle.evaluator.specs.State.{Passes}
 use Rattle.evaluator.proofs.AcceptedSound.{sound-next}
@@ -52,7 +52,7 @@ later-phase (StoreAgain s) h = refl
 later-phase Bad h = refl
 
 -- so it has no initial value
-late-shape : (f : ℕ → Float → List Float) (v : List Float) (s : Shape) → 2 < ruleOf s .phase → v ≡ initially f v s
+late-shape : (f : ℕ → Float → List Float) (v : List Float) (s : Shape) → 2 < ruleOf s .phase → v ≡ ifInitial f v s
 late-shape f v (constant s x) h = refl
 late-shape f v (initial s x) h = absurd (omega arith)
 late-shape f v (push p) h = refl
@@ -115,7 +115,7 @@ module _ {f : List Float → ℕ → Float → List Float} {p : List ℕ} {v₀ 
         unfolding eachState
         next l =
             let n = sound-next (a .sound) h e in
-            let q : w ≡ initially (f v) v (shapeOf (decodeAt p (i * recordBytes))) = rw (n .is) at (b .same) in
+            let q : w ≡ ifInitial (f v) v (shapeOf (decodeAt p (i * recordBytes))) = rw (n .is) at (b .same) in
             record {
               here = omega arith;
               wide = l ∙ a .wide;
@@ -132,7 +132,7 @@ module _ {f : List Float → ℕ → Float → List Float} {p : List ℕ} {v₀ 
             let n = sound-next (a .sound) h e in
             let xs = left p (i + 1) in
             let l = leb-false (phaseOf x) 2 (sym (b .early) ∙ not-true _ z) in
-            let q : w ≡ initially (f v) v (shapeOf (decodeAt p (i * recordBytes))) = rw (n .is) at (b .same) in
+            let q : w ≡ ifInitial (f v) v (shapeOf (decodeAt p (i * recordBytes))) = rw (n .is) at (b .same) in
             late f (phaseOf x) (a .height - takes x + gives x) w xs l (n .sound)
             ∙ ap (λ (u : List Float). eachState f u xs) q
             ∙ sym (a .same ∙ rw (left-next p i h))

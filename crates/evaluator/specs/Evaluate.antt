@@ -49,20 +49,20 @@ evaluated p v d =
 -- ---- what is done for each state
 
 -- what f gives for a slot and its initial value, or a for a record of another shape
-abbrev pub initially : {A : Type 0} → (ℕ → Float → A) → A → Shape → A
-initially f a (constant s x) = a
-initially f a (initial s x) = f s x
-initially f a (push p) = a
-initially f a (fold o) = a
-initially f a (store s) = a
-initially f a (derivative s) = a
-initially f a (store-again s) = a
-initially f a bad = a
+abbrev pub ifInitial : {A : Type 0} → (ℕ → Float → A) → A → Shape → A
+ifInitial f a (constant s x) = a
+ifInitial f a (initial s x) = f s x
+ifInitial f a (push p) = a
+ifInitial f a (fold o) = a
+ifInitial f a (store s) = a
+ifInitial f a (derivative s) = a
+ifInitial f a (store-again s) = a
+ifInitial f a bad = a
 
 -- the values after f for the slot and the initial value of each state, one after the other
 unfoldable pub eachState : (List Float → ℕ → Float → List Float) → List Float → List Instr → List Float
 eachState f v [] = v
-eachState f v (x ∷ xs) = eachState f (initially (f v) v (shapeOf x)) xs
+eachState f v (x ∷ xs) = eachState f (ifInitial (f v) v (shapeOf x)) xs
 
 -- ---- starting: writes 0 to slot 0 and initial values to state slots
 

@@ -46,7 +46,7 @@ pub record Yields (k : ℕ) (l : List Float) (n : ℕ) (x : Float) (l′ : List 
   pub full : length l′ ≡ stackPlaces
 
 -- an instruction finds its slot, what it takes and room for what it gives
-pub record Ready (x : Instr) (l : List Float) (n : ℕ) (v d : List Float) : Type 0 where
+pub record FindsRoom (x : Instr) (l : List Float) (n : ℕ) (v d : List Float) : Type 0 where
   pub slot : operandOf x < slots
   pub low : takes x ≤ n
   pub high : n - takes x + gives x ≤ stackPlaces
@@ -56,7 +56,7 @@ pub record Ready (x : Instr) (l : List Float) (n : ℕ) (v d : List Float) : Typ
   pub derivs : slots ≤ length d
 
 -- it made one step of the machine
-pub record Steps (x : Instr) (l : List Float) (n : ℕ) (v d : List Float) (l′ : List Float) (r : ℕ) (v′ d′ : List Float)
+pub record OneStep (x : Instr) (l : List Float) (n : ℕ) (v d : List Float) (l′ : List Float) (r : ℕ) (v′ d′ : List Float)
     : Type 0 where
   pub same : machine l′ r v′ d′ ≡ step (machine l n v d) x
   pub count : r ≡ n - takes x + gives x

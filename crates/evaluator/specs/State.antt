@@ -12,7 +12,7 @@ use Rattle.laws.specs.Counts.{count}
 use Rattle.records.specs.declared.Instr.{Instr}
 use Rattle.records.specs.Shape.{shapeOf}
 use Rattle.evaluator.specs.Judge.{Rule, phaseOf, Judge, goodBy, judgedBy}
-use Rattle.evaluator.specs.Evaluate.{initially}
+use Rattle.evaluator.specs.Evaluate.{ifInitial}
 use Rattle.evaluator.specs.declared.judge.State.{State}
 
 -- after a good record: the phase reached, the count of values, the count of derivatives owed
@@ -51,5 +51,5 @@ pub record Judges (t : State) (l : List ℕ) (q : Rule) (r : State) (k : List �
 -- one record of a pass, from the values v to w: r says whether the next can have an initial value
 pub record Passes (f : List Float → ℕ → Float → List Float) (v : List Float) (x : Instr) (w : List Float) (r : Bool) :
     Type 0 where
-  pub same : w ≡ initially (f v) v (shapeOf x)
+  pub same : w ≡ ifInitial (f v) v (shapeOf x)
   pub early : r ≡ leb (phaseOf x) 2

@@ -11,7 +11,7 @@ ghost use mathlib.Core.Path.{_≡_};
 ghost use Rattle.records.specs.Shape.{inswOf, limitOf, comparOf};
 ghost use Rattle.evaluator.specs.Evaluate.{ran};
 ghost use Rattle.evaluator.specs.Sound.{Granted};
-ghost use Rattle.evaluator.specs.Stack.{machine, emptied, Ready, Steps, Ran};
+ghost use Rattle.evaluator.specs.Stack.{machine, emptied, FindsRoom, OneStep, Ran};
 
 // INSW(P,A,B): A if P < 0, else B.
 fn insw(p: f64, a: f64, b: f64) -> f64
@@ -48,8 +48,8 @@ fn run_step(
     derivs: &mut [f64],
     ins: Instr,
 ) -> usize
-    requires { ⌜ Ready ins (now s) n (now values) (now derivs) ⌝ }
-    ensures { λ r. ⌜ Steps ins (now (s .entry)) n (now (values .entry)) (now (derivs .entry)) (now (s .exit)) r
+    requires { ⌜ FindsRoom ins (now s) n (now values) (now derivs) ⌝ }
+    ensures { λ r. ⌜ OneStep ins (now (s .entry)) n (now (values .entry)) (now (derivs .entry)) (now (s .exit)) r
         (now (values .exit)) (now (derivs .exit)) ⌝ }
 {
     match ins {

@@ -19,7 +19,7 @@ use Rattle.grammar.specs.Grammar.{more}
 use Rattle.grammar.specs.Grammar.{Initially, of-number, of-name, Derives, of-constants, of-assignment, of-state}
 use Rattle.grammar.specs.Parser.{End, got, bad, Res, onward, bind, byIntegral, signedNumber, many, initially}
 use Rattle.grammar.specs.Parser.{parse, calls}
-use Rattle.grammar.specs.Parser.{assigned, integrated, statement, ended, entire, read, answer, readRow}
+use Rattle.grammar.specs.Parser.{assigned, integrated, statement, atEnd, entire, read, rowAnswer, readRow}
 use Rattle.grammar.proofs.Endings.{clash, OutEnd}
 use Rattle.grammar.proofs.Looks.{add-other, as-known}
 use Rattle.grammar.proofs.StatementsSound.{Stated, StatedVia, entire-out}
@@ -91,14 +91,14 @@ statement-complete {d} (of-state {k} {w} {v} {i} {e} a b) f le =
 pub entire-complete : {d : ℕ} {w : List Symbol} {x : Says} → Derives d w x → (f : ℕ) → 3 + 5 * length w < f
     → entire f d w .end ≡ got x []
 unfolding entire
-entire-complete {d} {w} a f le = bind-end (statement f d w) ended (statement-complete a f le)
+entire-complete {d} {w} a f le = bind-end (statement f d w) atEnd (statement-complete a f le)
 
 -- reading is done only at the end
 entire-end : (f d : ℕ) (s : List Symbol) {x : Says} {t : List Symbol} → entire f d s .end ≡ got x t → t ≡ []
 unfolding entire bind
 entire-end f d s {x} {t} = go (statement f d s .out) (statement f d s .end)
   where
-    go : (o : List Draft) (u : End Says) → onward o u ended .end ≡ got x t → t ≡ []
+    go : (o : List Draft) (u : End Says) → onward o u atEnd .end ≡ got x t → t ≡ []
     go o (got y []) h = cc
     go o (got y (a ∷ u)) h = clash (cc)
     go o (bad c u) h = clash (cc)
@@ -111,7 +111,7 @@ taken row x = go (entire (calls row) levels row .end) (entire-out (calls row) le
   where
     go : (t : End Says) → OutEnd (Stated levels) (StatedVia levels) row (entire (calls row) levels row .out) t
         → entire (calls row) levels row .end ≡ t
-        → answer (length row) t ≡ read x → Derives levels row x × (entire (calls row) levels row .out ≡ draftsOf x)
+        → rowAnswer (length row) t ≡ read x → Derives levels row x × (entire (calls row) levels row .out ≡ draftsOf x)
     go (got y t) r e h =
         let q : y ≡ x = cc in
         let z : row ≡ r .0 =
@@ -122,7 +122,7 @@ taken row x = go (entire (calls row) levels row .end) (entire-out (calls row) le
 -- the parser accepts a row with the tree x exactly if the grammar derives it with the tree x
 pub accepts : (row : List Symbol) (x : Says) → (readRow row ≡ read x) ↔ Derives levels row x
 unfolding readRow
-accepts row x = (λ h. taken row x h .0, λ a. ap (answer (length row)) (entire-complete a (calls row) (omega arith)))
+accepts row x = (λ h. taken row x h .0, λ a. ap (rowAnswer (length row)) (entire-complete a (calls row) (omega arith)))
 
 -- for a row that is read, what is written are the drafts of what it says
 pub written : (row : List Symbol) (x : Says) → readRow row ≡ read x → entire (calls row) levels row .out ≡ draftsOf x

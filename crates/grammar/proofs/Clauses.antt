@@ -14,7 +14,7 @@ use Rattle.drafts.specs.Drafts.{draft, drafted}
 use Rattle.grammar.specs.Look.{next, rest, byteOf, addOp, mulOp, signed, Opening, group, give-to, factorStart}
 use Rattle.grammar.specs.Grammar.{Mode, expr, term, factor, terms, factors, opened, list}
 use Rattle.grammar.specs.Parser.{give, stop, tell, bind, when, byOp, byFactor, byGiven, need, behindSign}
-use Rattle.grammar.specs.Parser.{signDrafts, openDrafts, step, parse, rank, reads}
+use Rattle.grammar.specs.Parser.{signDrafts, openDrafts, oneCall, parse, rank, reads}
 use Rattle.grammar.proofs.Sound.{At}
 use Rattle.grammar.proofs.Enough.{step-cong, enough}
 
@@ -25,7 +25,7 @@ unfolding reads
 to-reads f m d s p b = enough f (suc (rank m + 5 * length s)) m d s p b (omega arith)
 
 -- it obeys the clauses of `parse`
-reads-step : (m : Mode) (d : ℕ) (s : List Symbol) → At m s → reads m d s ≡ step reads m d s
+reads-step : (m : Mode) (d : ℕ) (s : List Symbol) → At m s → reads m d s ≡ oneCall reads m d s
 unfolding reads parse
 reads-step m d s p = let n = rank m + 5 * length s in step-cong n reads m d s p λ k D u q l. to-reads n k D u q l
 

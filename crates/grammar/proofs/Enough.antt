@@ -17,7 +17,7 @@ use Rattle.grammar.specs.Grammar.{Mode, expr, term, factor, terms, facto
 use Rattle.grammar.specs.Grammar.{Der, unsigned, sign, no-terms, add, a-term, no-factors, mul, a-leaf, grouped}
 use Rattle.grammar.specs.Grammar.{called, opening, last, comma}
 use Rattle.grammar.specs.Parser.{End, got, bad, Res, tell, onward, bind, when, byOp, byFactor, byGiven, need}
-use Rattle.grammar.specs.Parser.{behindSign, signDrafts, step, parse, rank}
+use Rattle.grammar.specs.Parser.{behindSign, signDrafts, oneCall, parse, rank}
 use Rattle.grammar.proofs.Endings.{OutEnd, here-mark, is-mark}
 use Rattle.grammar.proofs.Looks.{add-here, mul-here, call-here, as-starting}
 use Rattle.grammar.proofs.Sound.{Done, Via, At, sound}
@@ -150,7 +150,7 @@ module _ (f : ℕ) (g : Reader) {n : ℕ} (same : AlikeBelow (parse f) g n) (d :
 -- where they agree on what is less, one call of them is the same
 pub step-cong : (f : ℕ) (g : Reader) (m : Mode) (d : ℕ) (s : List Symbol) → At m s
     → AlikeBelow (parse f) g (rank m + 5 * length s)
-    → step (parse f) m d s ≡ step g m d s
+    → oneCall (parse f) m d s ≡ oneCall g m d s
 step-cong f g expr d s p same =
     let o = addOp (next s) in
     let l = behind-le o s in

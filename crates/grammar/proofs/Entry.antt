@@ -17,7 +17,7 @@ use Rattle.grammar.specs.declared.Parsed.{Parsed}
 use Rattle.grammar.specs.declared.Parsed.the-variants.{Done, Fault, NoRoom}
 use Rattle.drafts.specs.Tree.{Says}
 use Rattle.drafts.specs.Drafts.{Draft}
-use Rattle.grammar.specs.Parser.{End, got, bad, Res, onward, bind, statement, ended, entire, calls, answer}
+use Rattle.grammar.specs.Parser.{End, got, bad, Res, onward, bind, statement, atEnd, entire, calls, rowAnswer}
 use Rattle.grammar.specs.Parser.{readRow}
 use Rattle.grammar.specs.Contract.{ParseOutcome, parseOutcome, wrote, parsedAs, rowOutcome, ParsesRow, Ready}
 use Rattle.grammar.specs.Contract.{partDone, partOf, partWrote, Meets}
@@ -26,17 +26,17 @@ use Rattle.grammar.proofs.Meets.{Went, went, place-is}
 
 -- the outcome of a reading of n tokens
 abbrev answered : ℕ → Res Says → ℕ → List ℕ → List ℕ → ParseOutcome Parsed
-answered n x p l u = wrote (parsedAs (p + length (x .out)) (answer n (x .end))) (x .out) p l u
+answered n x p l u = wrote (parsedAs (p + length (x .out)) (rowAnswer n (x .end))) (x .out) p l u
 
 -- a statement that stops
 entire-stops : (n : ℕ) (x : Res Says) (r : Part) (p : ℕ) (l u l₁ u₁ : List ℕ) → (r .code ≡ 0 → ⊥)
     → parseOutcome r l₁ u₁ ≡ partWrote n x p l u
-    → parseOutcome (Fault (r .code) (r .next)) l₁ u₁ ≡ answered n (bind x ended) p l u
+    → parseOutcome (Fault (r .code) (r .next)) l₁ u₁ ≡ answered n (bind x atEnd) p l u
 unfolding bind wrote
 entire-stops n x r p l u l₁ u₁ z h = go (x .end) h
   where
     go : (t : End Says) → parseOutcome r l₁ u₁ ≡ wrote (partOf n (p + length (x .out)) t) (x .out) p l u
-        → parseOutcome (Fault (r .code) (r .next)) l₁ u₁ ≡ answered n (onward (x .out) t ended) p l u
+        → parseOutcome (Fault (r .code) (r .next)) l₁ u₁ ≡ answered n (onward (x .out) t atEnd) p l u
     go (got e t) h = absurd (z (ap (λ (y : ParseOutcome Part). y .reply .code) h))
     go (bad d t) h =
         ap (λ (y : ParseOutcome Part). parseOutcome (Fault (y .reply .code) (y .reply .next)) (y .kinds) (y .args)) h
@@ -57,12 +57,12 @@ part-byte n s x r p l u l₁ u₁ f h = go (x .end) (f .ends) h
 module _ (n : ℕ) (x : Res Says) (e : Says) (p q : ℕ) (l u l₁ u₁ : List ℕ) (up : q ≡ p + length (x .out))
     (a : l₁ ≡ sets l p (map (λ (d : Draft). d .kind) (x .out)))
     (b : u₁ ≡ sets u p (map (λ (d : Draft). d .arg) (x .out))) where
-  entire-ends : x .end ≡ got e [] → parseOutcome (Done q) l₁ u₁ ≡ answered n (bind x ended) p l u
+  entire-ends : x .end ≡ got e [] → parseOutcome (Done q) l₁ u₁ ≡ answered n (bind x atEnd) p l u
   unfolding bind wrote
   entire-ends h = rw (h, append-nil, up, a, b)
 
   entire-more : (c : Symbol) (s : List Symbol) → x .end ≡ got e (c ∷ s)
-      → parseOutcome (Fault 18 (n - length (c ∷ s))) l₁ u₁ ≡ answered n (bind x ended) p l u
+      → parseOutcome (Fault 18 (n - length (c ∷ s))) l₁ u₁ ≡ answered n (bind x atEnd) p l u
   unfolding bind wrote
   entire-more c s h = rw (h, append-nil, a, b)
 
@@ -101,7 +101,7 @@ module _ (ks us : List ℕ) (p : ℕ) (l u : List ℕ) where
 
     entry-by : {r : Parsed} {l₁ u₁ : List ℕ}
         → parseOutcome r l₁ u₁ ≡ answered (length ks)
-        (bind (statement (calls (heldRow ks us)) levels (heldRow ks us)) ended) p l u → ParsesRow ks us l u p r l₁ u₁
+        (bind (statement (calls (heldRow ks us)) levels (heldRow ks us)) atEnd) p l u → ParsesRow ks us l u p r l₁ u₁
     unfolding rowOutcome readRow entire
     entry-by h =
         rw (
@@ -110,7 +110,7 @@ module _ (ks us : List ℕ) (p : ℕ) (l u : List ℕ) where
           le-leb (p + length ks) (length u) (ltb-false (length u) (p + length ks) (sym g)),
         )
         (h
-        ∙ ap (λ (n : ℕ). answered n (bind (statement (calls (heldRow ks us)) levels (heldRow ks us)) ended) p l u)
+        ∙ ap (λ (n : ℕ). answered n (bind (statement (calls (heldRow ks us)) levels (heldRow ks us)) atEnd) p l u)
         (sym (held-length ks us even)))
 
     module _ {r : Part} {l₁ u₁ : List ℕ}

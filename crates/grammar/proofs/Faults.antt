@@ -14,7 +14,7 @@ use Rattle.drafts.specs.Tree.{Says}
 use Rattle.drafts.specs.Drafts.{Draft}
 use Rattle.grammar.specs.Look.{next, Paren, Call, factorStart}
 use Rattle.grammar.specs.Grammar.{Derives}
-use Rattle.grammar.specs.Parser.{End, got, bad, Res, entire, calls, Read, read, fault, answer, readRow}
+use Rattle.grammar.specs.Parser.{End, got, bad, Res, entire, calls, Read, read, fault, rowAnswer, readRow}
 use Rattle.grammar.specs.Meaning.{Calm, Front, TooDeep}
 use Rattle.grammar.proofs.Stops.{Wrong, Stops, wrong, deep}
 use Rattle.grammar.proofs.Endings.{clash, Code, for-grammar, for-depth, OutEnd, Fronts}
@@ -124,8 +124,8 @@ answered row =
     go (entire (calls row) levels row .out) (ending levels row) (entire-out (calls row) levels row .ends) refl
   where
     go : (o : List Draft) (t : End Says) → OutEnd (Stated levels) (StatedVia levels) row o t → ending levels row ≡ t
-        → Answer row (answer (length row) t)
-    go o (got y t) r e = right (accepts row y .0 (ap (answer (length row)) e))
+        → Answer row (rowAnswer (length row) t)
+    go o (got y t) r e = right (accepts row y .0 (ap (rowAnswer (length row)) e))
     go o (bad c t) r e =
         let l = length-append (r .0) t in
         let p = ap length (r .1) in

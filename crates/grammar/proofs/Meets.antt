@@ -18,7 +18,7 @@ use Rattle.grammar.specs.declared.expressions.Part.{Part}
 use Rattle.drafts.specs.Drafts.{Draft, draft}
 use Rattle.grammar.specs.Look.{next, rest, byteOf}
 use Rattle.grammar.specs.Parser.{End, got, bad, Res, give, stop, tell, onward, bind, when, need}
-use Rattle.grammar.specs.Contract.{ParseOutcome, parseOutcome, wrote, opDrafts, PutsOp, partDone, stopped, partOf}
+use Rattle.grammar.specs.Contract.{ParseOutcome, parseOutcome, wrote, opDrafts, PutsOp, partDone, partStopped, partOf}
 use Rattle.grammar.specs.Contract.{partWrote, Meets}
 use Rattle.grammar.proofs.Clauses.{rest-at, left-at}
 use Rattle.grammar.proofs.Room.{Fits, FitsEnd}
@@ -151,7 +151,7 @@ module _ {ks us : List ℕ} where
   meets-give {i = i} q le e = record { same = rw (place-is ks us i q le, add-zero) }
 
   pub meets-stop : {A : Type 0} {i p : ℕ} {l u : List ℕ} → length us ≡ length ks → i ≤ length ks → (c : ℕ)
-      → Meets {A = A} ks us (stop c) i p l u (stopped c i) l u
+      → Meets {A = A} ks us (stop c) i p l u (partStopped c i) l u
   unfolding wrote
   meets-stop {i = i} q le c = record { same = rw (place-is ks us i q le) }
 
@@ -237,5 +237,5 @@ module _ {ks us : List ℕ} where
 
   pub meets-shut : {A : Type 0} {i p : ℕ} {l u : List ℕ} (k : List Symbol → Res A) (b : ℕ) → length us ≡ length ks
       → i ≤ length ks → lastWordKind < b
-      → (getD ks i 0 ≡ b → ⊥) → Meets ks us (λ s. need b s k) i p l u (stopped 18 i) l u
+      → (getD ks i 0 ≡ b → ⊥) → Meets ks us (λ s. need b s k) i p l u (partStopped 18 i) l u
   meets-shut k b even le h e = meets-else (λ s. k (rest s)) b even h e (meets-stop even le 18)

@@ -20,7 +20,7 @@ use Rattle.grammar.specs.Look.{FactorStart, Leaf, Paren, Call, NoFactor,
 use Rattle.grammar.specs.Grammar.{expr, factor, opened, list}
 use Rattle.grammar.specs.Parser.{Res, give, stop, tell, when, byFactor, byGiven, need, openDrafts, reads}
 use Rattle.grammar.specs.Codes.{wantOf, kindOpening, closerOf, leafKind, leafArg, faceOf}
-use Rattle.grammar.specs.Contract.{Ready, partDone, stopped, Meets, Parses}
+use Rattle.grammar.specs.Contract.{Ready, partDone, partStopped, Meets, Parses}
 use Rattle.grammar.proofs.Clauses.{reads-factor, reads-opened, reads-deep, reads-list}
 use Rattle.grammar.proofs.Seen.{token-at, stands, leaf-noted, face-noted}
 use Rattle.grammar.proofs.Meets.{meets-by, meets-rest, meets-give, meets-stop, meets-tell, meets-mark}
@@ -122,7 +122,7 @@ module _ {ks us : List ℕ} {i p k : ℕ} {l u : List ℕ} {f : Face} (w : Ready
       }
 
   pub factor-shut : {d n c : ℕ} → f ≡ Function n c → (getD ks (i + 1) 0 ≡ 40 → ⊥)
-      → Parses ks us factor d i p l u (stopped 18 (i + 1)) l u
+      → Parses ks us factor d i p l u (partStopped 18 (i + 1)) l u
   factor-shut {d} e z =
       let a = function-inside e in
       let h = as-shown k (getD us i 0) (sym e ∙ ef (getD us i 0)) in
@@ -133,7 +133,7 @@ module _ {ks us : List ℕ} {i p k : ℕ} {l u : List ℕ} {f : Face} (w : Ready
             (meets-stop (w .even) (omega arith) 18)));
       }
 
-  pub factor-none : {d : ℕ} → f ≡ Nothing → Parses ks us factor d i p l u (stopped 18 i) l u
+  pub factor-none : {d : ℕ} → f ≡ Nothing → Parses ks us factor d i p l u (partStopped 18 i) l u
   factor-none {d} e =
       record {
         meets = meets-by (reads factor d) (by-factor d (as-shown k (getD us i 0) (sym e ∙ ef (getD us i 0))))
@@ -144,7 +144,7 @@ module _ {ks us : List ℕ} {i p k : ℕ} {l u : List ℕ} {f : Face} (w : Ready
 
 module _ {ks us : List ℕ} {i p : ℕ} {l u : List ℕ} (w : (getD ks i 0 ≡ 40) × Ready ks us i p l u) where
   -- no level is left
-  pub opened-deep : {d : ℕ} → d ≡ 0 → (o : Opening) → Parses ks us (opened o) d i p l u (stopped 19 i) l u
+  pub opened-deep : {d : ℕ} → d ≡ 0 → (o : Opening) → Parses ks us (opened o) d i p l u (partStopped 19 i) l u
   opened-deep z o =
       let row = heldRow ks us in
       rw z
@@ -257,7 +257,7 @@ module _ {ks us : List ℕ} {d i p : ℕ} {l u : List ℕ} where
     -- behind an expression of n that are wanted stands the kind k, and m should
     module _ (n : ℕ) {k m : ℕ} (ek : k ≡ getD ks j 0) (em : m ≡ closerOf n) where
       -- another mark stands behind it
-      list-shut : (k ≡ m → ⊥) → (o : Opening) → wantOf o ≡ n → Parses ks us (list o) d i p l u (stopped 18 j) l₁ u₁
+      list-shut : (k ≡ m → ⊥) → (o : Opening) → wantOf o ≡ n → Parses ks us (list o) d i p l u (partStopped 18 j) l₁ u₁
       list-shut z o ew =
           let a = after w e h in
           by-given o
@@ -366,7 +366,7 @@ module _ {ks us : List ℕ} {d i p : ℕ} {l u : List ℕ} {n c j m q : ℕ} {l�
       (h : Parses ks us expr d j q l₁ u₁ r l₂ u₂) {k s : ℕ}
       (ek : k ≡ getD ks j₁ 0) (es : s ≡ closerOf m) where
     pub item-shut : (k ≡ s → ⊥) → (o : Opening) → wantOf o ≡ n → kindOpening o ≡ c
-        → Parses ks us (list o) d i p l u (stopped 18 j₁) l₂ u₂
+        → Parses ks us (list o) d i p l u (partStopped 18 j₁) l₂ u₂
     item-shut y = z .all λ b v _. list-shut (z .ready) e h m ek es y b v
 
     module _ (y : k ≡ s) where

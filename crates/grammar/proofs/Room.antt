@@ -24,7 +24,7 @@ use Rattle.grammar.specs.Parser.{byGiven, need}
 use Rattle.grammar.specs.Parser.{behindSign, signDrafts, openDrafts, parse, rank, reads, byStart, byName}
 use Rattle.grammar.specs.Parser.{byNumber, byIntegral}
 use Rattle.grammar.specs.Parser.{signedValue, aNumber, signedNumber, onMore, valued, many, initially}
-use Rattle.grammar.specs.Parser.{assigned, rated, started, integrated, equated, statement, ended, entire}
+use Rattle.grammar.specs.Parser.{assigned, rated, begunState, integrated, equated, statement, atEnd, entire}
 use Rattle.grammar.proofs.Endings.{here-mark, is-mark}
 use Rattle.grammar.proofs.Looks.{add-here, mul-here, leaf-here, call-here, Bare, bare-value, bare-name}
 use Rattle.grammar.proofs.Looks.{bare-time, as-starting, start-cases}
@@ -306,7 +306,7 @@ module _ (f d k : ℕ) where
   integrated-fits : (s : List Symbol) → Fits s 0 1 (integrated f d k s)
   unfolding integrated
   integrated-fits s =
-      fits-need 39 s 0 1 (started f d k)
+      fits-need 39 s 0 1 (begunState f d k)
       (fits-bind (rest s) 2 0 2 (initially (rest s)) _
       (fits-mono 2 2 (initially-fits (rest s)) (omega arith) (omega arith)) λ i t.
       fits-tell (draft kindInitial k ∷ initialDraft i ∷ []) t 0 0 _
@@ -346,9 +346,9 @@ statement-fits f d s =
 -- and no token more
 entire-fits : (f d : ℕ) (s : List Symbol) → Fits s 0 0 (entire f d s)
 unfolding entire
-entire-fits f d s = fits-bind s 0 0 0 (statement f d s) ended (statement-fits f d s) end
+entire-fits f d s = fits-bind s 0 0 0 (statement f d s) atEnd (statement-fits f d s) end
   where
-    end : (x : Says) (t : List Symbol) → Fits t 0 0 (ended x t)
+    end : (x : Says) (t : List Symbol) → Fits t 0 0 (atEnd x t)
     end x [] = fits-give [] x
     end x (t ∷ s) = fits-stop (t ∷ s) 0 0
 

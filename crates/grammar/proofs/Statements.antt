@@ -20,9 +20,9 @@ use Rattle.drafts.specs.Drafts.{draft, constantDrafts, initialDraft}
 use Rattle.grammar.specs.Look.{rest}
 use Rattle.grammar.specs.Grammar.{expr}
 use Rattle.grammar.specs.Parser.{Res, give, tell, bind, need, parse, reads}
-use Rattle.grammar.specs.Parser.{signedNumber, onMore, valued, many, initially, assigned, rated, started}
+use Rattle.grammar.specs.Parser.{signedNumber, onMore, valued, many, initially, assigned, rated, begunState}
 use Rattle.grammar.specs.Parser.{integrated, equated, statement, calls}
-use Rattle.grammar.specs.Contract.{Ready, Within, partDone, stopped, Meets, Parses, ParsesMany, numberAt}
+use Rattle.grammar.specs.Contract.{Ready, Within, partDone, partStopped, Meets, Parses, ParsesMany, numberAt}
 use Rattle.grammar.specs.Contract.{initialAt}
 use Rattle.grammar.proofs.Clauses.{to-reads}
 use Rattle.grammar.proofs.Seen.{token-at, stands, is-name, no-name, is-integral, no-integral, start-name}
@@ -79,11 +79,11 @@ comma-inside ks j {c} e z = stands ks j λ y. let v : c ≡ 0 = e ∙ y in omega
 
 module _ {ks us : List ℕ} {i p m : ℕ} {l u : List ℕ} (w : Ready ks us i p l u) (em : m ≡ getD ks i 0) where
   -- no name
-  pub const-none : (m ≡ nameKind → ⊥) → ParsesMany ks us i p l u (stopped 18 i) l u
+  pub const-none : (m ≡ nameKind → ⊥) → ParsesMany ks us i p l u (partStopped 18 i) l u
   unfolding many
   const-none n =
       record {
-        meets = for-suc (λ f. Meets ks us (many f) i p l u (stopped 18 i) l u) (length ks - i) λ f le.
+        meets = for-suc (λ f. Meets ks us (many f) i p l u (partStopped 18 i) l u) (length ks - i) λ f le.
             meets-by (many (suc f))
             (rw (token-at ks us i (w .even)) (no-name (getD ks i 0) (getD us i 0) _ _ λ z. n (em ∙ z)))
             (meets-stop (w .even) (w .within) 18);
@@ -109,7 +109,7 @@ module _ {ks us : List ℕ} {i p m : ℕ} {l u : List ℕ} (w : Ready ks us i p 
 
     module _ {e : ℕ} (ee : e ≡ getD ks (i + 1) 0) where
       -- no =
-      pub const-shut : (e ≡ 61 → ⊥) → ParsesMany ks us i p l u (stopped 18 (i + 1)) l u
+      pub const-shut : (e ≡ 61 → ⊥) → ParsesMany ks us i p l u (partStopped 18 (i + 1)) l u
       const-shut n =
           let a = name-inside in
           const-named λ f le. meets-shut (valued (many f) (getD us i 0)) 61 (w .even) (omega arith) (omega arith) λ z. n
@@ -131,7 +131,7 @@ module _ {ks us : List ℕ} {i p m : ℕ} {l u : List ℕ} (w : Ready ks us i p 
             const-named λ f le. meets-need 61 (w .even) (omega arith) (sym ee ∙ equals) (rw n at (g f le))
 
         -- no number
-        pub const-missing : {j : ℕ} → Missing j ≡ numberAt ks us (i + 2) → ParsesMany ks us i p l u (stopped 18 j) l u
+        pub const-missing : {j : ℕ} → Missing j ≡ numberAt ks us (i + 2) → ParsesMany ks us i p l u (partStopped 18 j) l u
         const-missing h = const-equals λ f le. number-stops const-within _ h
 
         module _ {k a j : ℕ} (h : Found k a j ≡ numberAt ks us (i + 2)) where
@@ -257,7 +257,7 @@ module _ {ks us : List ℕ} {i p : ℕ} {l u : List ℕ} {r : Part} {l₁ u₁ :
 
   module _ {j q k : ℕ} (e : r ≡ partDone j q) (ek : k ≡ getD ks j 0) where
     pub rate-shut : (k ≡ 41 → ⊥) → (n : Initial)
-        → Meets ks us (rated (calls (heldRow ks us)) levels key n) i p l u (stopped 18 j) l₁ u₁
+        → Meets ks us (rated (calls (heldRow ks us)) levels key n) i p l u (partStopped 18 j) l₁ u₁
     rate-shut z n =
         let a = after w e h in
         rate-by n (goes-on (rate-then key n) w e h λ x.
@@ -286,10 +286,10 @@ module _ {ks us : List ℕ} {i p : ℕ} {l u : List ℕ} {r : Part} {l₁ u₁ :
 
 module _ {ks us : List ℕ} {i p m : ℕ} {l u : List ℕ} (key : ℕ) (w : Ready ks us i p l u) (em : m ≡ getD ks i 0) where
   -- no opening parenthesis
-  pub state-shut : (m ≡ 40 → ⊥) → Meets ks us (integrated (calls (heldRow ks us)) levels key) i p l u (stopped 18 i) l u
+  pub state-shut : (m ≡ 40 → ⊥) → Meets ks us (integrated (calls (heldRow ks us)) levels key) i p l u (partStopped 18 i) l u
   unfolding integrated
   state-shut n =
-      meets-shut (started (calls (heldRow ks us)) levels key) 40 (w .even) (w .within) (omega arith) λ z. n (em ∙ z)
+      meets-shut (begunState (calls (heldRow ks us)) levels key) 40 (w .even) (w .within) (omega arith) λ z. n (em ∙ z)
 
   module _ (there : m ≡ 40) where
     open-inside : i < length ks
@@ -299,14 +299,14 @@ module _ {ks us : List ℕ} {i p m : ℕ} {l u : List ℕ} (key : ℕ) (w : Read
     state-within = let a = open-inside in record { even = w .even; within = omega arith }
 
     state-open : {r : Part} {l₁ u₁ : List ℕ}
-        → Meets ks us (started (calls (heldRow ks us)) levels key) (i + 1) p l u r l₁ u₁
+        → Meets ks us (begunState (calls (heldRow ks us)) levels key) (i + 1) p l u r l₁ u₁
         → Meets ks us (integrated (calls (heldRow ks us)) levels key) i p l u r l₁ u₁
     unfolding integrated
     state-open g = meets-need 40 (w .even) (omega arith) (sym em ∙ there) g
 
     -- no initial
     pub state-missing : {j : ℕ} → Missing j ≡ initialAt ks us (i + 1)
-        → Meets ks us (integrated (calls (heldRow ks us)) levels key) i p l u (stopped 18 j) l u
+        → Meets ks us (integrated (calls (heldRow ks us)) levels key) i p l u (partStopped 18 j) l u
     state-missing h = state-open (initial-stops state-within _ h)
 
     module _ {k a j : ℕ} (h : Found k a j ≡ initialAt ks us (i + 1)) where
@@ -339,7 +339,7 @@ module _ {ks us : List ℕ} {i p m : ℕ} {l u : List ℕ} (key : ℕ) (w : Read
 
         -- no comma
         pub state-alone : (c ≡ 44 → ⊥) → Meets ks us (integrated (calls (heldRow ks us)) levels key) i p l u
-            (stopped 18 j) l₂ u₂
+            (partStopped 18 j) l₂ u₂
         state-alone n =
             state-started λ v. meets-shut (rated (calls (heldRow ks us)) levels key v) 44 (w .even) (start .inside)
             (omega arith) λ z. n (ec ∙ z)
@@ -358,7 +358,7 @@ module _ {ks us : List ℕ} {i p m : ℕ} {l u : List ℕ} (key : ℕ) (w : Read
 module _ {ks us : List ℕ} {p k : ℕ} {l u : List ℕ} (w : Ready ks us 0 p l u) (ek : k ≡ getD ks 0 0) where
   -- neither a name nor a word before constants
   pub begins-none : (k ≡ nameKind → ⊥) → (k ≡ wordKind CONSTANTS → ⊥)
-      → Meets ks us (statement (calls (heldRow ks us)) levels) 0 p l u (stopped 18 0) l u
+      → Meets ks us (statement (calls (heldRow ks us)) levels) 0 p l u (partStopped 18 0) l u
   unfolding statement
   begins-none n m =
       meets-by (statement (calls (heldRow ks us)) levels)
@@ -401,7 +401,7 @@ module _ {ks us : List ℕ} {p k : ℕ} {l u : List ℕ} (w : Ready ks us 0 p l 
 
     module _ {e : ℕ} (ee : e ≡ getD ks 1 0) where
       -- no =
-      pub begins-shut : (e ≡ 61 → ⊥) → Meets ks us (statement (calls (heldRow ks us)) levels) 0 p l u (stopped 18 1) l u
+      pub begins-shut : (e ≡ 61 → ⊥) → Meets ks us (statement (calls (heldRow ks us)) levels) 0 p l u (partStopped 18 1) l u
       begins-shut n =
           let a = first-inside in
           begins-name

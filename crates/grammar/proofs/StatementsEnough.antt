@@ -12,7 +12,7 @@ use Rattle.drafts.specs.Drafts.{draft, constantDrafts, initialDraft}
 use Rattle.grammar.specs.Look.{next, rest, Start, Constants, Integral, Named, Valued, Other, startOf}
 use Rattle.grammar.specs.Grammar.{expr}
 use Rattle.grammar.specs.Parser.{got, Res, tell, byStart, parse, signedNumber, valued, many, initially}
-use Rattle.grammar.specs.Parser.{assigned, rated, started, integrated, equated, statement, ended, entire}
+use Rattle.grammar.specs.Parser.{assigned, rated, begunState, integrated, equated, statement, atEnd, entire}
 use Rattle.grammar.proofs.Endings.{Asked, Before, Out, OutEnd, here-mark}
 use Rattle.grammar.proofs.StatementsSound.{signed-out, initially-out}
 use Rattle.grammar.proofs.Enough.{bind-cong, mark-cong, need-cong, shorter, rest-le, enough}
@@ -67,7 +67,7 @@ module _ (f f′ d k : ℕ) where
       → integrated f d k s ≡ integrated f′ d k s
   unfolding integrated
   integrated-enough s b b′ =
-      need-cong 39 s (started f d k) (started f′ d k) λ l.
+      need-cong 39 s (begunState f d k) (begunState f′ d k) λ l.
       bind-cong (initially (rest s)) _ _ _ refl λ i t h.
       let n = out-left (rest s) _ (initially-out 0 (rest s)) i t h in
       ap (tell (draft kindInitial k ∷ initialDraft i ∷ [])) (need-cong 43 t (rated f d k i) (rated f′ d k i) λ m.
@@ -99,4 +99,4 @@ statement-enough f f′ d s b b′ =
 pub entire-enough : (f f′ d : ℕ) (s : List Symbol) → 3 + 5 * length s < f → 3 + 5 * length s < f′
     → entire f d s ≡ entire f′ d s
 unfolding entire
-entire-enough f f′ d s b b′ = bind-cong (statement f d s) _ ended ended (statement-enough f f′ d s b b′) λ e t h. refl
+entire-enough f f′ d s b b′ = bind-cong (statement f d s) _ atEnd atEnd (statement-enough f f′ d s b b′) λ e t h. refl

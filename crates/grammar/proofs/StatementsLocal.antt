@@ -12,7 +12,7 @@ use Rattle.grammar.specs.Grammar.{expr}
 use Rattle.grammar.specs.Parser.{Res, give, stop, tell, bind, byStart, byName, byNumber, byIntegral, need}
 use Rattle.grammar.specs.Parser.{behindSign, parse}
 use Rattle.grammar.specs.Parser.{signedValue, aNumber, signedNumber, onMore, valued, many, initially}
-use Rattle.grammar.specs.Parser.{assigned, rated, started, integrated, equated, statement, ended, entire}
+use Rattle.grammar.specs.Parser.{assigned, rated, begunState, integrated, equated, statement, atEnd, entire}
 use Rattle.grammar.proofs.Endings.{here-mark}
 use Rattle.grammar.proofs.Looks.{add-here, start-cases}
 use Rattle.grammar.proofs.Local.{Reading, Loc, loc-bind, loc-seen, loc-rest, loc-tell, loc-give, loc-stop}
@@ -90,7 +90,7 @@ module _ (f d k : ℕ) where
   integrated-loc : (s : List Symbol) → Loc d s (λ d′. integrated f d′ k)
   unfolding integrated
   integrated-loc s =
-      loc-need d s 39 (λ d′. started f d′ k) λ m.
+      loc-need d s 39 (λ d′. begunState f d′ k) λ m.
       loc-bind d (rest s) (λ _. initially)
       (λ d′ i t. tell (draft kindInitial k ∷ initialDraft i ∷ []) (need 44 t (rated f d′ k i)))
       (initially-loc d (rest s)) λ i t.
@@ -127,7 +127,7 @@ statement-loc f d s =
     (λ _ _. no) no
 
 -- the end, or one token too many
-ended-loc : (d : ℕ) (x : Says) (t : List Symbol) → Loc d t (λ _. ended x)
+ended-loc : (d : ℕ) (x : Says) (t : List Symbol) → Loc d t (λ _. atEnd x)
 ended-loc d x [] =
     record { ends = ([], refl, λ d′ u. elim u [ [] ↦ λ le like. refl | a ∷ v ↦ λ le like. absurd like ]) }
 ended-loc d x (a ∷ t) =
@@ -136,4 +136,4 @@ ended-loc d x (a ∷ t) =
 -- a row, read as a statement with nothing behind it
 pub entire-loc : (f d : ℕ) (s : List Symbol) → Loc d s (entire f)
 unfolding entire
-entire-loc f d s = loc-bind d s (statement f) (λ _. ended) (statement-loc f d s) λ x t. ended-loc d x t
+entire-loc f d s = loc-bind d s (statement f) (λ _. atEnd) (statement-loc f d s) λ x t. ended-loc d x t

@@ -16,7 +16,7 @@ use Rattle.grammar.specs.Grammar.{Derives, of-constants, of-assignment, 
 use Rattle.grammar.specs.Parser.{Res, give, stop, tell, bind, byStart, byName, byNumber, byIntegral, need}
 use Rattle.grammar.specs.Parser.{behindSign, parse}
 use Rattle.grammar.specs.Parser.{signedValue, aNumber, signedNumber, onMore, valued, many, initially}
-use Rattle.grammar.specs.Parser.{assigned, rated, started, integrated, equated, statement, ended, entire}
+use Rattle.grammar.specs.Parser.{assigned, rated, begunState, integrated, equated, statement, atEnd, entire}
 use Rattle.grammar.proofs.Endings.{Asked, Before, Out, out-mark, out-tell, out-give, out-stop, out-rest}
 use Rattle.grammar.proofs.Endings.{out-bind, out-map, out-need}
 use Rattle.grammar.proofs.Endings.{here-mark, Fronts, extend, behind, fresh}
@@ -184,7 +184,7 @@ module _ (f d k : ℕ) where
       (λ c w. StatedVia d c (name k ∷ mark 61 ∷ word INTGRL ∷ w)) s (integrated f d k s)
   unfolding integrated
   integrated-out s =
-      out-need _ _ 39 s (started f d k)
+      out-need _ _ 39 s (begunState f d k)
       (λ m. out-bind _ _ (rest s) (initially (rest s)) _ (initially-out d (rest s))
       (λ o w i t r. out-tell _ _ (draft kindInitial k ∷ initialDraft i ∷ []) t _
       (out-need _ _ 43 t (rated f d k i) (λ m. rated-out w o i (rest t) r)
@@ -233,10 +233,10 @@ stated-le (of-state i a) D le = of-state i (der-le a D le)
 -- and no token more
 pub entire-out : (f d : ℕ) (s : List Symbol) → Out (Stated d) (StatedVia d) s (entire f d s)
 unfolding entire
-entire-out f d s = out-bind _ _ s (statement f d s) ended (statement-out f d s) end λ c w r. r
+entire-out f d s = out-bind _ _ s (statement f d s) atEnd (statement-out f d s) end λ c w r. r
   where
     end : (o : List Draft) (w : List Symbol) (x : Says) (t : List Symbol) → Stated d o w x
-        → Out (λ o′ v. Stated d (o ++ o′) (w ++ v)) (λ c v. StatedVia d c (w ++ v)) t (ended x t)
+        → Out (λ o′ v. Stated d (o ++ o′) (w ++ v)) (λ c v. StatedVia d c (w ++ v)) t (atEnd x t)
     end o w x [] q = out-give _ _ [] x (rw (append-nil o, append-nil w) q)
     end o w x (t ∷ s) q =
         out-stop _ _ (t ∷ s) (rw (append-nil w) (fresh w λ D le. ([], x, rw (append-nil w) (stated-le (q .0) D le))))

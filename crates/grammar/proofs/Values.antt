@@ -25,7 +25,7 @@ use Rattle.grammar.specs.Grammar.{Signed, unsigned-number, signed-number
 use Rattle.grammar.specs.Parser.{End, got, bad, Res, give, stop, bind, onward, byName, byNumber, behindSign}
 use Rattle.grammar.specs.Parser.{signedValue, aNumber, signedNumber, initially}
 use Rattle.grammar.specs.Codes.{skipOf}
-use Rattle.grammar.specs.Contract.{Within, parseOutcome, wrote, stopped, partWrote, Meets, valueOf, numberAt}
+use Rattle.grammar.specs.Contract.{Within, parseOutcome, wrote, partStopped, partWrote, Meets, valueRead, numberAt}
 use Rattle.grammar.specs.Contract.{initialAt}
 use Rattle.grammar.proofs.Endings.{clash, Asked, Before, Out, OutEnd}
 use Rattle.grammar.proofs.StatementsSound.{signed-out, initially-out}
@@ -122,8 +122,8 @@ module _ {ks us : List ℕ} {i m : ℕ} (w : Within ks us i) (em : m ≡ getD ks
       rw (token-at ks us i (w .even), no-name {A = Initial} (getD ks i 0) (getD us i 0) _ _ (λ z. n (em ∙ z)))
       (h ∙ go (signedNumber (drop i (heldRow ks us)) .out) (signedNumber (drop i (heldRow ks us)) .end))
     where
-      go : (o : List Draft) (t : End Float) → valueOf (λ x. draft kindNumber (toBits binary64 x)) (length ks) t
-          ≡ valueOf initialDraft (length ks) (onward o t (λ x t. give (plain x) t) .end)
+      go : (o : List Draft) (t : End Float) → valueRead (λ x. draft kindNumber (toBits binary64 x)) (length ks) t
+          ≡ valueRead initialDraft (length ks) (onward o t (λ x t. give (plain x) t) .end)
       go o (got x t) = refl
       go o (bad c t) = refl
 
@@ -197,13 +197,13 @@ module _ {A : Type 0} (f : A → Draft) (x : List Symbol → Res A) {L : Asked A
     (size : (o : List Draft) (w : List Symbol) (e : A) → L o w e → 0 < length w) {ks us : List ℕ} {i : ℕ}
     (w : Within ks us i) (out : Out L F (drop i (heldRow ks us)) (x (drop i (heldRow ks us))))
     (quiet : Quiet (x (drop i (heldRow ks us)))) where
-  valued-at : {k a j : ℕ} → Found k a j ≡ valueOf f (length ks) (x (drop i (heldRow ks us)) .end)
+  valued-at : {k a j : ℕ} → Found k a j ≡ valueRead f (length ks) (x (drop i (heldRow ks us)) .end)
       → Valued-at f x ks us i k a j
   valued-at {k} {a} {j} = go (x (drop i (heldRow ks us)) .end) refl (out .ends)
     where
       go : (t : End A) → x (drop i (heldRow ks us)) .end ≡ t
           → OutEnd L F (drop i (heldRow ks us)) (x (drop i (heldRow ks us)) .out) t
-          → Found k a j ≡ valueOf f (length ks) t → Valued-at f x ks us i k a j
+          → Found k a j ≡ valueRead f (length ks) t → Valued-at f x ks us i k a j
       go (got e t) s r h =
           let n = held-length ks us (w .even) in
           let b = length-append (r .0) t in
@@ -227,8 +227,8 @@ module _ {A : Type 0} (f : A → Draft) (x : List Symbol → Res A) {L : Asked A
 
   -- missing: both stop
   missing-at : {B : Type 0} {j p : ℕ} {l u : List ℕ} (k : A → List Symbol → Res B)
-      → Missing j ≡ valueOf f (length ks) (x (drop i (heldRow ks us)) .end)
-      → Meets ks us (λ s. bind (x s) k) i p l u (stopped 18 j) l u
+      → Missing j ≡ valueRead f (length ks) (x (drop i (heldRow ks us)) .end)
+      → Meets ks us (λ s. bind (x s) k) i p l u (partStopped 18 j) l u
   unfolding bind wrote
   missing-at {j = j} {p = p} {l = l} {u = u} k h =
       record {
@@ -236,8 +236,8 @@ module _ {A : Type 0} (f : A → Draft) (x : List Symbol → Res A) {L : Asked A
             (quiet .faults) h;
       }
     where
-      go : (o : List Draft) (t : End A) → o ≡ [] → Grammar t → Missing j ≡ valueOf f (length ks) t
-          → parseOutcome (stopped 18 j) l u ≡ partWrote (length ks) (onward o t k) p l u
+      go : (o : List Draft) (t : End A) → o ≡ [] → Grammar t → Missing j ≡ valueRead f (length ks) t
+          → parseOutcome (partStopped 18 j) l u ≡ partWrote (length ks) (onward o t k) p l u
       go o (got e t) s g h = clash (cc)
       go o (bad c t) s g h = let m : j ≡ length ks - length t = cc in rw (s, g, m)
 
@@ -256,7 +256,7 @@ module _ {ks us : List ℕ} {i : ℕ} (w : Within ks us i) where
 
   pub number-stops : {B : Type 0} {j p : ℕ} {l u : List ℕ} (k : Float → List Symbol → Res B)
       → Missing j ≡ numberAt ks us i
-      → Meets ks us (λ s. bind (signedNumber s) k) i p l u (stopped 18 j) l u
+      → Meets ks us (λ s. bind (signedNumber s) k) i p l u (partStopped 18 j) l u
   number-stops k h =
       let s = drop i (heldRow ks us) in
       missing-at (λ x. draft kindNumber (toBits binary64 x)) signedNumber (λ o v x r. signed-size (r .0)) w
@@ -264,7 +264,7 @@ module _ {ks us : List ℕ} {i : ℕ} (w : Within ks us i) where
 
   pub initial-stops : {B : Type 0} {j p : ℕ} {l u : List ℕ} (k : Initial → List Symbol → Res B)
       → Missing j ≡ initialAt ks us i
-      → Meets ks us (λ s. bind (initially s) k) i p l u (stopped 18 j) l u
+      → Meets ks us (λ s. bind (initially s) k) i p l u (partStopped 18 j) l u
   initial-stops k h =
       let s = drop i (heldRow ks us) in
       missing-at initialDraft initially (λ o v x r. initially-size (r .0)) w (initially-out 0 s) (quiet-initially s) k h

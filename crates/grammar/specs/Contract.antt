@@ -88,13 +88,13 @@ pub record Within (ks us : List ℕ) (i : ℕ) : Type 0 where
 abbrev pub partDone : ℕ → ℕ → Part
 partDone i q = record { code = 0; next = i; place = q }
 
-abbrev pub stopped : ℕ → ℕ → Part
-stopped c i = record { code = c; next = i; place = 0 }
+abbrev pub partStopped : ℕ → ℕ → Part
+partStopped c i = record { code = c; next = i; place = 0 }
 
 -- how reading ends, by places among n tokens, with the place q of the next draft
 abbrev pub partOf : {A : Type 0} → ℕ → ℕ → End A → Part
 partOf n q (got e t) = partDone (n - length t) q
-partOf n q (bad c t) = stopped c (n - length t)
+partOf n q (bad c t) = partStopped c (n - length t)
 
 abbrev pub partWrote : {A : Type 0} → ℕ → Res A → ℕ → List ℕ → List ℕ → ParseOutcome Part
 partWrote n x p l u = wrote (partOf n (p + length (x .out)) (x .end)) (x .out) p l u
@@ -113,13 +113,13 @@ pub record ParsesMany (ks us : List ℕ) (i p : ℕ) (l u : List ℕ) (r : Part)
   pub meets : (f : ℕ) → length ks - i < f → Meets ks us (many f) i p l u r l′ u′
 
 -- what writes nothing itself: the draft of what was read, or the place where it is missing
-abbrev pub valueOf : {A : Type 0} → (A → Draft) → ℕ → End A → Value
-valueOf f n (got e t) = let x : Draft = f e in Found (x .kind) (x .arg) (n - length t)
-valueOf f n (bad c t) = Missing (n - length t)
+abbrev pub valueRead : {A : Type 0} → (A → Draft) → ℕ → End A → Value
+valueRead f n (got e t) = let x : Draft = f e in Found (x .kind) (x .arg) (n - length t)
+valueRead f n (bad c t) = Missing (n - length t)
 
 abbrev pub numberAt : List ℕ → List ℕ → ℕ → Value
 numberAt ks us i =
-    valueOf (λ x. draft kindNumber (toBits binary64 x)) (length ks) (signedNumber (drop i (heldRow ks us)) .end)
+    valueRead (λ x. draft kindNumber (toBits binary64 x)) (length ks) (signedNumber (drop i (heldRow ks us)) .end)
 
 abbrev pub initialAt : List ℕ → List ℕ → ℕ → Value
-initialAt ks us i = valueOf initialDraft (length ks) (initially (drop i (heldRow ks us)) .end)
+initialAt ks us i = valueRead initialDraft (length ks) (initially (drop i (heldRow ks us)) .end)

@@ -91,33 +91,33 @@ openDrafts (triple-of o a) = draft (kindThree o) 0 ∷ []
 openDrafts (triple-of-two o a b) = draft (kindThree o) 0 ∷ []
 
 -- one call, where `call` reads what it calls; d is the count of levels that may still be opened
-abbrev pub step : (Mode → ℕ → List Symbol → Res Tree) → Mode → ℕ → List Symbol → Res Tree
-step call expr d s =
+abbrev pub oneCall : (Mode → ℕ → List Symbol → Res Tree) → Mode → ℕ → List Symbol → Res Tree
+oneCall call expr d s =
     let o = addOp (next s) in
     bind (call term d (behindSign o s)) λ e t. tell (signDrafts o) (call (terms (signed o e)) d t)
-step call (terms l) d s =
+oneCall call (terms l) d s =
     byOp (addOp (next s)) (λ _. give l s) λ o. bind (call term d (rest s)) λ e t. tell (draft (kindTwo o) 0 ∷ [])
     (call (terms (two o l e)) d t)
-step call term d s = bind (call factor d s) λ e t. call (factors e) d t
-step call (factors l) d s =
+oneCall call term d s = bind (call factor d s) λ e t. call (factors e) d t
+oneCall call (factors l) d s =
     byOp (mulOp (next s)) (λ _. give l s) λ o. bind (call factor d (rest s)) λ e t. tell (draft (kindTwo o) 0 ∷ [])
     (call (factors (two o l e)) d t)
-step call factor d s =
+oneCall call factor d s =
     byFactor (factorStart (next s))
     (λ e. tell (drafted e) (give e (rest s)))
     (λ _. call (opened group) d s)
     (λ p. when (eqb (byteOf (next (rest s))) 40) (λ _. call (opened p) d (rest s)) (λ _. stop 18 (rest s)))
     (λ _. stop 18 s)
-step call (opened p) zero s = stop 19 s
-step call (opened p) (suc d) s = call (list p) d (rest s)
-step call (list p) d s =
+oneCall call (opened p) zero s = stop 19 s
+oneCall call (opened p) (suc d) s = call (list p) d (rest s)
+oneCall call (list p) d s =
     bind (call expr d s) λ e t.
     byGiven (give-to p e) (λ x. need 41 t λ u. tell (openDrafts p) (give x u)) (λ q. need 44 t (call (list q) d))
 
 -- with at most f calls inside one another
 unfoldable pub parse : ℕ → Mode → ℕ → List Symbol → Res Tree
 parse zero m d s = stop 18 s
-parse (suc f) m d s = step (parse f) m d s
+parse (suc f) m d s = oneCall (parse f) m d s
 
 -- every call reads a token or is followed, within four, by one that does: `rank` and five for each token bound the
 -- calls
@@ -130,7 +130,7 @@ rank (terms l) = 0
 rank (factors l) = 0
 rank (list p) = 4
 
--- with calls enough for the tokens at hand: it obeys the clauses of `step` (laws `reads-expr`, ..), and needs no count
+-- with calls enough for the tokens at hand: it obeys the clauses of `oneCall` (laws `reads-expr`, ..), and needs no count
 unfoldable pub reads : Mode → ℕ → List Symbol → Res Tree
 reads m d s = parse (suc (rank m + 5 * length s)) m d s
 
@@ -186,11 +186,11 @@ assigned f d k s = bind (parse f expr d s) λ e t. tell (draft kindStore k ∷ [
 abbrev pub rated : ℕ → ℕ → ℕ → Initial → List Symbol → Res Says
 rated f d k i s = bind (parse f expr d s) λ e t. need 41 t λ u. tell (draft kindRate k ∷ []) (give (state k i e) u)
 
-abbrev pub started : ℕ → ℕ → ℕ → List Symbol → Res Says
-started f d k s = bind (initially s) λ i t. tell (draft kindInitial k ∷ initialDraft i ∷ []) (need 44 t (rated f d k i))
+abbrev pub begunState : ℕ → ℕ → ℕ → List Symbol → Res Says
+begunState f d k s = bind (initially s) λ i t. tell (draft kindInitial k ∷ initialDraft i ∷ []) (need 44 t (rated f d k i))
 
 unfoldable pub integrated : ℕ → ℕ → ℕ → List Symbol → Res Says
-integrated f d k s = need 40 s (started f d k)
+integrated f d k s = need 40 s (begunState f d k)
 
 abbrev pub equated : ℕ → ℕ → ℕ → List Symbol → Res Says
 equated f d k s = byIntegral (startOf (next s)) (λ _. integrated f d k (rest s)) (λ _. assigned f d k s)
@@ -206,12 +206,12 @@ statement f d s =
     (λ _. stop 18 s)
 
 -- and no token more
-abbrev pub ended : {A : Type 0} → A → List Symbol → Res A
-ended x [] = give x []
-ended x (t ∷ s) = stop 18 (t ∷ s)
+abbrev pub atEnd : {A : Type 0} → A → List Symbol → Res A
+atEnd x [] = give x []
+atEnd x (t ∷ s) = stop 18 (t ∷ s)
 
 unfoldable pub entire : ℕ → ℕ → List Symbol → Res Says
-entire f d s = bind (statement f d s) ended
+entire f d s = bind (statement f d s) atEnd
 
 -- calls enough for all tokens
 abbrev pub calls : List Symbol → ℕ
@@ -223,9 +223,9 @@ pub data Read : Type 0 where
   read : Says → Read
   fault : ℕ → ℕ → Read
 
-abbrev pub answer : ℕ → End Says → Read
-answer n (got x t) = read x
-answer n (bad c t) = fault c (n - length t)
+abbrev pub rowAnswer : ℕ → End Says → Read
+rowAnswer n (got x t) = read x
+rowAnswer n (bad c t) = fault c (n - length t)
 
 unfoldable pub readRow : List Symbol → Read
-readRow row = answer (length row) (entire (calls row) levels row .end)
+readRow row = rowAnswer (length row) (entire (calls row) levels row .end)

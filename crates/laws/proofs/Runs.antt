@@ -10,7 +10,7 @@ use borrow.Author.Tests.{eq-eqb}
 use lib.Dec.{eqb}
 use lib.ListN.{length, getD, drop, length-drop, drop-of-length-le, List·getD-eq-default}
 use lib.Seq.{drop-cons}
-use Rattle.laws.specs.Runs.{run}
+use Rattle.laws.specs.Runs.{frontRun}
 use Rattle.laws.proofs.Tests.{bool-cases, not-both, lt-or-ge, cond-ind}
 
 module _ (p : ℕ → Bool) (s : List ℕ) (i : ℕ) where
@@ -20,21 +20,21 @@ module _ (p : ℕ → Bool) (s : List ℕ) (i : ℕ) where
       ⊎-elim (λ l. l) (λ g. absurd (not-both h (ap p (List·getD-eq-default s 0 g) ∙ z))) (lt-or-ge i (length s))
 
   -- a member that passes is the first of the run
-  pub run-more : p 0 ≡ false → p (getD s i 0) ≡ true → run p (drop i s) ≡ getD s i 0 ∷ run p (drop (i + 1) s)
-  unfolding run
+  pub run-more : p 0 ≡ false → p (getD s i 0) ≡ true → frontRun p (drop i s) ≡ getD s i 0 ∷ frontRun p (drop (i + 1) s)
+  unfolding frontRun
   run-more z h = let l = inside z h in rw (add-one, drop-cons s i 0 l, h)
 
   -- one that does not pass begins no run
-  pub run-stop : p (getD s i 0) ≡ false → run p (drop i s) ≡ []
-  unfolding run
+  pub run-stop : p (getD s i 0) ≡ false → frontRun p (drop i s) ≡ []
+  unfolding frontRun
   run-stop h = ⊎-elim (λ l. rw (drop-cons s i 0 l, h)) (λ g. rw (drop-of-length-le s g)) (lt-or-ge i (length s))
 
   -- the same, of the place behind the run
   pub run-len : p 0 ≡ false → p (getD s i 0) ≡ true
-      → i + length (run p (drop i s)) ≡ i + 1 + length (run p (drop (i + 1) s))
+      → i + length (frontRun p (drop i s)) ≡ i + 1 + length (frontRun p (drop (i + 1) s))
   run-len z h = omega (arith, ap length (run-more z h))
 
-  pub run-end : p (getD s i 0) ≡ false → i + length (run p (drop i s)) ≡ i
+  pub run-end : p (getD s i 0) ≡ false → i + length (frontRun p (drop i s)) ≡ i
   run-end h = omega (arith, ap length (run-stop h))
 
 -- what reads as a byte other than 0 stands before the end
@@ -43,31 +43,31 @@ held b s i z h = inside (λ (x : ℕ). eqb x b) s i z (eq-eqb (getD s i 0) b h)
 
 module _ (p : ℕ → Bool) where
   -- a run is no longer than its list
-  pub run-short : (xs : List ℕ) → length (run p xs) ≤ length xs
-  unfolding run
+  pub run-short : (xs : List ℕ) → length (frontRun p xs) ≤ length xs
+  unfolding frontRun
   run-short [] = zero-le
   run-short (x ∷ xs) =
-      cond-ind (λ (l : List ℕ). length l ≤ length (x ∷ xs)) (p x) (x ∷ run p xs) [] (λ _. suc-le-suc (run-short xs))
+      cond-ind (λ (l : List ℕ). length l ≤ length (x ∷ xs)) (p x) (x ∷ frontRun p xs) [] (λ _. suc-le-suc (run-short xs))
       (λ _. zero-le)
 
   -- so the place behind it is not past the end
-  pub run-room : (s : List ℕ) (i : ℕ) → i ≤ length s → i + length (run p (drop i s)) ≤ length s
+  pub run-room : (s : List ℕ) (i : ℕ) → i ≤ length s → i + length (frontRun p (drop i s)) ≤ length s
   run-room s i h = omega (arith, run-short (drop i s), length-drop i s)
 
   -- all members of a run pass: it is its own run
-  pub run-run : (xs : List ℕ) → run p (run p xs) ≡ run p xs
-  unfolding run
+  pub run-run : (xs : List ℕ) → frontRun p (frontRun p xs) ≡ frontRun p xs
+  unfolding frontRun
   run-run [] = refl
-  run-run (x ∷ xs) = cond-ind (λ (l : List ℕ). run p l ≡ l) (p x) (x ∷ run p xs) []
+  run-run (x ∷ xs) = cond-ind (λ (l : List ℕ). frontRun p l ≡ l) (p x) (x ∷ frontRun p xs) []
       (λ t. rw t (ap (λ (l : List ℕ). x ∷ l) (run-run xs))) (λ _. refl)
 
   -- where all members pass, the first does, and so do the others
-  pub all-pass : (x : ℕ) (xs : List ℕ) → run p (x ∷ xs) ≡ x ∷ xs → (p x ≡ true) × (run p xs ≡ xs)
-  unfolding run
+  pub all-pass : (x : ℕ) (xs : List ℕ) → frontRun p (x ∷ xs) ≡ x ∷ xs → (p x ≡ true) × (frontRun p xs ≡ xs)
+  unfolding frontRun
   all-pass x xs e = ⊎-elim (λ t. (t, both t)) (λ t. absurd (none t)) (bool-cases (p x))
     where
-      both : p x ≡ true → run p xs ≡ xs
-      both t = let f : x ∷ run p xs ≡ x ∷ xs = rw t at e in cc
+      both : p x ≡ true → frontRun p xs ≡ xs
+      both t = let f : x ∷ frontRun p xs ≡ x ∷ xs = rw t at e in cc
 
       none : p x ≡ false → ⊥
       none t = let f : [] ≡ x ∷ xs = rw t at e in let z : _≡_ {A = ℕ} 0 1 = cc in omega arith

@@ -3,6 +3,6 @@ use Prim.Native.Nat.{ℕ}
 use mathlib.Core.Bool.{Bool, cond}
 use mathlib.Core.List.{List, [], _∷_}
 
-unfoldable pub run : (ℕ → Bool) → List ℕ → List ℕ
-run p [] = []
-run p (x ∷ xs) = cond (p x) (x ∷ run p xs) []
+unfoldable pub frontRun : (ℕ → Bool) → List ℕ → List ℕ
+frontRun p [] = []
+frontRun p (x ∷ xs) = cond (p x) (x ∷ frontRun p xs) []

@@ -26,7 +26,7 @@ use Rattle.records.proofs.ReadBack.{length-program, program-back}
 use Rattle.evaluator.specs.Judge.{answer, judge}
 use Rattle.evaluator.specs.Evaluate.{refusal}
 use Rattle.model.specs.Text.{textDefinitions}
-use Rattle.meaning.specs.Slots.{definitionAt, Resolved}
+use Rattle.meaning.specs.Slots.{definitionAt, InitialIs}
 use Rattle.meaning.proofs.Texts.{FitsTree, definitions-fit, equations-fit}
 use Rattle.translator.proofs.Zero.{Clear, clear}
 use Rattle.meaning.proofs.Owned.{names-known}
@@ -56,7 +56,7 @@ module _ {text : List ℕ} {room : ℕ} {rs : List Rec} (c : Clear text room rs)
 
   -- each initial has its value
   pub initials : (i : ℕ) → i < length ds → (n : Initial) (t : Tree) → definitionAt ds i .what ≡ integral n t
-      → Resolved ds n (initialValue ds n)
+      → InitialIs ds n (initialValue ds n)
   initials = resolved ds (no-faults ss (c .clean) .1)
 
   -- the stack's places suffice for each

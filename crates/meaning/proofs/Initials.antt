@@ -17,7 +17,7 @@ use Rattle.model.specs.Definitions.{What, constant, assigned, integral, Def, ke
 use Rattle.model.specs.Faults.{namedBy, initialOf, constantKey, constantKeys, within, nameFault, nameFaults}
 use Rattle.program.specs.Program.{constantValue, valueIn, initialValue}
 use Rattle.model.proofs.NoModelFault.{no-name-fault}
-use Rattle.meaning.specs.Slots.{definitionAt, Resolved}
+use Rattle.meaning.specs.Slots.{definitionAt, InitialIs}
 use Rattle.meaning.proofs.Owned.{within-in}
 
 -- ---- a constant's name is that of a definition with its value
@@ -63,7 +63,7 @@ initials-known ds (d ∷ es) e (suc i) h =
 
 -- EACH INITIAL is resolved
 pub resolved : (ds : List Def) → nameFaults ds ds ≡ [] → (i : ℕ) → i < length ds → (n : Initial) (t : Tree)
-    → definitionAt ds i .what ≡ integral n t → Resolved ds n (initialValue ds n)
+    → definitionAt ds i .what ≡ integral n t → InitialIs ds n (initialValue ds n)
 unfolding count
 resolved ds e i h (plain x) t w = refl
 resolved ds e i h (from k) t w =

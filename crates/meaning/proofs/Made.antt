@@ -19,7 +19,7 @@ use Rattle.model.proofs.Lines.{no-equations}
 use Rattle.records.specs.declared.Instr.the-variants.{Constant as Fixed}
 use Rattle.records.specs.Record.{Rec, rec}
 use Rattle.program.specs.Program.{initialValue, constantRecs, initialRecs, equationRecs, program}
-use Rattle.meaning.specs.Slots.{definitionAt, Resolved}
+use Rattle.meaning.specs.Slots.{definitionAt, InitialIs}
 use Rattle.meaning.specs.Statements.{slotAmong, Resolves}
 use Rattle.meaning.specs.Recorded.{constantsFrom, initialsFrom, stepsFrom, equating, equatingIn, equatingAt}
 use Rattle.meaning.specs.Recorded.{MadeOf}
@@ -119,7 +119,7 @@ module _ (ss : List Numbered) where
 
   module _ (q : List ℕ) (g : GoodOrder ds q)
       (known : (i : ℕ) → i < length ds → (n : Initial) (t : Tree) → definitionAt ds i .what ≡ integral n t
-      → Resolved ds n (initialValue ds n)) where
+      → InitialIs ds n (initialValue ds n)) where
     -- in their order
     steps-made : orderedPart ds q
         ≡ concat-map (λ (i : ℕ). stepsFrom slot (equatingAt ss i .line) (equatingAt ss i .says)) q

@@ -16,7 +16,7 @@ use Rattle.records.specs.Record.{instrs}
 use Rattle.records.specs.Shape.{zero64}
 use Rattle.program.specs.Program.{initialValue, program}
 use Rattle.evaluator.specs.Evaluate.{startAll, moveAll, advanced}
-use Rattle.meaning.specs.Slots.{definitionAt, Resolved, SlotHolds}
+use Rattle.meaning.specs.Slots.{definitionAt, InitialIs, SlotHolds}
 use Rattle.meaning.specs.Slots.{SlotsHold}
 use Rattle.meaning.specs.Statements.{slotAmong, Resolves}
 use Rattle.meaning.specs.Statements.{ConstantHolds, AssignmentHolds, StateHolds, Solution, Beginning, Stepping}
@@ -85,7 +85,7 @@ module _ (ss : List Numbered) (once : Once (keys (definitions ss))) where
   -- ---- what is done for each state: the program in the order q
   module _ (few : length ds ≤ mostDefinitions) (q : List ℕ)
       (known : (i : ℕ) → i < length ds → (n : Initial) (t : Tree) → definitionAt ds i .what ≡ integral n t
-      → Resolved ds n (initialValue ds n)) where
+      → InitialIs ds n (initialValue ds n)) where
     module _ (v : List Float) (lv : slots ≤ length v) where
       -- TIME is 0
       abbrev v₀ : List Float

@@ -12,7 +12,7 @@ use Rattle.laws.proofs.Concats.{map-concat, concat-same}
 use Rattle.drafts.specs.Tree.{Tree, Constant, constantOf, Initial, plain, from, Says, constants, assignment, state}
 use Rattle.sheet.specs.Sheet.{Numbered}
 use Rattle.model.specs.Definitions.{What, constant, assigned, integral, Def, definedBy, definitions, keys}
-use Rattle.meaning.specs.Slots.{noDef, definitionAt, Resolved}
+use Rattle.meaning.specs.Slots.{noDef, definitionAt, InitialIs}
 use Rattle.meaning.specs.Statements.{namesSet, namesOf, Resolves, Asked, EachAsked}
 use Rattle.meaning.proofs.Texts.{every-member}
 
@@ -148,7 +148,7 @@ module _ (ss : List Numbered) where
       (λ s m. sources s m (s .says) refl) ss (every-member (λ (s : Numbered). List·Memᴰ s ss) ss (λ s m. m))
 
   -- so an initial that is resolved among the definitions is so among the statements
-  pub resolves : (i : Initial) (y : Float) → Resolved (definitions ss) i y → Resolves ss i y
+  pub resolves : (i : Initial) (y : Float) → InitialIs (definitions ss) i y → Resolves ss i y
   resolves (plain x) y r = r
   resolves (from k) y r =
       let at = every-at Source (definitions ss) noDef all-sources (r .0) (r .1) in

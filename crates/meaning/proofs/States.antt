@@ -19,7 +19,7 @@ use Rattle.records.specs.declared.Instr.{Instr}
 use Rattle.records.specs.Record.{instrs}
 use Rattle.program.specs.Program.{instrTwo, instrThree, initialValue, constantRecs, initialRecs, lastInstr, program}
 use Rattle.records.specs.Shape.{shapeOf}
-use Rattle.evaluator.specs.Evaluate.{initially, eachState}
+use Rattle.evaluator.specs.Evaluate.{ifInitial, eachState}
 use Rattle.meaning.specs.Slots.{definitionAt}
 use Rattle.meaning.proofs.Postfix.{steps}
 use Rattle.meaning.proofs.Owned.{slot-at}
@@ -38,7 +38,7 @@ module _ (to : Float → ℕ → Float → Float) where
 
   -- one record
   abbrev at-record : List Float → Instr → List Float
-  at-record v x = initially (one v) v (shapeOf x)
+  at-record v x = ifInitial (one v) v (shapeOf x)
 
   -- one list after another
   all-append : (v : List Float) (x y : List Instr) → all v (x ++ y) ≡ all (all v x) y

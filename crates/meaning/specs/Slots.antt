@@ -21,9 +21,9 @@ abbrev pub definitionAt : List Def → ℕ → Def
 definitionAt ds i = getD ds i noDef
 
 -- y is the value of an initial: a number is itself; a name is resolved, to the value of the constant of that name
-abbrev pub Resolved : List Def → Initial → Float → Type 0
-Resolved ds (plain x) y = y ≡ x
-Resolved ds (from k) y =
+abbrev pub InitialIs : List Def → Initial → Float → Type 0
+InitialIs ds (plain x) y = y ≡ x
+InitialIs ds (from k) y =
     (j : ℕ) × (j < length ds) × (definitionAt ds j .key ≡ k) × (definitionAt ds j .what ≡ constant y)
 
 -- ---- evaluating: v and d are the values and the derivatives before it, v′ and d′ those after it

@@ -19,7 +19,7 @@ use Rattle.model.specs.Faults.{faultIf, nameFault}
 use Rattle.drafts.specs.Kinds.{kindConstant, kindFetch, kindStore, kindRate, kindFrom, defines, isNamed, asks}
 use Rattle.drafts.specs.Places.{homeOf, begins, ends, anyOf}
 use Rattle.model.specs.Places.{resolvedAt, resolved, undefinedAt, unfitAt, namesAt}
-use Rattle.model.specs.Working.{flawedBy, flawedAt, Resolved, Resolving, flawOf}
+use Rattle.model.specs.Working.{flawedBy, flawedAt, Resolved, Resolving, nameFlaw}
 use Rattle.model.proofs.FaultsListed.{if-length}
 
 -- ---- tests one after the other
@@ -163,7 +163,7 @@ module _ {keys kinds places args₀ args : List ℕ} {flawed : Bool} {i : ℕ}
 module _ (f g : ℕ → Bool) (b : ℕ) where
   pub record Seeking (from i flaw : ℕ) : Type 0 where
     pub unfound : anyIn f (b - i) i ≡ anyIn f (b - from) from
-    pub fit : flaw ≡ flawOf false (ltb 0 flaw)
+    pub fit : flaw ≡ nameFlaw false (ltb 0 flaw)
     pub left : (ltb 0 flaw || anyIn g (b - i) i) ≡ anyIn g (b - from) from
 
 pub seeking-first : (f g : ℕ → Bool) (b from : ℕ) → Seeking f g b from from 0
@@ -171,7 +171,7 @@ seeking-first f g b from = record { unfound = refl; fit = refl; left = refl }
 
 module _ {f g : ℕ → Bool} {b from i flaw : ℕ} (v : Seeking f g b from i flaw) where
   -- a name that is undefined
-  pub seeking-found : i < b → f i ≡ true → 22 ≡ flawOf (anyIn f (b - from) from) (anyIn g (b - from) from)
+  pub seeking-found : i < b → f i ≡ true → 22 ≡ nameFlaw (anyIn f (b - from) from) (anyIn g (b - from) from)
   seeking-found h t = rw (← (v .unfound), any-stop f b i h t)
 
   -- an initial that is unfit, and none
@@ -190,7 +190,7 @@ module _ {f g : ℕ → Bool} {b from i flaw : ℕ} (v : Seeking f g b from i fl
       let rest = ap (λ (r : Bool). ltb 0 flaw || r) (sym (any-pass g b i h u)) in
       rw e (record { unfound = sym (any-pass f b i h t) ∙ v .unfound; fit = v .fit; left = rest ∙ v .left })
 
-  pub seeking-last : b ≤ i → flaw ≡ flawOf (anyIn f (b - from) from) (anyIn g (b - from) from)
+  pub seeking-last : b ≤ i → flaw ≡ nameFlaw (anyIn f (b - from) from) (anyIn g (b - from) from)
   seeking-last h =
       let none : anyIn f (b - from) from ≡ false = sym (v .unfound) ∙ any-done f b i h in
       let worst : ltb 0 flaw ≡ anyIn g (b - from) from = or-false-right (ltb 0 flaw) (any-done g b i h) ∙ v .left in
@@ -198,7 +198,7 @@ module _ {f g : ℕ → Bool} {b from i flaw : ℕ} (v : Seeking f g b from i fl
 
 -- a flaw as a fault
 pub flaw-fault : (u x : Bool) (line : ℕ)
-    → faultIf (ltb 0 (flawOf u x)) line (flawOf u x) ≡ nameFault (not u) (not x) line
+    → faultIf (ltb 0 (nameFlaw u x)) line (nameFlaw u x) ≡ nameFault (not u) (not x) line
 flaw-fault true x line = refl
 flaw-fault false true line = refl
 flaw-fault false false line = refl
@@ -209,17 +209,17 @@ pub names-single : (places lines bounds kinds slots : List ℕ) (j : ℕ)
 names-single places lines bounds kinds slots j =
     let u = anyOf bounds (undefinedAt (length places) kinds slots) j in
     let x = anyOf bounds (unfitAt places kinds slots) j in
-    rw (← (flaw-fault u x (getD lines j 0))) (if-length (ltb 0 (flawOf u x)) (getD lines j 0) (flawOf u x))
+    rw (← (flaw-fault u x (getD lines j 0))) (if-length (ltb 0 (nameFlaw u x)) (getD lines j 0) (nameFlaw u x))
 
 -- 22 or 23 at statement j, as it was found
 pub flaw-found : (places lines bounds kinds slots : List ℕ) (j : ℕ) {flaw line a b : ℕ}
-    → flaw ≡ flawOf (anyIn (undefinedAt (length places) kinds slots) (b - a) a)
+    → flaw ≡ nameFlaw (anyIn (undefinedAt (length places) kinds slots) (b - a) a)
     (anyIn (unfitAt places kinds slots) (b - a) a)
     → a ≡ begins bounds j → b ≡ ends bounds j → line ≡ getD lines j 0
     → faultIf (ltb 0 flaw) line flaw ≡ namesAt places lines bounds kinds slots j
 flaw-found places lines bounds kinds slots j {flaw} {line} {a} {b} e p q l =
     let found : ℕ → ℕ → ℕ = λ (x y : ℕ).
-    flawOf (anyIn (undefinedAt (length places) kinds slots) (y - x) x) (anyIn (unfitAt places kinds slots) (y - x) x) in
+    nameFlaw (anyIn (undefinedAt (length places) kinds slots) (y - x) x) (anyIn (unfitAt places kinds slots) (y - x) x) in
     ap₂ (λ (c n : ℕ). faultIf (ltb 0 c) n c) (e ∙ ap₂ found p q) l
     ∙ flaw-fault (anyOf bounds (undefinedAt (length places) kinds slots) j)
     (anyOf bounds (unfitAt places kinds slots) j) (getD lines j 0)

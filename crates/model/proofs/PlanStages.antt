@@ -17,7 +17,7 @@ use Rattle.laws.proofs.Runs.{held as stands}
 use Rattle.laws.proofs.Gathers.{any-none, none-any, gather-none, gather-short}
 use Rattle.sheet.specs.Sheet.{Fault, faultList}
 use Rattle.order.specs.Greedy.{order}
-use Rattle.order.specs.Table.{usesIn, Fit, fits}
+use Rattle.order.specs.Table.{usesByTable, Fit, fits}
 use Rattle.order.specs.Contract.{Sorts}
 use Rattle.order.specs.declared.Sorted.{Sorted}
 use Rattle.order.specs.declared.Sorted.the-variants.{Placed, Unfit}
@@ -32,7 +32,7 @@ use Rattle.model.specs.Plan.{Lent, lent, withPlaces, PlanOutcome, planOu
 use Rattle.model.specs.Plan.{inTurn, roomy, fit}
 use Rattle.model.specs.Plan.{orderedPlan, weighed, tested, ownSlots, ownUses, linkedPlan, distinct, sheeted}
 use Rattle.model.specs.Plan.{planned}
-use Rattle.model.specs.Working.{Reported, Collected, Keyed, flawedAt, Sound, Holds, Wide, Slotted, Owned}
+use Rattle.model.specs.Working.{Reported, Collected, Keyed, flawedAt, Follows, Holds, Wide, Slotted, Owned}
 use Rattle.model.specs.Working.{Linkable, Linked, Links, Searched, Weighs}
 use Rattle.model.specs.Working.{repeated}
 use Rattle.model.specs.declared.names.Walk.{Walk}
@@ -102,7 +102,7 @@ module _ {m : ℕ} {starts used array out : List ℕ} {r : Sorted} (v : Sorts m 
     (f : Fit m starts used)
     (w : mostStatements ≤ length array) where
   abbrev inOrder : List ℕ
-  inOrder = order m (usesIn starts used)
+  inOrder = order m (usesByTable starts used)
 
   sorts-room : m ≤ length array
   sorts-room = omega (arith, f .few)
@@ -165,7 +165,7 @@ equated-few n bounds kinds =
 
 -- ---- the table of uses is written
 module _ {lines bounds kinds keys places args slots used used′ starts equated : List ℕ} {m : ℕ} {n : Walk}
-    (s : Sound lines bounds kinds used)
+    (s : Follows lines bounds kinds used)
     (h : Holds equated m (equatedIn (length lines) bounds kinds))
     (k : Linked lines bounds kinds keys places n args slots (replicate (mostStatements + 1) 0) starts used used′) where
   abbrev listed : List ℕ
@@ -231,7 +231,7 @@ module _ {lines bounds kinds slots starts used equated : List ℕ} {m w : ℕ}
   pub weighed-by : {p : Plan} {faults′ placed′ : List ℕ} (n : ℕ) (faults placed : List ℕ)
       → ((slots filled places : List ℕ)
       → planOutcome p slots filled faults′ (lent places equated placed′)
-      ≡ orderedPlan (order m (usesIn (take (m + 1) starts) (take w used))) n (take m equated) lines slots filled faults
+      ≡ orderedPlan (order m (usesByTable (take (m + 1) starts) (take w used))) n (take m equated) lines slots filled faults
       (lent places equated placed))
       → (places : List ℕ)
       → planOutcome p slots used faults′ (lent places equated placed′)
@@ -240,7 +240,7 @@ module _ {lines bounds kinds slots starts used equated : List ℕ} {m w : ℕ}
   unfolding weighed
   weighed-by n faults placed e places = e slots used places ∙ same
     where
-      same : orderedPlan (order m (usesIn (take (m + 1) starts) (take w used))) n
+      same : orderedPlan (order m (usesByTable (take (m + 1) starts) (take w used))) n
           (take m equated) lines slots used faults
           (lent places equated placed)
           ≡ weighed (equatedIn (length lines) bounds kinds) n lines bounds kinds slots used faults
@@ -442,7 +442,7 @@ module _ {kinds args keys places places′ : List ℕ} {n : ℕ}
   pub places-front : n ≤ mostDefinitions → mostDefinitions ≤ length places → n ≡ length (take n places′)
   places-front h w = holds-front (places-held h w) .long
 
-  pub keyed : {lines bounds used : List ℕ} → Sound lines bounds kinds used → length kinds ≤ length args
+  pub keyed : {lines bounds used : List ℕ} → Follows lines bounds kinds used → length kinds ≤ length args
       → mostDefinitions ≤ length places
       → n ≤ mostDefinitions → Keyed lines bounds kinds args used (take n keys) (take n places′)
   keyed s w r h =
@@ -480,7 +480,7 @@ module _ {kinds args keys places places′ : List ℕ} {n : ℕ}
 -- ---- the arrays fit, or they do not
 pub fit-sound : (lines bounds kinds used equated order : List ℕ) (args faults places : ℕ)
     → fit lines bounds kinds args (length used) faults places (length equated) (length order) ≡ true
-    → Sound lines bounds kinds used × (length kinds ≤ args) × (mostDefinitions ≤ places) × Wide equated order
+    → Follows lines bounds kinds used × (length kinds ≤ args) × (mostDefinitions ≤ places) × Wide equated order
 unfolding fit roomy inTurn
 fit-sound lines bounds kinds used equated order args faults places e =
     let a = and-true (leb (length lines) mostStatements) _ e in

@@ -23,7 +23,7 @@ use Rattle.drafts.specs.Places.{begins, ends}
 use Rattle.model.specs.Places.{isEquation, equatedIn, assignedSlot, assignedSlots, usedBy, usedAt}
 use Rattle.model.specs.Places.{usedByStatement}
 use Rattle.model.specs.Places.{usedIn, startsFrom}
-use Rattle.model.specs.Working.{Rises, Sound}
+use Rattle.model.specs.Working.{Rises, Follows}
 use Rattle.model.proofs.DefinitionsCollected.{only-length}
 
 -- one place more
@@ -44,7 +44,7 @@ rises-to bounds (suc n) r j h =
     )) (eq-or-ne j (suc n))
 
 -- a statement ends within the drafts
-pub ends-within : {lines bounds kinds used : List ℕ} → Sound lines bounds kinds used → (j : ℕ) → j < length lines
+pub ends-within : {lines bounds kinds used : List ℕ} → Follows lines bounds kinds used → (j : ℕ) → j < length lines
     → ends bounds j ≤ length kinds
 ends-within {lines} {bounds} s j h =
     omega (arith, rises-to bounds (length lines) (s .rises) (j + 1) (omega arith), s .ended)

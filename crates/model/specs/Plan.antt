@@ -12,7 +12,7 @@ use Rattle.limits.specs.Limits.{mostStatements, mostDefinitions, textBytes, fau
 use Rattle.laws.specs.Places.{anyIn}
 use Rattle.sheet.specs.Sheet.{Fault, faultList}
 use Rattle.order.specs.Greedy.{order}
-use Rattle.order.specs.Table.{usesIn}
+use Rattle.order.specs.Table.{usesByTable}
 use Rattle.drafts.specs.Places.{begins, ends}
 use Rattle.model.specs.Places.{keysIn, placesIn, doubles, resolved, nameless, equatedIn, assignedSlots, usedIn}
 use Rattle.model.specs.Places.{startsFrom, loops}
@@ -101,7 +101,7 @@ weighed equated n lines bounds kinds slots used faults l =
     let assigned = assignedSlots equated bounds kinds slots in
     let table = usedIn assigned bounds kinds slots equated in
     let starts = startsFrom 0 assigned bounds kinds slots equated in
-    orderedPlan (order (length equated) (usesIn starts table)) n equated lines slots used faults l
+    orderedPlan (order (length equated) (usesByTable starts table)) n equated lines slots used faults l
 
 -- 22 and 23
 unfoldable pub tested : List ℕ → List ℕ → List ℕ → List ℕ → List ℕ → List ℕ → List ℕ → Lent → PlanOutcome

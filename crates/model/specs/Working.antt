@@ -36,7 +36,7 @@ pub record Rises (bounds : List ℕ) (n : ℕ) : Type 0 where
   pub rise : (j : ℕ) → j < n → begins bounds j ≤ ends bounds j
 
 -- the statements follow each other from draft 0 to the last, and there is room for all that they use
-pub record Sound (lines bounds kinds used : List ℕ) : Type 0 where
+pub record Follows (lines bounds kinds used : List ℕ) : Type 0 where
   pub few : length lines ≤ mostStatements
   pub small : length kinds ≤ textBytes
   pub room : length kinds ≤ length used
@@ -62,7 +62,7 @@ pub record Collected (kinds args : List ℕ) (r : ℕ) (keys keys′ places plac
 
 -- the keys and places of a sheet that fits are at hand
 pub record Keyed (lines bounds kinds args used keys places : List ℕ) : Type 0 where
-  pub sound : Sound lines bounds kinds used
+  pub sound : Follows lines bounds kinds used
   pub wide : length kinds ≤ length args
   pub few : length keys ≤ mostDefinitions
   pub keys-so : keys ≡ keysIn kinds args
@@ -130,8 +130,8 @@ abbrev pub flawedAt : List ℕ → List ℕ → List ℕ → ℕ → Bool
 flawedAt places kinds slots i = flawedBy places kinds (getD kinds i 0) (getD slots i 0)
 
 -- ---- 22 or 23, 0 for neither: by whether a name is undefined and whether an initial is unfit
-abbrev pub flawOf : Bool → Bool → ℕ
-flawOf undefined unfit = cond undefined 22 (cond unfit 23 0)
+abbrev pub nameFlaw : Bool → Bool → ℕ
+nameFlaw undefined unfit = cond undefined 22 (cond unfit 23 0)
 
 -- ---- a slot's equation: the place among the assigned slots and one more, 0 where none assigns it
 abbrev pub ownerIn : List ℕ → ℕ → ℕ
@@ -186,7 +186,7 @@ pub record Walked (keys kinds args : List ℕ) (from end c : ℕ) : Type 0 where
 
 -- what going over all drafts asks
 pub record Linkable (lines bounds kinds keys owners args used : List ℕ) : Type 0 where
-  pub sound : Sound lines bounds kinds used
+  pub sound : Follows lines bounds kinds used
   pub few : length keys ≤ mostDefinitions
   pub wide : length kinds ≤ length args
   pub owned : Owned (ownSlots (length lines) bounds kinds (resolved keys kinds args)) owners

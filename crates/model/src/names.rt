@@ -11,7 +11,7 @@ ghost use Rattle.drafts.specs.Kinds.{kindConstant, kindFrom, asks};
 ghost use Rattle.drafts.specs.Places.{homeOf};
 ghost use Rattle.model.specs.Places.{undefinedAt, unfitAt, nameless};
 ghost use Rattle.model.specs.Working.{Reported, Hinted, flawedBy, Walked, Resolving, Linking, Linkable, Linked};
-ghost use Rattle.model.specs.Working.{flawOf, Searched};
+ghost use Rattle.model.specs.Working.{nameFlaw, Searched};
 use super::equations::is_equation;
 use super::equations::put_if;
 use super::equations::put_use;
@@ -167,7 +167,7 @@ pub(crate) fn resolve(
 
 // 22 if a name of the drafts from a place on, before an end, is undefined, else 23 if an initial is unfit, else 0.
 fn flaw_in(places: &[u16], kinds: &[u8], slots: &[u64], from: usize, end: usize) -> u8
-    ensures { λ r. ⌜ r ≡ flawOf (anyIn (undefinedAt (length (now (places .entry))) (now (kinds .entry))
+    ensures { λ r. ⌜ r ≡ nameFlaw (anyIn (undefinedAt (length (now (places .entry))) (now (kinds .entry))
         (now (slots .entry))) (end - from) from)
         (anyIn (unfitAt (now (places .entry)) (now (kinds .entry)) (now (slots .entry))) (end - from) from) ⌝ }
 {

@@ -5,9 +5,9 @@ ghost use Prim.Native.Nat.{ℕ, _+_, _≤_};
 ghost use lib.ListN.{length, take, replicate};
 ghost use Rattle.limits.specs.Limits.{mostStatements, mostDefinitions};
 ghost use Rattle.order.specs.Greedy.{order};
-ghost use Rattle.order.specs.Table.{Fit, usesIn};
+ghost use Rattle.order.specs.Table.{Fit, usesByTable};
 ghost use Rattle.model.specs.Plan.{lent, refused, planOutcome, orderedPlan, sheeted};
-ghost use Rattle.model.specs.Working.{Sound, Holds, Wide, Hinted, Keyed, Links};
+ghost use Rattle.model.specs.Working.{Follows, Holds, Wide, Hinted, Keyed, Links};
 use super::answer::Plan;
 use super::collect::collect;
 use super::doubles::report_doubles;
@@ -111,7 +111,7 @@ fn place(
         × (mostStatements ≤ length (now placed)) ⌝ }
     ensures { λ r. ⌜ ((slots filled p : List ℕ) → planOutcome r slots filled (now (faults .exit))
         (lent p (now (equated .entry)) (now (placed .exit))) ≡
-        orderedPlan (order m (usesIn (now (starts .entry)) (now (used .entry)))) n (take m (now (equated .entry)))
+        orderedPlan (order m (usesByTable (now (starts .entry)) (now (used .entry)))) n (take m (now (equated .entry)))
         (now (lines .entry)) slots filled
         (now (faults .entry)) (lent p (now (equated .entry)) (now (placed .entry)))) ⌝ }
 {
@@ -143,7 +143,7 @@ pub(crate) fn run(
     equated: &mut [u16],
     placed: &mut [u16],
 ) -> Plan
-    requires { ⌜ Sound (now lines) (now bounds) (now kinds) (now used) × (length (now kinds) ≤ length (now args)) ×
+    requires { ⌜ Follows (now lines) (now bounds) (now kinds) (now used) × (length (now kinds) ≤ length (now args)) ×
         (mostDefinitions ≤ length (now places)) × Wide (now equated) (now placed) ⌝ }
     ensures { λ r. ⌜ planOutcome r (now (args .exit)) (now (used .exit)) (now (faults .exit))
         (lent (now (places .exit)) (now (equated .exit))

@@ -11,7 +11,7 @@ use lib.Seq.{getD-set-same, getD-set-other}
 use Rattle.limits.specs.Limits.{mostStatements}
 use Rattle.laws.proofs.Tests.{lt-or-ge, eq-or-ne, and-true, and-both, not-both}
 use Rattle.laws.proofs.Members.{in-has}
-use Rattle.order.specs.Table.{usedOf, usesIn, Fit}
+use Rattle.order.specs.Table.{usedOf, usesByTable, Fit}
 use Rattle.order.specs.Marks.{placedIn, openAt, freeIn, readyIn, none, flag, Cursors, Flags, Settles, zeros}
 use Rattle.order.specs.Greedy.{first}
 use Rattle.order.proofs.Searches.{first-from}
@@ -33,9 +33,9 @@ module _ (n : ℕ) (s u m : List ℕ) (j : ℕ) (lm : j < length m) where
   ready-more i e h =
       let b = and-true (not (placedIn m i)) (freeIn n s u m i) h in
       and-both (not (placedIn (set m j 1) i)) (freeIn n s u (set m j 1) i) (rw (getD-set-other m j i 1 0 e) (b .0))
-      (all-intro n (λ x. not (usesIn s u i x) || placedIn (set m j 1) x)
-      (λ x l. more (usesIn s u i x) (placedIn m x) (placed-more x)
-      (all-true n (λ y. not (usesIn s u i y) || placedIn m y) (b .1) x l)))
+      (all-intro n (λ x. not (usesByTable s u i x) || placedIn (set m j 1) x)
+      (λ x l. more (usesByTable s u i x) (placedIn m x) (placed-more x)
+      (all-true n (λ y. not (usesByTable s u i y) || placedIn m y) (b .1) x l)))
     where
       more : (a b : Bool) {c : Bool} → (b ≡ true → c ≡ true) → (not a || b) ≡ true → (not a || c) ≡ true
       more true b f z = f z
@@ -130,7 +130,7 @@ module _ {n : ℕ} {s u m f v : List ℕ} (t : Fit n s u) where
         }
 
     -- or it waits
-    pub flags-wait : Flags n k s u m f v p → (j : ℕ) → getD v′ x 0 ≡ j → j < n → usesIn s u x j ≡ true → getD m j 0 ≡ 0
+    pub flags-wait : Flags n k s u m f v p → (j : ℕ) → getD v′ x 0 ≡ j → j < n → usesByTable s u x j ≡ true → getD m j 0 ≡ 0
         → getD m x 0 ≡ 0 → getD f x 0 ≡ 0 → {c : ℕ} → ((i : ℕ) → i < c → (i ≡ x → ⊥) → i < k) → Flags n c s u m f v′ p
     flags-wait g j at hj uses mj z fz up =
         record {
@@ -178,7 +178,7 @@ module _ {n : ℕ} {s u m c : List ℕ} (t : Fit n s u) (g : Cursors n s u m c) 
         rw (← ek) at (first-hit (openAt u m) (b - (a + d)) (a + d) (omega (arith, ek))) in
         let free : getD m (getD u k 0) 0 ≤ 0 =
         ltb-false 0 (getD m (getD u k 0) 0) (not-true (placedIn m (getD u k 0)) hit) in
-        let uses : usesIn s u i (getD u k 0) ≡ true = rw (ek, ea, eb, ed) (goal-used n s u m c t g i hi o) in
+        let uses : usesByTable s u i (getD u k 0) ≡ true = rw (ek, ea, eb, ed) (goal-used n s u m c t g i hi o) in
         record {
           moved = rw (ek, ea, eb, ed) (goal-moves n s u m c t g i hi);
           flag-is = sym (ready-unplaced n s u m i z ∙ goal-open n s u m c t g i hi o);
@@ -208,7 +208,7 @@ module _ {n : ℕ} {s u m c : List ℕ} (t : Fit n s u) (g : Cursors n s u m c) 
   first-wait lt j ej mj e =
       let a = getD s i 0 in
       let ends = t .ends i hi in
-      let uses : usesIn s u i j ≡ true =
+      let uses : usesByTable s u i j ≡ true =
       rw ej (in-has (getD u a 0) (usedOf s u i) (in-part a (getD s (i + 1) 0) u ends a (omega arith) lt)) in
       let hj : j < n = rw ej (t .below a (omega arith)) in
       record {

@@ -14,7 +14,7 @@ use Rattle.laws.proofs.Tests.{bool-cases, not-both, lt-or-ge, eq-or-ne}
 use Rattle.laws.proofs.Counts.{has-true}
 use Rattle.laws.proofs.Members.{in-has}
 use Rattle.order.specs.Greedy.{first, ready}
-use Rattle.order.specs.Table.{usedOf, usesIn, Fit}
+use Rattle.order.specs.Table.{usedOf, usesByTable, Fit}
 use Rattle.order.specs.Marks.{placedIn, openAt, freeIn, readyIn, Cursors}
 use Rattle.order.proofs.Sorting.{all-true, all-intro, all-same, first-hit, first-before}
 use Rattle.order.proofs.Searches.{first-from}
@@ -57,19 +57,19 @@ module _ (n : ℕ) (s u m : List ℕ) (i : ℕ) where
   ready-unplaced e = rw (placed-no m i e)
 
   -- not so, if one that it uses is not
-  pub free-not : (x : ℕ) → usesIn s u i x ≡ true → x < n → getD m x 0 ≤ 0 → freeIn n s u m i ≡ false
+  pub free-not : (x : ℕ) → usesByTable s u i x ≡ true → x < n → getD m x 0 ≤ 0 → freeIn n s u m i ≡ false
   free-not x v l e =
       let no : freeIn n s u m i ≡ true → ⊥ = λ a.
-      let r = all-true n (λ j. not (usesIn s u i j) || placedIn m j) a x l in
+      let r = all-true n (λ j. not (usesByTable s u i j) || placedIn m j) a x l in
       not-both (rw v at r) (le-ltb 0 (getD m x 0) e) in
       ⊎-elim (λ a. absurd (no a)) (λ a. a) (bool-cases (freeIn n s u m i))
 
   -- marks that say what is placed say what is ready
   pub ready-same : (placed : List ℕ) → ((j : ℕ) → j < n → getD m j 0 ≡ count j placed) → i < n
-      → readyIn n s u m i ≡ ready n (usesIn s u) placed i
+      → readyIn n s u m i ≡ ready n (usesByTable s u) placed i
   unfolding readyIn ready
   ready-same placed e h =
-      let uses = usesIn s u i in
+      let uses = usesByTable s u i in
       rw (
         e i h,
         all-same (λ j. not (uses j) || placedIn m j) (λ j. not (uses j) || has j placed) n n (omega arith)
@@ -99,7 +99,7 @@ module _ (n : ℕ) (s u m c : List ℕ) (t : Fit n s u) (g : Cursors n s u m c) 
       (lt-or-ge (p - getD s i 0) (getD c i 0))
 
   -- before the end it has one that i uses
-  pub goal-used : goal < stop → usesIn s u i (getD u goal 0) ≡ true
+  pub goal-used : goal < stop → usesByTable s u i (getD u goal 0) ≡ true
   goal-used l =
       let lo = first-from (openAt u m) (stop - start) start in
       in-has (getD u goal 0) (usedOf s u i) (in-part (getD s i 0) stop u (t .ends i h) goal (omega arith) l)
@@ -118,7 +118,7 @@ module _ (n : ℕ) (s u m c : List ℕ) (t : Fit n s u) (g : Cursors n s u m c) 
   goal-end l =
       all-intro n _
       (λ j k.
-      implied (usesIn s u i j) (placedIn m j)
+      implied (usesByTable s u i j) (placedIn m j)
       (λ v.
       let r = part-place (getD s i 0) stop u (t .ends i h) j (has-true j (usedOf s u i) v) in
       rw (r .3) at (not-false (placedIn m (getD u (r .0) 0)) (before-goal (r .0) (r .1) (omega (arith, r .2))))))

@@ -16,9 +16,9 @@ use Rattle.laws.specs.Counts.{count}
 use Rattle.laws.proofs.Tests.{lt-or-ge, eq-or-ne}
 use Rattle.laws.proofs.Sets.{sets-append}
 use Rattle.laws.proofs.Counts.{count-snoc-same, count-snoc-other}
-use Rattle.order.specs.Greedy.{first, ready, next, place, order}
-use Rattle.order.specs.Table.{usesIn, Fit}
-use Rattle.order.specs.Marks.{readyIn, none, flag, State, Woken, Awake}
+use Rattle.order.specs.Greedy.{first, ready, leastReady, place, order}
+use Rattle.order.specs.Table.{usesByTable, Fit}
+use Rattle.order.specs.Marks.{readyIn, none, flag, Between, Woken, Awake}
 use Rattle.order.specs.Contract.{Filled}
 use Rattle.order.proofs.Sorting.{first-before, first-hit, first-same, ready-free, next-ready}
 use Rattle.order.proofs.Searches.{first-skip, first-bound}
@@ -34,14 +34,14 @@ pub record Going (n : ℕ) (s u lent out marks flags cursors heads links waits :
   pub size : length marks ≡ mostStatements
   pub content : out ≡ sets lent 0 (take k out)
   pub mark : (j : ℕ) → j < n → getD marks j 0 ≡ count j (take k out)
-  pub left : place n (usesIn s u) (n - k) (take k out) ≡ order n (usesIn s u)
-  pub state : State n n s u marks flags cursors heads links waits none none
+  pub left : place n (usesByTable s u) (n - k) (take k out) ≡ order n (usesByTable s u)
+  pub state : Between n n s u marks flags cursors heads links waits none none
   pub begun : from ≤ n
   pub clear : (j : ℕ) → j < from → getD flags j 0 ≡ 0
 
 -- none is placed
 pub going-start : {n : ℕ} {s u flags cursors heads links waits : List ℕ} (lent : List ℕ) → Fit n s u → n ≤ length lent
-    → State n n s u (replicate mostStatements 0) flags cursors heads links waits none none
+    → Between n n s u (replicate mostStatements 0) flags cursors heads links waits none none
     → Going n s u lent lent (replicate mostStatements 0) flags cursors heads links waits 0 0
 unfolding order count
 going-start {n} {s} {u} lent t h w =
@@ -62,7 +62,7 @@ module _ {n : ℕ} {s u lent out marks flags cursors heads links waits : List �
     (g : Going n s u lent out marks flags cursors heads links waits from k) where
   -- what each uses
   abbrev uses : ℕ → ℕ → Bool
-  uses = usesIn s u
+  uses = usesByTable s u
 
   -- what is placed
   abbrev placed : List ℕ
@@ -70,7 +70,7 @@ module _ {n : ℕ} {s u lent out marks flags cursors heads links waits : List �
 
   -- what is to be placed next
   abbrev chosen : ℕ
-  chosen = next n uses placed
+  chosen = leastReady n uses placed
 
   -- what the search from `from` on finds
   abbrev found : ℕ
@@ -78,7 +78,7 @@ module _ {n : ℕ} {s u lent out marks flags cursors heads links waits : List �
 
   -- that is the same
   going-next : found ≡ chosen
-  unfolding next
+  unfolding leastReady
   going-next =
       let flag-so : (i : ℕ) → i < n → flag flags i ≡ readyIn n s u marks i =
       flags-tell (g .fit) (g .state .known) (λ i _ l e. omega (arith, g .fit .few)) in

@@ -13,14 +13,14 @@ use Rattle.laws.specs.Counts.{once, count}
 use Rattle.laws.proofs.Stores.{count-set}
 use Rattle.laws.proofs.Counts.{once-same, once-other}
 use Rattle.order.specs.Table.{Fit}
-use Rattle.order.specs.Marks.{none, Leads, State, Settles, Blank, Woken, Awake}
+use Rattle.order.specs.Marks.{none, Leads, Between, Settles, Blank, Woken, Awake}
 use Rattle.order.proofs.Marking.{cursors-none}
 use Rattle.order.proofs.Queues.{open-list, close-list, first-waits, pop, push}
 use Rattle.order.proofs.Flagging.{flags-none, flags-ready, flags-wait, waits-open}
 
 -- ---- all at first: those before k are settled
 pub record Beginning (n k : ℕ) (s u m f c h l v : List ℕ) : Type 0 where
-  pub state : State n k s u m f c h l v none none
+  pub state : Between n k s u m f c h l v none none
   pub unplaced : (i : ℕ) → i < n → getD m i 0 ≡ 0
   pub unflagged : (i : ℕ) → k ≤ i → i < n → getD f i 0 ≡ 0
   pub idle : (i : ℕ) → k ≤ i → i < n → getD v i 0 ≡ none
@@ -81,16 +81,16 @@ module _ {n k : ℕ} {s u m f c h l v c′ h′ l′ v′ : List ℕ} (t : Fit n
       }
 
 pub begin-last : {n k : ℕ} {s u m f c h l v : List ℕ} → Beginning n k s u m f c h l v → k ≡ n
-    → State n n s u m f c h l v none none
+    → Between n n s u m f c h l v none none
 begin-last {n} {k} {s} {u} {m} {f} {c} {h} {l} {v} g e =
-    subst (λ (i : ℕ). State n i s u m f c h l v none none) e (g .state)
+    subst (λ (i : ℕ). Between n i s u m f c h l v none none) e (g .state)
 
 -- ---- those that wait for j, from x on
 pub record Waking (n : ℕ) (s u m f c h l v : List ℕ) (j low : ℕ) (x early : ℕ) : Type 0 where
   pub fit : Fit n s u
   pub one : j < n
   pub mark : 0 < getD m j 0
-  pub state : State n n s u m f c h l v j x
+  pub state : Between n n s u m f c h l v j x
   pub before : early ≤ low
   pub clear : (i : ℕ) → i < early → getD f i 0 ≡ 0
 

@@ -15,7 +15,7 @@ use Rattle.laws.proofs.Tests.{bool-cases, not-both, lt-or-ge, eq-or-ne, cond-in
 use Rattle.laws.proofs.Counts.{count-append, once-other, count-cons-same, count-snoc-same, count-snoc-other, has-true}
 use Rattle.laws.proofs.Counts.{has-false, place-of}
 use Rattle.order.specs.Order.{Permutation, _≼_, EachAfter, Good, Chain, Unsortable}
-use Rattle.order.specs.Greedy.{all, first, ready, next, place, order, LeftOver}
+use Rattle.order.specs.Greedy.{all, first, ready, leastReady, place, order, LeftOver}
 use Rattle.order.proofs.Dictionary.{≼-prefix, ≼-append}
 
 -- ---- `all` and `first`
@@ -145,27 +145,27 @@ module _ (n : ℕ) (uses : ℕ → ℕ → Bool) where
       (bool-cases (ready n uses l i))
 
   -- the next is ready
-  pub next-ready : (l : List ℕ) → next n uses l < n → ready n uses l (next n uses l) ≡ true
-  unfolding next
+  pub next-ready : (l : List ℕ) → leastReady n uses l < n → ready n uses l (leastReady n uses l) ≡ true
+  unfolding leastReady
   next-ready l h = first-hit (ready n uses l) n 0 (omega arith)
 
   -- and the least that is
-  next-least : (l : List ℕ) (j : ℕ) → ready n uses l j ≡ true → next n uses l ≤ j
-  unfolding next
+  next-least : (l : List ℕ) (j : ℕ) → ready n uses l j ≡ true → leastReady n uses l ≤ j
+  unfolding leastReady
   next-least l j e = first-least (ready n uses l) n 0 j (omega arith) e
 
   -- where there is none, none is ready
-  next-none : (l : List ℕ) → n ≤ next n uses l → (j : ℕ) → j < n → ready n uses l j ≡ false
-  unfolding next
+  next-none : (l : List ℕ) → n ≤ leastReady n uses l → (j : ℕ) → j < n → ready n uses l j ≡ false
+  unfolding leastReady
   next-none l h j m = first-before (ready n uses l) n 0 j (omega arith) (omega arith)
 
   -- what each step keeps holds at the end
-  place-keeps : (P : List ℕ → Type 0) → ((l : List ℕ) → P l → next n uses l < n → P (l ++ (next n uses l ∷ [])))
+  place-keeps : (P : List ℕ → Type 0) → ((l : List ℕ) → P l → leastReady n uses l < n → P (l ++ (leastReady n uses l ∷ [])))
       → (k : ℕ) (l : List ℕ) → P l → P (place n uses k l)
   unfolding place
   place-keeps P step zero l p = p
   place-keeps P step (suc k) l p =
-      cond-ind P (ltb (next n uses l) n) _ l (λ t. place-keeps P step k _ (step l p (ltb-true _ _ t))) (λ t. p)
+      cond-ind P (ltb (leastReady n uses l) n) _ l (λ t. place-keeps P step k _ (step l p (ltb-true _ _ t))) (λ t. p)
 
   -- ---- what the order keeps
 
@@ -179,41 +179,41 @@ module _ (n : ℕ) (uses : ℕ → ℕ → Bool) where
   distinct-nil i = (omega arith, λ h. refl)
 
   -- and with one more
-  distinct-step : (l : List ℕ) → Distinct l → next n uses l < n → Distinct (l ++ (next n uses l ∷ []))
+  distinct-step : (l : List ℕ) → Distinct l → leastReady n uses l < n → Distinct (l ++ (leastReady n uses l ∷ []))
   unfolding Distinct
   distinct-step l d h i =
       ⊎-elim
       (λ e. rw e (
-        omega (arith, count-snoc-same (next n uses l) l, ready-free l (next n uses l) (next-ready l h)),
+        omega (arith, count-snoc-same (leastReady n uses l) l, ready-free l (leastReady n uses l) (next-ready l h)),
         λ g. absurd (omega (arith, h, e)),
       ))
-      (λ e. let c = count-snoc-other i (next n uses l) l e in (omega (arith, d i .0), λ g. c ∙ d i .1 g))
-      (eq-or-ne i (next n uses l))
+      (λ e. let c = count-snoc-other i (leastReady n uses l) l e in (omega (arith, d i .0), λ g. c ∙ d i .1 g))
+      (eq-or-ne i (leastReady n uses l))
 
   -- each stands after all it uses: at first
   after-nil : EachAfter n uses []
   after-nil p j h = absurd (omega arith)
 
   -- and with one more
-  after-step : (l : List ℕ) → EachAfter n uses l → next n uses l < n → EachAfter n uses (l ++ (next n uses l ∷ []))
+  after-step : (l : List ℕ) → EachAfter n uses l → leastReady n uses l < n → EachAfter n uses (l ++ (leastReady n uses l ∷ []))
   after-step l a h p j m hj u =
       ⊎-elim
       (λ e.
-      rw (take-at l (next n uses l ∷ []) p (sym e))
-      (ready-after l _ (next-ready l h) j hj (rw (getD-at l (next n uses l) [] 0 p (sym e)) at u)))
+      rw (take-at l (leastReady n uses l ∷ []) p (sym e))
+      (ready-after l _ (next-ready l h) j hj (rw (getD-at l (leastReady n uses l) [] 0 p (sym e)) at u)))
       (λ g.
       let le : p ≤ length l = omega arith in
-      rw (take-append-le p l (next n uses l ∷ []) le)
-      (a p j g hj (rw (List·getD-append l (next n uses l ∷ []) 0 p g) at u)))
-      (eq-or-lt-of-le {n = p} {m = length l} (omega (arith, length-append l (next n uses l ∷ []))))
+      rw (take-append-le p l (leastReady n uses l ∷ []) le)
+      (a p j g hj (rw (List·getD-append l (leastReady n uses l ∷ []) 0 p g) at u)))
+      (eq-or-lt-of-le {n = p} {m = length l} (omega (arith, length-append l (leastReady n uses l ∷ []))))
 
   -- no more are placed than tried
   pub place-length : (k : ℕ) (l : List ℕ) → length (place n uses k l) ≤ length l + k
   unfolding place
   place-length zero l = omega arith
   place-length (suc k) l =
-      cond-ind (λ r. length r ≤ length l + suc k) (ltb (next n uses l) n) _ l
-      (λ t. omega (arith, place-length k (l ++ (next n uses l ∷ [])), length-append l (next n uses l ∷ [])))
+      cond-ind (λ r. length r ≤ length l + suc k) (ltb (leastReady n uses l) n) _ l
+      (λ t. omega (arith, place-length k (l ++ (leastReady n uses l ∷ [])), length-append l (leastReady n uses l ∷ [])))
       (λ t. omega arith)
 
   -- the numbers not placed and the places make n
@@ -221,11 +221,11 @@ module _ (n : ℕ) (uses : ℕ → ℕ → Bool) where
   Full l = free n l + length l ≡ n
 
   -- so they do with one more
-  full-step : (l : List ℕ) → Full l → next n uses l < n → Full (l ++ (next n uses l ∷ []))
+  full-step : (l : List ℕ) → Full l → leastReady n uses l < n → Full (l ++ (leastReady n uses l ∷ []))
   unfolding Full
   full-step l f h =
       omega
-      (arith, free-snoc n (next n uses l) l h (ready-free l _ (next-ready l h)), length-append l (next n uses l ∷ []))
+      (arith, free-snoc n (leastReady n uses l) l h (ready-free l _ (next-ready l h)), length-append l (leastReady n uses l ∷ []))
 
   -- in the end none is ready
   stuck : (k : ℕ) (l : List ℕ) → free n l ≤ k → (i : ℕ) → i < n → ready n uses (place n uses k l) i ≡ false
@@ -234,11 +234,11 @@ module _ (n : ℕ) (uses : ℕ → ℕ → Bool) where
       ⊎-elim (λ t. absurd (omega (arith, ready-free l i t, free-zero n l (omega arith) i hi))) (λ t. t)
       (bool-cases (ready n uses l i))
   stuck (suc k) l h i hi =
-      cond-ind (λ r. ready n uses r i ≡ false) (ltb (next n uses l) n) _ l
+      cond-ind (λ r. ready n uses r i ≡ false) (ltb (leastReady n uses l) n) _ l
       (λ t.
-      let g = ltb-true (next n uses l) n t in
-      stuck k (l ++ (next n uses l ∷ []))
-      (omega (arith, free-snoc n (next n uses l) l g (ready-free l _ (next-ready l g)))) i hi)
+      let g = ltb-true (leastReady n uses l) n t in
+      stuck k (l ++ (leastReady n uses l ∷ []))
+      (omega (arith, free-snoc n (leastReady n uses l) l g (ready-free l _ (next-ready l g)))) i hi)
       (λ t. next-none l (ltb-false _ _ t) i hi)
 
   -- so it is of the order: none stands twice
@@ -367,10 +367,10 @@ module _ (n : ℕ) (uses : ℕ → ℕ → Bool) where
   unfolding place
   place-front zero l = ([], sym (append-nil l))
   place-front (suc k) l =
-      cond-ind (λ (x : List ℕ). (r : List ℕ) × (x ≡ l ++ r)) (ltb (next n uses l) n) _ l
+      cond-ind (λ (x : List ℕ). (r : List ℕ) × (x ≡ l ++ r)) (ltb (leastReady n uses l) n) _ l
       (λ t.
-      let r = place-front k (l ++ (next n uses l ∷ [])) in
-      (next n uses l ∷ r .0, r .1 ∙ append-assoc l (next n uses l ∷ []) (r .0)))
+      let r = place-front k (l ++ (leastReady n uses l ∷ [])) in
+      (leastReady n uses l ∷ r .0, r .1 ∙ append-assoc l (leastReady n uses l ∷ []) (r .0)))
       (λ t. ([], sym (append-nil l)))
 
   -- what is placed on behind the front of a good list comes first
@@ -378,24 +378,24 @@ module _ (n : ℕ) (uses : ℕ → ℕ → Bool) where
   unfolding place count
   least zero p q g = ≼-prefix p q
   least (suc k) p [] g =
-      cond-ind (λ r. r ≼ p ++ []) (ltb (next n uses p) n) _ p
+      cond-ind (λ r. r ≼ p ++ []) (ltb (leastReady n uses p) n) _ p
       (λ t.
-      let h = ltb-true (next n uses p) n t in
-      absurd (omega (arith, ready-free p _ (next-ready p h), g .perm .within _ h, count-append (next n uses p) p [])))
+      let h = ltb-true (leastReady n uses p) n t in
+      absurd (omega (arith, ready-free p _ (next-ready p h), g .perm .within _ h, count-append (leastReady n uses p) p [])))
       (λ t. ≼-prefix p [])
   least (suc k) p (b ∷ q) g =
       let c = count-append b p (b ∷ q) in
       let d = count-cons-same b q in
       let hb = perm-below (p ++ b ∷ q) (g .perm) b (omega arith) in
       let r = ready-intro p b (omega (arith, g .perm .within b hb)) (after-front p b q (g .after)) in
-      cond-ind (λ r. r ≼ p ++ b ∷ q) (ltb (next n uses p) n) _ p
+      cond-ind (λ r. r ≼ p ++ b ∷ q) (ltb (leastReady n uses p) n) _ p
       (λ t.
       ⊎-elim
-      (λ (e : next n uses p ≡ b). rw (e, ← append-assoc p (b ∷ []) q)
+      (λ (e : leastReady n uses p ≡ b). rw (e, ← append-assoc p (b ∷ []) q)
       (least k (p ++ (b ∷ [])) q (rw (append-assoc p (b ∷ []) q) g)))
       (λ l.
-      let f = place-front k (p ++ (next n uses p ∷ [])) in
-      rw (f .1, append-assoc p (next n uses p ∷ []) (f .0)) (≼-append p (next n uses p ∷ f .0) (b ∷ q) (inl l)))
+      let f = place-front k (p ++ (leastReady n uses p ∷ [])) in
+      rw (f .1, append-assoc p (leastReady n uses p ∷ []) (f .0)) (≼-append p (leastReady n uses p ∷ f .0) (b ∷ q) (inl l)))
       (eq-or-lt-of-le (next-least p b r))) (λ t. ≼-prefix p (b ∷ q))
 
   -- the order is the first of all good ones in dictionary order
@@ -413,8 +413,8 @@ module _ (n : ℕ) (uses : ℕ → ℕ → Bool) where
 -- ---- the order looks only at what statements use of one another
 module _ (n : ℕ) (u v : ℕ → ℕ → Bool) (same : (i j : ℕ) → i < n → j < n → u i j ≡ v i j) where
   -- the next is the same
-  next-same : (l : List ℕ) → next n u l ≡ next n v l
-  unfolding next ready
+  next-same : (l : List ℕ) → leastReady n u l ≡ leastReady n v l
+  unfolding leastReady ready
   next-same l =
       first-same (ready n u l) (ready n v l) n n 0 (omega arith)
       (λ i h.
@@ -426,7 +426,7 @@ module _ (n : ℕ) (u v : ℕ → ℕ → Bool) (same : (i j : ℕ) → i < n �
   place-same : (k : ℕ) (l : List ℕ) → place n u k l ≡ place n v k l
   unfolding place
   place-same zero l = refl
-  place-same (suc k) l = rw (next-same l, place-same k (l ++ (next n v l ∷ [])))
+  place-same (suc k) l = rw (next-same l, place-same k (l ++ (leastReady n v l ∷ [])))
 
   -- and the order
   pub order-same : order n u ≡ order n v

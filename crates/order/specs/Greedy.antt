@@ -26,14 +26,14 @@ module _ (n : ℕ) (uses : ℕ → ℕ → Bool) where
   ready placed i = not (has i placed) && all n (λ j. not (uses i j) || has j placed)
 
   -- the least that is ready, n where none is
-  unfoldable pub next : List ℕ → ℕ
-  next placed = first (ready placed) n 0
+  unfoldable pub leastReady : List ℕ → ℕ
+  leastReady placed = first (ready placed) n 0
 
   -- place the least that is ready, k times or until none is
   unfoldable pub place : ℕ → List ℕ → List ℕ
   place zero placed = placed
   place (suc k) placed =
-      let i = next placed in
+      let i = leastReady placed in
       let r = place k (placed ++ (i ∷ [])) in
       cond (ltb i n) r placed
 

@@ -9,7 +9,7 @@ use lib.ListN.{length, getD, set, replicate}
 use Rattle.limits.specs.Limits.{mostStatements}
 use Rattle.laws.specs.Counts.{once, count, _∈_}
 use Rattle.order.specs.Greedy.{all}
-use Rattle.order.specs.Table.{usesIn, Fit}
+use Rattle.order.specs.Table.{usesByTable, Fit}
 
 -- j is placed: it has its mark
 abbrev pub placedIn : List ℕ → ℕ → Bool
@@ -21,7 +21,7 @@ openAt used marks p = not (placedIn marks (getD used p 0))
 
 -- all that i uses is placed
 abbrev pub freeIn : ℕ → List ℕ → List ℕ → List ℕ → ℕ → Bool
-freeIn n starts used marks i = all n (λ j. not (usesIn starts used i j) || placedIn marks j)
+freeIn n starts used marks i = all n (λ j. not (usesByTable starts used i j) || placedIn marks j)
 
 -- i is not placed, and all that it uses is
 unfoldable pub readyIn : ℕ → List ℕ → List ℕ → List ℕ → ℕ → Bool
@@ -73,11 +73,11 @@ pub record Flags (n k : ℕ) (starts used marks flags waits : List ℕ) (p : ℕ
   pub flagged : (i : ℕ) → i < k → 0 < getD flags i 0 → (readyIn n starts used marks i ≡ true) × (getD waits i 0 ≡ none)
   pub placed : (i : ℕ) → i < k → 0 < getD marks i 0 → getD waits i 0 ≡ none
   pub blocked : (i : ℕ) → i < k → getD marks i 0 ≡ 0 → getD flags i 0 ≡ 0
-      → (getD waits i 0 < n) × (usesIn starts used i (getD waits i 0) ≡ true)
+      → (getD waits i 0 < n) × (usesByTable starts used i (getD waits i 0) ≡ true)
       × ((getD waits i 0 ≡ p → ⊥) → getD marks (getD waits i 0) 0 ≡ 0)
 
 -- all that is known between two steps
-pub record State (n k : ℕ) (starts used marks flags cursors heads links waits : List ℕ) (p x : ℕ) : Type 0 where
+pub record Between (n k : ℕ) (starts used marks flags cursors heads links waits : List ℕ) (p x : ℕ) : Type 0 where
   pub moved : Cursors n starts used marks cursors
   pub lists : Queues n heads links waits p x
   pub known : Flags n k starts used marks flags waits p
@@ -89,7 +89,7 @@ pub record Settles (n : ℕ) (starts used marks : List ℕ) (i : ℕ) (r : Bool)
   pub moved : Cursors n starts used marks cursors
   pub flag-is : r ≡ readyIn n starts used marks i
   pub kept : r ≡ true → (heads′ ≡ heads) × (links′ ≡ links) × (waits′ ≡ waits)
-  pub hung : r ≡ false → (j : ℕ) × (j < n) × (usesIn starts used i j ≡ true) × (getD marks j 0 ≡ 0)
+  pub hung : r ≡ false → (j : ℕ) × (j < n) × (usesByTable starts used i j ≡ true) × (getD marks j 0 ≡ 0)
       × (heads′ ≡ set heads j i) × (links′ ≡ set links i (getD heads j 0)) × (waits′ ≡ set waits i j)
 
 -- an array at first
@@ -98,7 +98,7 @@ zeros = replicate mostStatements 0
 
 -- at first no statement is placed, flagged or waits
 pub record Blank (n : ℕ) (starts used marks flags cursors heads links waits : List ℕ) : Type 0 where
-  pub state : State n 0 starts used marks flags cursors heads links waits none none
+  pub state : Between n 0 starts used marks flags cursors heads links waits none none
   pub unplaced : (i : ℕ) → i < n → getD marks i 0 ≡ 0
   pub unflagged : (i : ℕ) → i < n → getD flags i 0 ≡ 0
   pub idle : (i : ℕ) → i < n → getD waits i 0 ≡ none
@@ -115,6 +115,6 @@ pub record Woken (n : ℕ) (starts used marks flags cursors heads links waits : 
 
 -- nobody does; no flag is set before r
 pub record Awake (n : ℕ) (starts used marks flags cursors heads links waits : List ℕ) (low r : ℕ) : Type 0 where
-  pub state : State n n starts used marks flags cursors heads links waits none none
+  pub state : Between n n starts used marks flags cursors heads links waits none none
   pub early : r ≤ low
   pub clear : (i : ℕ) → i < r → getD flags i 0 ≡ 0

@@ -14,8 +14,8 @@ abbrev pub usedOf : List ℕ → List ℕ → ℕ → List ℕ
 usedOf starts used i = slice (getD starts i 0) (getD starts (i + 1) 0) used
 
 -- i uses j
-abbrev pub usesIn : List ℕ → List ℕ → ℕ → ℕ → Bool
-usesIn starts used i j = has j (usedOf starts used i)
+abbrev pub usesByTable : List ℕ → List ℕ → ℕ → ℕ → Bool
+usesByTable starts used i j = has j (usedOf starts used i)
 
 -- a table of n statements: there is a start for each, their uses end inside, and only the n are used
 pub record Fit (n : ℕ) (starts used : List ℕ) : Type 0 where

@@ -5,7 +5,7 @@ ghost use lib.ListN.{length, getD, set};
 ghost use Rattle.limits.specs.Limits.{mostStatements};
 ghost use Rattle.order.specs.Greedy.{all, first};
 ghost use Rattle.order.specs.Table.{Fit, endsIn, belowAt, fits};
-ghost use Rattle.order.specs.Marks.{openAt, none, zeros, flag, someFlag, Cursors, Settles, Blank, State, Woken};
+ghost use Rattle.order.specs.Marks.{openAt, none, zeros, flag, someFlag, Cursors, Settles, Blank, Between, Woken};
 ghost use Rattle.order.specs.Marks.{Awake};
 ghost use Rattle.order.specs.Contract.{Filled, Sorts};
 use bits::least;
@@ -172,7 +172,7 @@ fn settle_all(
 )
     requires { ⌜ Fit n (now starts) (now used)
         × Blank n (now starts) (now used) zeros (now ready) zeros (now heads) (now links) (now waits) ⌝ }
-    ensures { λ _. ⌜ State n n (now (starts .entry)) (now (used .entry)) zeros (now (ready .exit)) zeros
+    ensures { λ _. ⌜ Between n n (now (starts .entry)) (now (used .entry)) zeros (now (ready .exit)) zeros
         (now (heads .exit)) (now (links .exit)) (now (waits .exit)) none none ⌝ }
 {
     let mut i = 0;

@@ -14,7 +14,7 @@ use Rattle.translator.proofs.Agreement as of-translator
 use Rattle.listing_text.proofs.Agreement as of-listing
 use Rattle.floesedge.proofs.Agreement as of-library
 use Rattle.tally.proofs.Agreement as of-tally
-use Rattle.promises.specs.Agreement.{Bits, Deck, Tokens, Drafts, Grammar, Order, Records, Sheet, Model, Program}
+use Rattle.promises.specs.Agreement.{Bits, Deck, Tokens, Drafts, Grammar, Order, Records, Sheets, Model, Program}
 use Rattle.promises.specs.Agreement.{Evaluator, Translator, Listing, Library, Counting}
 
 pub bits : Bits
@@ -67,7 +67,7 @@ order = record { sort = of-order.sort }
 pub records : Records
 records = record { read = of-records.read; decode = of-records.decode }
 
-pub sheet : Sheet
+pub sheet : Sheets
 sheet = record { put-fault = of-sheet.put-fault }
 
 pub model : Model

@@ -4,17 +4,17 @@ use mathlib.Core.List.{map, List·Memᴰ}
 use lib.Ieee.{ofBits, ofInt, mul, div, neg, round, units, size, climb, span, odd}
 use Rattle.laws.specs.Text.{bytes}
 use Rattle.laws.specs.Lists.{concat-map, sameBytes, numbers}
-use Rattle.laws.specs.Runs.{run}
+use Rattle.laws.specs.Runs.{frontRun}
 use Rattle.laws.specs.Counts.{count}
 use Rattle.laws.proofs.EachMember.{at-mem}
 use Rattle.limits.specs.Limits.{faultRoom, programRoom, stackPlaces}
 use Rattle.bits.specs.Low.{lowWord}
 use Rattle.deck.specs.Lines.{linesOf, trimmed, dotted, passed}
 use Rattle.deck.specs.Reading.{after, ended, left, reading}
-use Rattle.deck.specs.Joined.{partOf, joined}
+use Rattle.deck.specs.Joined.{linePart, joined}
 use Rattle.deck.specs.Faults.{anyLong, sizeFlaw}
-use Rattle.tokens.specs.Number.{decimal, digitsFrom, exponentFrom, tenTo, scaled, numberOf as tokenOf}
-use Rattle.tokens.specs.Token.{numberAt, nameAt, tokenAt, cutAt}
+use Rattle.tokens.specs.Number.{decimal, digitsFrom, exponentFrom, tenTo, scaled, rangedNumber as tokenOf}
+use Rattle.tokens.specs.Token.{numberCut, nameAt, tokenAt, cutAt}
 use Rattle.tokens.specs.Symbol.{lookUp, symbolNamed}
 use Rattle.tokens.specs.Row.{rowFrom, rowOf}
 use Rattle.drafts.specs.Tree.{names}
@@ -24,7 +24,7 @@ use Rattle.grammar.specs.Parser.{bind, parse, signedNumber, many, initially, as
 use Rattle.grammar.specs.Parser.{readRow}
 use Rattle.sheet.specs.Reader.{told, sheetOf}
 use Rattle.order.specs.Order.{any, chained}
-use Rattle.order.specs.Greedy.{all, first, ready, next as nextReady, place, order}
+use Rattle.order.specs.Greedy.{all, first, ready, leastReady, place, order}
 use Rattle.model.specs.Definitions.{placeIn}
 use Rattle.model.specs.Faults.{again, faults21, within, modelFaults}
 use Rattle.program.specs.Program.{valueIn, program}
@@ -36,13 +36,13 @@ use Rattle.promises.specs.Table.{Trial, trials, shown, wanted, tank, dec
 -- THE TABLE. Each text has the verdict and the listing that stand beside it
 pub tried : map shown trials ≡ map wanted trials
 unfolding trials listing listingOf figuresIn verdictOf decided linesOf trimmed dotted passed after ended left reading
-    partOf joined anyLong sizeFlaw told sheetOf
-    concat-map sameBytes numbers run count lowWord decimal digitsFrom exponentFrom tenTo scaled tokenOf numberAt nameAt
+    linePart joined anyLong sizeFlaw told sheetOf
+    concat-map sameBytes numbers frontRun count lowWord decimal digitsFrom exponentFrom tenTo scaled tokenOf numberCut nameAt
     tokenAt cutAt
     lookUp symbolNamed rowFrom rowOf
     names postfix next rest byteOf give-to factorStart startOf bind parse signedNumber many initially assigned
     integrated statement entire readRow
-    any chained all first ready nextReady place order placeIn again faults21 within modelFaults valueIn program ofBits
+    any chained all first ready leastReady place order placeIn again faults21 within modelFaults valueIn program ofBits
     ofInt mul div neg round
     units size climb span odd
 tried = refl
@@ -55,14 +55,14 @@ each-trial = at-mem shown wanted trials tried
 pub computed : (heightOf (verdictOf deck faultRoom programRoom) ≡ stackPlaces)
     × (numberFor (bytes tank) ≡ 0) × Plain (bytes tank)
     × (numberFor loop ≡ 7) × Plain loop
-unfolding highest verdictOf decided linesOf trimmed dotted passed after ended left reading partOf joined anyLong
+unfolding highest verdictOf decided linesOf trimmed dotted passed after ended left reading linePart joined anyLong
     sizeFlaw told sheetOf concat-map
-    sameBytes numbers run count lowWord decimal digitsFrom exponentFrom tenTo scaled tokenOf numberAt nameAt tokenAt
+    sameBytes numbers frontRun count lowWord decimal digitsFrom exponentFrom tenTo scaled tokenOf numberCut nameAt tokenAt
     cutAt
     lookUp symbolNamed rowFrom rowOf names
     postfix next rest byteOf give-to factorStart startOf bind parse signedNumber many initially assigned integrated
     statement entire readRow any chained
-    all first ready nextReady place order placeIn again faults21 within modelFaults valueIn program ofBits ofInt mul div
+    all first ready leastReady place order placeIn again faults21 within modelFaults valueIn program ofBits ofInt mul div
     neg round units size climb
     span odd
 computed = (refl, refl, (refl, refl), refl, (refl, refl))

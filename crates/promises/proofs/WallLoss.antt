@@ -6,7 +6,7 @@ use lib.Ieee.{Float}
 use Rattle.records.specs.Record.{Rec, programBytes}
 use Rattle.translator.specs.declared.Verdict.the-variants.{Translated}
 use Rattle.translator.specs.Verdict.{translated, verdictOf}
-use Rattle.translator.specs.Contract.{Translates, byNumber}
+use Rattle.translator.specs.Contract.{Translates, inNumbers}
 use Rattle.translator.proofs.Verdicts.{by-number}
 use Rattle.evaluator.specs.Judge.{answer}
 use Rattle.evaluator.specs.Evaluate.{runOutcome}
@@ -31,7 +31,7 @@ wall-loss text faults room rs ls e = faithful (clear text faults room rs ls e)
 pub translated-text : (text f p : List ℕ) (k : ℕ) (f′ p′ : List ℕ) → Translates text f p (Translated k) f′ p′
     → Faithful text (handedOn k p′)
 translated-text text f p k f′ p′ t =
-    by-answer text f p (byNumber (Translated k) f′ p′) (by-number text f p t) refl
+    by-answer text f p (inNumbers (Translated k) f′ p′) (by-number text f p t) refl
 
 -- the same at the boundary to other languages
 pub linked-text : (text f p : List ℕ) (r : CVerdict) (f′ p′ : List ℕ) → TranslatesFixed text f p r f′ p′ → r .number ≡ 0

@@ -77,7 +77,7 @@ pub record Records : Type 0 where
   pub decode : (program : List ℕ) (n : ℕ) → Agree (Decodes program n)
 
 -- a fault listed
-pub record Sheet : Type 0 where
+pub record Sheets : Type 0 where
   pub put-fault : (list : List ℕ) (count line code : ℕ) → Agree (PutsFault list count line code)
 
 -- a sheet planned

@@ -10,7 +10,7 @@ use lib.Seq.{sets}
 use Rattle.tokens.specs.declared.RowEnd.{RowEnd}
 use Rattle.tokens.specs.declared.RowEnd.the-variants.{Tokens, Fault}
 use Rattle.tokens.specs.Row.{Close, all-good, bad, Row, rowOf}
-use Rattle.tokens.specs.Contract.{closeEnd, rowEnd, kindsOf, argsOf, roomy, WritesRow}
+use Rattle.tokens.specs.Contract.{closeEnd, rowEnd, kindsOf, argsOf, rowRoomy, WritesRow}
 
 -- with room the row is written
 pub written-room : (s ks us : List ℕ) (r : RowEnd) (ks′ us′ : List ℕ) → length s ≤ length ks → length s ≤ length us
@@ -18,7 +18,7 @@ pub written-room : (s ks us : List ℕ) (r : RowEnd) (ks′ us′ : List ℕ) �
     → (r ≡ rowEnd (rowOf s)) × (ks′ ≡ sets ks 0 (kindsOf (rowOf s))) × (us′ ≡ sets us 0 (argsOf (rowOf s)))
 written-room s ks us r ks′ us′ h k w = (rw full at (w .answer), rw full at (w .kinds), rw full at (w .args))
   where
-    full : roomy s ks us ≡ true
+    full : rowRoomy s ks us ≡ true
     full = rw (le-leb (length s) (length ks) h, le-leb (length s) (length us) k)
 
 -- the count is that of the tokens, and a row that ends well has no bad token

@@ -14,7 +14,7 @@ use Rattle.tokens.specs.declared.Cut.{Cut}
 use Rattle.tokens.specs.declared.Token.the-variants.{Mark, End}
 use Rattle.tokens.specs.Bytes.{isLetter, isDigit, isPoint, isMark, wordAt, spacesAt}
 use Rattle.tokens.specs.Names.{nameCount, nameToken, nameNext}
-use Rattle.tokens.specs.Token.{cutOf, badAt, numberAt, nameAt, tokenAt, cutAt}
+use Rattle.tokens.specs.Token.{cutOf, badAt, numberCut, nameAt, tokenAt, cutAt}
 
 -- ---- the name, with the count of its letters and digits
 pub name-read : (s : List ℕ) (at n : ℕ) → n ≡ nameCount s at
@@ -66,7 +66,7 @@ module _ (s : List ℕ) (from at : ℕ) (read : at ≡ from + length (spacesAt s
     at-letter l c e = rw (← begins, lt-leb (length s) at more, l) e
 
     module _ (no-letter : isLetter (getD s at 0) ≡ false) where
-      pub at-figure : (isDigit (getD s at 0) || isPoint (getD s at 0)) ≡ true → (c : Cut) → c ≡ numberAt s at
+      pub at-figure : (isDigit (getD s at 0) || isPoint (getD s at 0)) ≡ true → (c : Cut) → c ≡ numberCut s at
           → c ≡ cutAt s from
       unfolding tokenAt
       at-figure f c e = rw (← begins, lt-leb (length s) at more, no-letter, f) e

@@ -10,7 +10,7 @@ use lib.Ieee.{binary64, fits}
 use lib.Ieee.Bits.{ofBits-toBits}
 use Rattle.tokens.specs.Symbol.{Symbol, mark, number, name, word}
 use Rattle.tokens.specs.Kinds.{lastWordKind}
-use Rattle.tokens.specs.Held.{kindOf, argOf, symbolOf, heldRow}
+use Rattle.tokens.specs.Held.{symbolKind, argOf, symbolOf, heldRow}
 use Rattle.tokens.proofs.Words.{symbol-word}
 
 -- as many tokens as kinds
@@ -42,14 +42,14 @@ AllHold [] = Unit {0}
 AllHold (t ∷ ts) = Holds t × AllHold ts
 
 -- it comes back
-symbol-back : (t : Symbol) → Holds t → symbolOf (kindOf t) (argOf t) ≡ t
+symbol-back : (t : Symbol) → Holds t → symbolOf (symbolKind t) (argOf t) ≡ t
 symbol-back (mark b) h = rw (lt-ltb lastWordKind b h)
 symbol-back (number x) h = ap number (ofBits-toBits binary64 x h)
 symbol-back (name k) h = refl
 symbol-back (word w) h = symbol-word w 0
 
 -- and so does the row
-pub held-back : (ts : List Symbol) → AllHold ts → heldRow (map kindOf ts) (map argOf ts) ≡ ts
+pub held-back : (ts : List Symbol) → AllHold ts → heldRow (map symbolKind ts) (map argOf ts) ≡ ts
 unfolding heldRow
 held-back [] h = refl
 held-back (t ∷ ts) h = rw (symbol-back t (h .0), held-back ts (h .1))

@@ -9,7 +9,7 @@ use native.Mathlib.Omega.{arith}
 use borrow.Author.Tests.{leb-true}
 use lib.Dec.{leb, lit<}
 use lib.ListN.{length}
-use Rattle.laws.specs.Runs.{run}
+use Rattle.laws.specs.Runs.{frontRun}
 use Rattle.laws.proofs.Tests.{bool-cases, and-true}
 use Rattle.laws.proofs.Runs.{all-pass}
 use Rattle.bits.specs.Low.{lowWord}
@@ -27,11 +27,11 @@ word-byte x t = ⊎-elim letter (λ f. digit (rw f at t)) (bool-cases (isLetter 
     digit d = let a = and-true (leb 48 x) (leb x 57) d in omega (arith, leb-true 48 x (a .0), leb-true x 57 (a .1))
 
 -- where all members are letters and digits, the first is a byte that is not 0
-first-byte : (x : ℕ) (xs : List ℕ) → run isWord (x ∷ xs) ≡ x ∷ xs → (0 < x) × (x < 256)
+first-byte : (x : ℕ) (xs : List ℕ) → frontRun isWord (x ∷ xs) ≡ x ∷ xs → (0 < x) × (x < 256)
 first-byte x xs e = word-byte x (all-pass isWord x xs e .0)
 
 -- of two lists of letters and digits with one key
-pub key-injective : (xs ys : List ℕ) → run isWord xs ≡ xs → run isWord ys ≡ ys → keyOf xs ≡ keyOf ys → xs ≡ ys
+pub key-injective : (xs ys : List ℕ) → frontRun isWord xs ≡ xs → frontRun isWord ys ≡ ys → keyOf xs ≡ keyOf ys → xs ≡ ys
 unfolding lowWord
 key-injective [] [] t u e = refl
 key-injective [] (y ∷ ys) t u e = absurd (let z : ⊥ = omega (arith, first-byte y ys u) in z)
@@ -44,7 +44,7 @@ key-injective (x ∷ xs) (y ∷ ys) t u e =
     ap₂ _∷_ a (key-injective xs ys (all-pass isWord x xs t .1) (all-pass isWord y ys u .1) b)
 
 -- a key has no more bytes than its name
-pub key-below : (n : List ℕ) → run isWord n ≡ n → keyOf n < 256 ^ length n
+pub key-below : (n : List ℕ) → frontRun isWord n ≡ n → keyOf n < 256 ^ length n
 unfolding lowWord
 key-below [] t = lit< tt
 key-below (x ∷ xs) t =

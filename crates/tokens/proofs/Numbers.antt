@@ -14,7 +14,7 @@ use lib.Ieee.{Float, binary64, mul, div, ofInt}
 use lib.ListN.{length, getD, drop, length-drop}
 use Rattle.laws.proofs.Tests.{cond-ind, and-true, lt-or-ge}
 use Rattle.laws.proofs.Runs.{run-short, run-run, all-pass}
-use Rattle.laws.specs.Runs.{run}
+use Rattle.laws.specs.Runs.{frontRun}
 use Rattle.limits.specs.Limits.{mostDigits, mostTens, exponentDigits}
 use Rattle.tokens.specs.declared.number.Decimal.{Decimal}
 use Rattle.tokens.specs.declared.number.Mantissa.{Mantissa}
@@ -26,8 +26,8 @@ use Rattle.tokens.specs.declared.number.Power.the-variants.{Of, Wrong}
 use Rattle.tokens.specs.Bytes.{digitsAt, isDigit, isWord, isPoint}
 use Rattle.tokens.specs.Number.{decimal, Digits, plainDigits, pointDigits, digitsFrom}
 use Rattle.tokens.specs.Number.{Exponent, exponent, wrong, signEnd, exponentOf, exponentFrom, tenTo, scaled}
-use Rattle.tokens.specs.Number.{inRange, numberOf}
-use Rattle.tokens.specs.Token.{cutOf, badAt, numberEnd, numberAt}
+use Rattle.tokens.specs.Number.{inRange, rangedNumber}
+use Rattle.tokens.specs.Token.{cutOf, badAt, numberEnd, numberCut}
 use Rattle.tokens.specs.Capped.{cap, decimalAt, capped, powerOf}
 use Rattle.tokens.proofs.Decimals.{decimal-cap, decimal-append}
 
@@ -38,8 +38,8 @@ less p n = omega arith
 -- ---- the value
 
 -- out of range is 17
-pub out-of-range : (m up down : ℕ) → inRange m up down ≡ false → Bad 17 ≡ numberOf m up down
-unfolding numberOf
+pub out-of-range : (m up down : ℕ) → inRange m up down ≡ false → Bad 17 ≡ rangedNumber m up down
+unfolding rangedNumber
 out-of-range m up down h = rw h
 
 -- m is over the most
@@ -69,23 +69,23 @@ module _ (m up down k : ℕ) (x : Float) (h : m ≤ mostDigits) (apart : k ≡ (
   good = in-range m up down h (omega arith) (omega arith)
 
   -- k of 0 or more: one multiplication
-  pub number-up : down ≤ up → Number (mul binary64 (ofInt binary64 (pos m)) x) ≡ numberOf m up down
-  unfolding numberOf scaled
+  pub number-up : down ≤ up → Number (mul binary64 (ofInt binary64 (pos m)) x) ≡ rangedNumber m up down
+  unfolding rangedNumber scaled
   number-up l = let e : k ≡ up - down = omega arith in rw (good, le-leb down up l, power, e)
 
   -- k below 0: one division
-  pub number-down : up < down → Number (div binary64 (ofInt binary64 (pos m)) x) ≡ numberOf m up down
-  unfolding numberOf scaled
+  pub number-down : up < down → Number (div binary64 (ofInt binary64 (pos m)) x) ≡ rangedNumber m up down
+  unfolding rangedNumber scaled
   number-down l = let e : k ≡ down - up = omega arith in rw (good, lt-leb down up l, power, e)
 
 -- the cap is not seen: below it stands m itself, and what is held down is out of range
-cap-unseen : (m up down : ℕ) → numberOf (min cap m) up down ≡ numberOf m up down
-cap-unseen m up down = ⊎-elim over (λ g. ap (λ (x : ℕ). numberOf x up down) (same g)) (lt-or-ge mostDigits m)
+cap-unseen : (m up down : ℕ) → rangedNumber (min cap m) up down ≡ rangedNumber m up down
+cap-unseen m up down = ⊎-elim over (λ g. ap (λ (x : ℕ). rangedNumber x up down) (same g)) (lt-or-ge mostDigits m)
   where
     same : m ≤ mostDigits → min cap m ≡ m
     same h = omega arith
 
-    over : mostDigits < m → numberOf (min cap m) up down ≡ numberOf m up down
+    over : mostDigits < m → rangedNumber (min cap m) up down ≡ rangedNumber m up down
     over h = sym (out-of-range (min cap m) up down (too-large (min cap m) up down (omega arith)))
         ∙ out-of-range m up down (too-large m up down h)
 
@@ -145,7 +145,7 @@ digit-small : (x : ℕ) → isDigit x ≡ true → x - 48 ≤ 9
 digit-small x t = omega (arith, leb-true x 57 (and-true (leb 48 x) (leb x 57) t .1))
 
 -- n digits behind a number are below the next number with n zeros
-decimal-small : (a : ℕ) (xs : List ℕ) → run isDigit xs ≡ xs → decimal a xs < (a + 1) * 10 ^ length xs
+decimal-small : (a : ℕ) (xs : List ℕ) → frontRun isDigit xs ≡ xs → decimal a xs < (a + 1) * 10 ^ length xs
 unfolding decimal
 decimal-small a [] e = rw mul-one (omega arith)
 decimal-small a (x ∷ xs) e =
@@ -219,7 +219,7 @@ no-letter s at b e h = rw (ne-eqb _ 69 (λ f. h (e ∙ f)), e)
 -- ---- the number, by the exponent as it is held
 abbrev pub endOf : List ℕ → ℕ → Digits → Power → Cut
 endOf s at m (Of up down stop b) =
-    cond (isWord b || isPoint b) (badAt 16 at) (cutOf (numberOf (m .amount) up (down + m .after)) at stop)
+    cond (isWord b || isPoint b) (badAt 16 at) (cutOf (rangedNumber (m .amount) up (down + m .after)) at stop)
 endOf s at m Wrong = badAt 16 at
 
 -- it is the number that the definition gives
@@ -231,14 +231,14 @@ end-held s at m wrong = refl
 -- m is its digits as they are held
 module _ (s : List ℕ) (at : ℕ) (m : Mantissa) (read : m ≡ capped s (digitsFrom s at)) where
   -- a number without digits is bad
-  pub empty : m .count ≡ 0 → badAt 16 at ≡ numberAt s at
-  unfolding numberAt
+  pub empty : m .count ≡ 0 → badAt 16 at ≡ numberCut s at
+  unfolding numberCut
   empty h = rw (eq-eqb _ 0 (rw read at h))
 
   -- from what stands behind the digits to the number
   pub through : (m .count ≡ 0 → ⊥) → (p : Power) → p ≡ powerOf s (exponentFrom s (m .end))
-      → endOf s at (digitsFrom s at) p ≡ numberAt s at
-  unfolding numberAt
+      → endOf s at (digitsFrom s at) p ≡ numberCut s at
+  unfolding numberCut
   through z p q =
       rw (ne-eqb _ 0 (rw read at z), q, read) (end-held s at (digitsFrom s at) (exponentFrom s (digitsFrom s at .end)))
 
@@ -252,7 +252,7 @@ module _ (s : List ℕ) (at : ℕ) (m : Mantissa) (read : m ≡ capped s (digits
     tail-after h = rw h
 
     -- otherwise its value decides
-    pub no-tail : (isWord b || isPoint b) ≡ false → (t : Token) → t ≡ numberOf (m .value) up (down + m .after)
+    pub no-tail : (isWord b || isPoint b) ≡ false → (t : Token) → t ≡ rangedNumber (m .value) up (down + m .after)
         → cutOf t at stop ≡ endOf s at (digitsFrom s at) (Of up down stop b)
     no-tail h t q = rw (h, q, read, cap-unseen)
 

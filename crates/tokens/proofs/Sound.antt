@@ -18,8 +18,8 @@ use Rattle.tokens.specs.declared.Cut.{Cut}
 use Rattle.tokens.specs.Bytes.{isLetter, isDigit, isPoint, isMark, isWord, wordAt, digitsAt, spacesAt}
 use Rattle.tokens.specs.Number.{decimal, Digits, plainDigits, pointDigits, digitsFrom}
 use Rattle.tokens.specs.Number.{Exponent, exponent, wrong, signEnd, exponentOf, exponentFrom, scaled, inRange}
-use Rattle.tokens.specs.Number.{numberOf, signedNumber}
-use Rattle.tokens.specs.Token.{cutOf, badAt, numberEnd, numberAt, nameAt, tokenAt, cutAt}
+use Rattle.tokens.specs.Number.{rangedNumber, numberWith}
+use Rattle.tokens.specs.Token.{cutOf, badAt, numberEnd, numberCut, nameAt, tokenAt, cutAt}
 use Rattle.tokens.proofs.Values.{scaled-fine}
 
 -- a good token of the text s: the next place is behind lo, and not past the end
@@ -90,14 +90,14 @@ module _ (s : List ℕ) (lo : ℕ) where
   Good c = Sound s lo (c .token) (c .next)
 
   -- a value in range is finite and an f64
-  value-sound : (m up down next : ℕ) → Inside s lo next → Sound s lo (numberOf m up down) next
-  unfolding numberOf
+  value-sound : (m up down next : ℕ) → Inside s lo next → Sound s lo (rangedNumber m up down) next
+  unfolding rangedNumber
   value-sound m up down next i =
       cond-ind (λ (t : Token). Sound s lo t next) (inRange m up down) (Number (scaled m up down)) (Bad 17)
       (λ t. let f = scaled-fine m up down t in (i, f .0, f .1)) (λ _. tt)
 
   -- with either sign of the exponent
-  signed-sound : (m : Digits) (minus : Bool) (e next : ℕ) → Inside s lo next → Sound s lo (signedNumber m minus e) next
+  signed-sound : (m : Digits) (minus : Bool) (e next : ℕ) → Inside s lo next → Sound s lo (numberWith m minus e) next
   signed-sound m true e next i = value-sound (m .amount) 0 (e + m .after) next i
   signed-sound m false e next i = value-sound (m .amount) e (m .after) next i
 
@@ -107,12 +107,12 @@ module _ (s : List ℕ) (lo : ℕ) where
   end-sound at m wrong h r = tt
   end-sound at m (exponent minus e stop) h r =
       cond-ind Good (isWord (getD s stop 0) || isPoint (getD s stop 0)) (badAt 16 at)
-      (cutOf (signedNumber m minus e) at stop) (λ _. tt)
+      (cutOf (numberWith m minus e) at stop) (λ _. tt)
       (λ _. signed-sound m minus e stop (record { onward = omega arith; room = r .1 }))
 
   -- a number has a digit, so it is behind its place
-  number-sound : (at : ℕ) → lo ≤ at → at ≤ length s → Good (numberAt s at)
-  unfolding numberAt
+  number-sound : (at : ℕ) → lo ≤ at → at ≤ length s → Good (numberCut s at)
+  unfolding numberCut
   number-sound at h k =
       let m = digitsFrom s at in
       let r = digits-room s at k in
@@ -143,7 +143,7 @@ module _ (s : List ℕ) (lo : ℕ) where
       (λ e.
       let l : at < length s = leb-false (length s) at e in
       cond-ind Good (isLetter b) (nameAt s at) _ (λ t. name-sound at h l t)
-      (λ _. cond-ind Good (isDigit b || isPoint b) (numberAt s at) _ (λ _. number-sound at h (omega arith))
+      (λ _. cond-ind Good (isDigit b || isPoint b) (numberCut s at) _ (λ _. number-sound at h (omega arith))
       (λ _. cond-ind Good (isMark b) (cutOf (Mark b) at (at + 1)) (badAt 14 at)
       (λ t. (record { onward = omega arith; room = omega arith }, t)) (λ _. tt))))
 

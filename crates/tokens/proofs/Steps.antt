@@ -17,11 +17,11 @@ use Rattle.tokens.specs.declared.step.Step.{Step}
 use Rattle.tokens.specs.declared.step.Step.the-variants.{Good, Over, Refused}
 use Rattle.tokens.specs.declared.RowEnd.the-variants.{NoRoom, Tokens, Fault}
 use Rattle.tokens.specs.Symbol.{Symbol, mark, number, symbolNamed}
-use Rattle.tokens.specs.Held.{kindOf, argOf}
+use Rattle.tokens.specs.Held.{symbolKind, argOf}
 use Rattle.tokens.specs.Token.{cutAt}
 use Rattle.tokens.specs.Row.{Close, all-good, bad, bare, onto, ahead, rowOf}
-use Rattle.tokens.specs.Steps.{heldAs, stepOf, stepAt}
-use Rattle.tokens.specs.Contract.{closeEnd, rowEnd, kindsOf, argsOf, roomy, WritesRow}
+use Rattle.tokens.specs.Steps.{heldAs, stepOf, rowStepAt}
+use Rattle.tokens.specs.Contract.{closeEnd, rowEnd, kindsOf, argsOf, rowRoomy, WritesRow}
 use Rattle.tokens.proofs.Sound.{Inside, Sound, cut-sound}
 use Rattle.tokens.proofs.Rows.{rest, rest-next}
 
@@ -33,7 +33,7 @@ module _ (s : List ℕ) (from : ℕ) (c : Cut) (read : c ≡ cutAt s from) (t : 
       (subst (λ (x : Cut). Sound s from (x .token) (x .next)) (sym read) (cut-sound s from))
 
   -- and decides the step
-  pub as-step : stepOf s t (c .at) (c .next) ≡ stepAt s from
+  pub as-step : stepOf s t (c .at) (c .next) ≡ rowStepAt s from
   as-step = ap (λ (x : Token). stepOf s x (c .at) (c .next)) (sym is)
       ∙ ap (λ (x : Cut). stepOf s (x .token) (x .at) (x .next)) read
 
@@ -71,7 +71,7 @@ follows s from End at next x e = e
 follows s from (Bad code) at next x e = e
 
 -- what a step says of the row from here
-says : (s : List ℕ) (from : ℕ) (r : Step) → r ≡ stepAt s from → Follows s from r
+says : (s : List ℕ) (from : ℕ) (r : Step) → r ≡ rowStepAt s from → Follows s from r
 says s from r e =
     let c = cutAt s from in
     subst (Follows s from) (sym e) (follows s from (c .token) (c .at) (c .next) (cut-sound s from) (rest-next s from))
@@ -111,7 +111,7 @@ turn-first s ks us h k =
 
 module _ (s ks₀ us₀ ks us : List ℕ) (from n : ℕ) (t : Turn s ks₀ us₀ ks us from n) where
   -- there is room
-  full : roomy s ks₀ us₀ ≡ true
+  full : rowRoomy s ks₀ us₀ ≡ true
   full = rw (le-leb (length s) (length ks₀) (t .room .0), le-leb (length s) (length us₀) (t .room .1))
 
   -- no token is left: all of the row is written
@@ -127,15 +127,15 @@ module _ (s ks₀ us₀ ks us : List ℕ) (from n : ℕ) (t : Turn s ks₀ us₀
       }
 
   -- at the end of the text
-  pub turn-over : Over ≡ stepAt s from → WritesRow s ks₀ us₀ (Tokens n) ks us
+  pub turn-over : Over ≡ rowStepAt s from → WritesRow s ks₀ us₀ (Tokens n) ks us
   turn-over e = closing all-good (says s from Over e)
 
   -- at a bad token
-  pub turn-refused : (code at : ℕ) → Refused code at ≡ stepAt s from → WritesRow s ks₀ us₀ (Fault code n at) ks us
+  pub turn-refused : (code at : ℕ) → Refused code at ≡ rowStepAt s from → WritesRow s ks₀ us₀ (Fault code n at) ks us
   turn-refused code at e = closing (bad code at) (says s from (Refused code at) e)
 
   -- one token more
-  module _ (h : Held) (next : ℕ) (step : Good h next ≡ stepAt s from) where
+  module _ (h : Held) (next : ℕ) (step : Good h next ≡ rowStepAt s from) where
     -- it lies inside the text
     pub turn-inside : Inside s from next
     turn-inside = says s from (Good h next) step .inside
@@ -146,7 +146,7 @@ module _ (s ks₀ us₀ ks us : List ℕ) (from n : ℕ) (t : Turn s ks₀ us₀
         let k = says s from (Good h next) step in
         let left = rest s next in
         let count : n + 1 + length (left .tokens) ≡ n + suc (length (left .tokens)) = omega arith in
-        let kind : h .kind ≡ kindOf (k .symbol) = ap (λ (x : Held). x .kind) (sym (k .held)) in
+        let kind : h .kind ≡ symbolKind (k .symbol) = ap (λ (x : Held). x .kind) (sym (k .held)) in
         let arg : h .arg ≡ argOf (k .symbol) = ap (λ (x : Held). x .arg) (sym (k .held)) in
         record {
           room = t .room;

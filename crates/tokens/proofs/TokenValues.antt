@@ -13,7 +13,7 @@ use lib.Dec.{eqb, leb, ltb, lit<}
 use lib.ListN.{length, getD, take, drop, length-append}
 use lib.Seq.{drop-cons, drop-drop, take-append-seam}
 use lib.Ieee.{Float}
-use Rattle.laws.specs.Runs.{run}
+use Rattle.laws.specs.Runs.{frontRun}
 use Rattle.laws.proofs.Tests.{bool-cases, cond-ind, and-true}
 use Rattle.laws.proofs.Runs.{held, run-run, all-pass}
 use Rattle.limits.specs.Limits.{nameBytes, exponentDigits}
@@ -23,8 +23,8 @@ use Rattle.tokens.specs.declared.Cut.{Cut}
 use Rattle.tokens.specs.Bytes.{isLetter, isDigit, isPoint, isMark, isWord, wordAt, spacesAt, digitsAt}
 use Rattle.tokens.specs.Number.{decimal, Digits, plainDigits, pointDigits, digitsFrom}
 use Rattle.tokens.specs.Number.{Exponent, exponent, wrong, signEnd, exponentOf, exponentFrom}
-use Rattle.tokens.specs.Number.{scaled, inRange, numberOf, signedNumber}
-use Rattle.tokens.specs.Token.{cutOf, badAt, numberEnd, numberAt, nameAt, tokenAt, cutAt}
+use Rattle.tokens.specs.Number.{scaled, inRange, rangedNumber, numberWith}
+use Rattle.tokens.specs.Token.{cutOf, badAt, numberEnd, numberCut, nameAt, tokenAt, cutAt}
 use Rattle.tokens.specs.Symbol.{Symbol, mark, number, name, word, keyOf, symbolNamed}
 use Rattle.tokens.specs.Row.{Placed, Row, onto, ahead, rowFrom, rowOf}
 use Rattle.tokens.proofs.Values.{range, whole-exact, ten-exact, scaled-round, scaled-fine}
@@ -83,23 +83,23 @@ stands-byte s i b z e =
     }
 
 -- a list is its run and what is left
-run-left : (p : ℕ → Bool) (xs : List ℕ) → xs ≡ run p xs ++ drop (length (run p xs)) xs
-unfolding run
+run-left : (p : ℕ → Bool) (xs : List ℕ) → xs ≡ frontRun p xs ++ drop (length (frontRun p xs)) xs
+unfolding frontRun
 run-left p [] = refl
 run-left p (x ∷ xs) =
-    cond-ind (λ (r : List ℕ). x ∷ xs ≡ r ++ drop (length r) (x ∷ xs)) (p x) (x ∷ run p xs) []
+    cond-ind (λ (r : List ℕ). x ∷ xs ≡ r ++ drop (length r) (x ∷ xs)) (p x) (x ∷ frontRun p xs) []
     (λ _. ap (λ r. x ∷ r) (run-left p xs)) (λ _. refl)
 
 -- so a run stands where it begins
 stands-run : (p : ℕ → Bool) (s : List ℕ) (i : ℕ)
-    → Stands s i (run p (drop i s)) (i + length (run p (drop i s)))
+    → Stands s i (frontRun p (drop i s)) (i + length (frontRun p (drop i s)))
 stands-run p s i =
-    let w = run p (drop i s) in
+    let w = frontRun p (drop i s) in
     record { bytes = run-left p (drop i s) ∙ ap (λ r. w ++ r) (drop-drop (length w) i s); end = refl }
 
 -- two rows that pass make one
-run-both : (p : ℕ → Bool) (xs ys : List ℕ) → run p xs ≡ xs → run p ys ≡ ys → run p (xs ++ ys) ≡ xs ++ ys
-unfolding run
+run-both : (p : ℕ → Bool) (xs ys : List ℕ) → frontRun p xs ≡ xs → frontRun p ys ≡ ys → frontRun p (xs ++ ys) ≡ xs ++ ys
+unfolding frontRun
 run-both p [] ys e f = f
 run-both p (x ∷ xs) ys e f =
     let t = all-pass p x xs e in rw (t .0) (ap (λ r. x ∷ r) (run-both p xs ys (t .1) f))
@@ -110,7 +110,7 @@ run-both p (x ∷ xs) ys e f =
 record Figures (s : List ℕ) (at : ℕ) (d : Digits) : Type 0 where
   before : List ℕ
   pointed : PointPart
-  digits : run isDigit (before ++ afterPoint pointed) ≡ before ++ afterPoint pointed
+  digits : frontRun isDigit (before ++ afterPoint pointed) ≡ before ++ afterPoint pointed
   amount : d .amount ≡ decimal 0 (before ++ afterPoint pointed)
   after : d .after ≡ length (afterPoint pointed)
   count : d .count ≡ length (before ++ afterPoint pointed)
@@ -264,8 +264,8 @@ numbered s at m minus e stop f r some ends x v =
 module _ (s : List ℕ) (at : ℕ) where
   -- by m and k
   number-valued : (m up down : ℕ) → ((x : Float) → IsValue m up down x → NumberAt s at x)
-      → Valued s at (numberOf m up down)
-  unfolding numberOf
+      → Valued s at (rangedNumber m up down)
+  unfolding rangedNumber
   number-valued m up down f =
       cond-ind (Valued s at) (inRange m up down) (Number (scaled m up down)) (Bad 17)
       (λ t. f (scaled m up down) (in-range-value m up down t)) (λ _. tt)
@@ -273,7 +273,7 @@ module _ (s : List ℕ) (at : ℕ) where
   -- by the sign of the exponent
   signed-valued : (m : Digits) (minus : Bool) (e : ℕ)
       → ((x : Float) → IsValue (m .amount) (cond minus 0 e) (cond minus e 0 + m .after) x → NumberAt s at x)
-      → Valued s at (signedNumber m minus e)
+      → Valued s at (numberWith m minus e)
   signed-valued m true e f = number-valued (m .amount) 0 (e + m .after) f
   signed-valued m false e f = number-valued (m .amount) e (m .after) (λ x v. f x (rw (zero-add (m .after)) v))
 
@@ -288,12 +288,12 @@ end-valued : (s : List ℕ) (at : ℕ) (m : Digits) (e : Exponent) → Figures s
 end-valued s at m wrong f r some = tt
 end-valued s at m (exponent minus e stop) f r some =
     cond-ind (Good s) (isWord (getD s stop 0) || isPoint (getD s stop 0)) (badAt 16 at)
-    (cutOf (signedNumber m minus e) at stop) (λ _. tt)
+    (cutOf (numberWith m minus e) at stop) (λ _. tt)
     (λ t. signed-valued s at m minus e (numbered s at m minus e stop f r some t))
 
 -- by the digits
-numbers-valued : (s : List ℕ) (at : ℕ) → Good s (numberAt s at)
-unfolding numberAt
+numbers-valued : (s : List ℕ) (at : ℕ) → Good s (numberCut s at)
+unfolding numberCut
 numbers-valued s at =
     let m = digitsFrom s at in
     cond-ind (Good s) (eqb (m .count) 0) (badAt 16 at) (numberEnd s at m (exponentFrom s (m .end))) (λ _. tt)
@@ -314,7 +314,7 @@ cut-valued s from =
     let b = getD s at 0 in
     cond-ind (Good s) (leb (length s) at) (cutOf End at at) _ (λ _. tt)
     (λ _. cond-ind (Good s) (isLetter b) (nameAt s at) _ (λ _. names-valued s at)
-    (λ _. cond-ind (Good s) (isDigit b || isPoint b) (numberAt s at) _ (λ _. numbers-valued s at)
+    (λ _. cond-ind (Good s) (isDigit b || isPoint b) (numberCut s at) _ (λ _. numbers-valued s at)
     (λ _. cond-ind (Good s) (isMark b) (cutOf (Mark b) at (at + 1)) (badAt 14 at) (λ _. tt) (λ _. tt))))
 
 module _ (s : List ℕ) where

@@ -14,7 +14,7 @@ use Rattle.tokens.specs.declared.step.Held.{Held}
 use Rattle.tokens.specs.Symbol.{Role, CONSTANTS, INTGRL, TIME, INSW, LIMIT, COMPAR, Reserved, reserved}
 use Rattle.tokens.specs.Symbol.{lookUp, Symbol, name, word, keyOf, symbolNamed}
 use Rattle.tokens.specs.Kinds.{nameKind, wordKind}
-use Rattle.tokens.specs.Held.{kindOf, argOf, threeOf, kindNamed, symbolOf}
+use Rattle.tokens.specs.Held.{symbolKind, argOf, threeOf, kindNamed, symbolOf}
 use Rattle.tokens.specs.Steps.{heldAs}
 
 -- ---- a list of words
@@ -82,22 +82,22 @@ module _ (n : List ℕ) where
   symbol-ind P f g = lookup-ind P word (name (keyOf n)) f g reserved n
 
   -- their kind
-  kind-named : kindNamed n ≡ kindOf (symbolNamed n)
+  kind-named : kindNamed n ≡ symbolKind (symbolNamed n)
   unfolding kindNamed symbolNamed
-  kind-named = sym (lookup-map kindOf word (name (keyOf n)) reserved n)
+  kind-named = sym (lookup-map symbolKind word (name (keyOf n)) reserved n)
 
   -- a name's argument is its key
-  arg-name : kindOf (symbolNamed n) ≡ nameKind → argOf (symbolNamed n) ≡ keyOf n
+  arg-name : symbolKind (symbolNamed n) ≡ nameKind → argOf (symbolNamed n) ≡ keyOf n
   arg-name =
-      symbol-ind (λ (t : Symbol). kindOf t ≡ nameKind → argOf t ≡ keyOf n) (λ w e. absurd (no-name w e)) (λ _. refl)
+      symbol-ind (λ (t : Symbol). symbolKind t ≡ nameKind → argOf t ≡ keyOf n) (λ w e. absurd (no-name w e)) (λ _. refl)
 
   -- a word has none
-  arg-word : (kindOf (symbolNamed n) ≡ nameKind → ⊥) → argOf (symbolNamed n) ≡ 0
-  arg-word = symbol-ind (λ (t : Symbol). (kindOf t ≡ nameKind → ⊥) → argOf t ≡ 0) (λ w h. refl) (λ h. absurd (h refl))
+  arg-word : (symbolKind (symbolNamed n) ≡ nameKind → ⊥) → argOf (symbolNamed n) ≡ 0
+  arg-word = symbol-ind (λ (t : Symbol). (symbolKind t ≡ nameKind → ⊥) → argOf t ≡ 0) (λ w h. refl) (λ h. absurd (h refl))
 
   -- a name's number is its key
   pub name-key : (k : ℕ) → symbolNamed n ≡ name k → k ≡ keyOf n
-  name-key k e = ap argOf (sym e) ∙ arg-name (ap kindOf e)
+  name-key k e = ap argOf (sym e) ∙ arg-name (ap symbolKind e)
 
   -- a name as it is held: its key is read from its bytes
   pub held-name : (k a : ℕ) → length n ≤ nameBytes → k ≡ kindNamed n → k ≡ nameKind → a ≡ lowWord (take nameBytes n)

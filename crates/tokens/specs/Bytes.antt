@@ -4,7 +4,7 @@ use mathlib.Core.List.{List}
 use mathlib.Core.Bool.{Bool, _&&_, _||_}
 use lib.ListN.{drop}
 use lib.Dec.{eqb, leb}
-use Rattle.laws.specs.Runs.{run}
+use Rattle.laws.specs.Runs.{frontRun}
 
 -- a space
 abbrev pub isSpace : ℕ → Bool
@@ -32,10 +32,10 @@ isMark b = eqb b 47 || (eqb b 61 || (leb 40 b && leb b 45))
 
 -- the longest runs of spaces, of digits, and of letters and digits, from a place on
 abbrev pub spacesAt : List ℕ → ℕ → List ℕ
-spacesAt s i = run isSpace (drop i s)
+spacesAt s i = frontRun isSpace (drop i s)
 
 abbrev pub digitsAt : List ℕ → ℕ → List ℕ
-digitsAt s i = run isDigit (drop i s)
+digitsAt s i = frontRun isDigit (drop i s)
 
 abbrev pub wordAt : List ℕ → ℕ → List ℕ
-wordAt s i = run isWord (drop i s)
+wordAt s i = frontRun isWord (drop i s)

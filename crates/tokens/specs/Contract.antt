@@ -10,7 +10,7 @@ use Rattle.tokens.specs.declared.Cut.{Cut}
 use Rattle.tokens.specs.declared.RowEnd.{RowEnd}
 use Rattle.tokens.specs.declared.RowEnd.the-variants.{NoRoom, Tokens, Fault}
 use Rattle.tokens.specs.Token.{cutAt}
-use Rattle.tokens.specs.Held.{kindOf, argOf}
+use Rattle.tokens.specs.Held.{symbolKind, argOf}
 use Rattle.tokens.specs.Row.{Close, all-good, bad, Row, rowOf, symbols}
 
 -- `take_cut`: the next token from a place on, its place, and where the next one begins
@@ -29,18 +29,18 @@ rowEnd r = closeEnd (r .close) (length (r .tokens))
 
 -- the kinds and the arguments of a row's tokens
 abbrev pub kindsOf : Row → List ℕ
-kindsOf r = map kindOf (symbols (r .tokens))
+kindsOf r = map symbolKind (symbols (r .tokens))
 
 abbrev pub argsOf : Row → List ℕ
 argsOf r = map argOf (symbols (r .tokens))
 
 -- there is a place for each byte of the text
-abbrev pub roomy : List ℕ → List ℕ → List ℕ → Bool
-roomy s ks us = leb (length s) (length ks) && leb (length s) (length us)
+abbrev pub rowRoomy : List ℕ → List ℕ → List ℕ → Bool
+rowRoomy s ks us = leb (length s) (length ks) && leb (length s) (length us)
 
 -- `row`: from the text s and the buffers ks and us the answer r and the buffers ks′ and us′; without room nothing is
 -- written
 pub record WritesRow (s ks us : List ℕ) (r : RowEnd) (ks′ us′ : List ℕ) : Type 0 where
-  pub answer : r ≡ cond (roomy s ks us) (rowEnd (rowOf s)) NoRoom
-  pub kinds : ks′ ≡ cond (roomy s ks us) (sets ks 0 (kindsOf (rowOf s))) ks
-  pub args : us′ ≡ cond (roomy s ks us) (sets us 0 (argsOf (rowOf s))) us
+  pub answer : r ≡ cond (rowRoomy s ks us) (rowEnd (rowOf s)) NoRoom
+  pub kinds : ks′ ≡ cond (rowRoomy s ks us) (sets ks 0 (kindsOf (rowOf s))) ks
+  pub args : us′ ≡ cond (rowRoomy s ks us) (sets us 0 (argsOf (rowOf s))) us

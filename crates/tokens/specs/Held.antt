@@ -9,11 +9,11 @@ use Rattle.tokens.specs.Symbol.{reserved, lookUp, Symbol, mark, number, 
 use Rattle.tokens.specs.Kinds.{numberKind, nameKind, roles, wordKind, lastWordKind}
 
 -- a mark's kind is its byte
-abbrev pub kindOf : Symbol → ℕ
-kindOf (mark b) = b
-kindOf (number x) = numberKind
-kindOf (name k) = nameKind
-kindOf (word w) = wordKind w
+abbrev pub symbolKind : Symbol → ℕ
+symbolKind (mark b) = b
+symbolKind (number x) = numberKind
+symbolKind (name k) = nameKind
+symbolKind (word w) = wordKind w
 
 -- a number's argument is the bits of its value, a name's its key; the others have none, 0
 abbrev pub argOf : Symbol → ℕ

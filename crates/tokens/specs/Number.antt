@@ -75,10 +75,10 @@ abbrev pub inRange : ℕ → ℕ → ℕ → Bool
 inRange m up down = leb m mostDigits && (leb up (down + mostTens) && leb down (up + mostTens))
 
 -- 17: m or k out of range
-unfoldable pub numberOf : ℕ → ℕ → ℕ → Token
-numberOf m up down = cond (inRange m up down) (Number (scaled m up down)) (Bad 17)
+unfoldable pub rangedNumber : ℕ → ℕ → ℕ → Token
+rangedNumber m up down = cond (inRange m up down) (Number (scaled m up down)) (Bad 17)
 
 -- k is the exponent less the count of digits after the point
-abbrev pub signedNumber : Digits → Bool → ℕ → Token
-signedNumber m true e = numberOf (m .amount) 0 (e + m .after)
-signedNumber m false e = numberOf (m .amount) e (m .after)
+abbrev pub numberWith : Digits → Bool → ℕ → Token
+numberWith m true e = rangedNumber (m .amount) 0 (e + m .after)
+numberWith m false e = rangedNumber (m .amount) e (m .after)

@@ -8,12 +8,12 @@ use Rattle.tokens.specs.declared.step.Held.{Held}
 use Rattle.tokens.specs.declared.step.Step.{Step}
 use Rattle.tokens.specs.declared.step.Step.the-variants.{Good, Over, Refused}
 use Rattle.tokens.specs.Symbol.{Symbol, mark, number, symbolNamed}
-use Rattle.tokens.specs.Held.{kindOf, argOf}
+use Rattle.tokens.specs.Held.{symbolKind, argOf}
 use Rattle.tokens.specs.Token.{cutAt}
 
 -- a token's kind and argument
 abbrev pub heldAs : Symbol → Held
-heldAs t = record { kind = kindOf t; arg = argOf t }
+heldAs t = record { kind = symbolKind t; arg = argOf t }
 
 -- by the token of the cut: a token to be written, the end, or a bad one
 abbrev pub stepOf : List ℕ → Token → ℕ → ℕ → Step
@@ -24,5 +24,5 @@ stepOf s End at next = Over
 stepOf s (Bad code) at next = Refused code at
 
 -- from a place on
-abbrev pub stepAt : List ℕ → ℕ → Step
-stepAt s from = stepOf s (cutAt s from .token) (cutAt s from .at) (cutAt s from .next)
+abbrev pub rowStepAt : List ℕ → ℕ → Step
+rowStepAt s from = stepOf s (cutAt s from .token) (cutAt s from .at) (cutAt s from .next)

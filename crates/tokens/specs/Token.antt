@@ -9,7 +9,7 @@ use Rattle.tokens.specs.declared.Token.{Token}
 use Rattle.tokens.specs.declared.Token.the-variants.{Name, Mark, End, Bad}
 use Rattle.tokens.specs.declared.Cut.{Cut}
 use Rattle.tokens.specs.Bytes.{isLetter, isDigit, isPoint, isWord, isMark, spacesAt, wordAt}
-use Rattle.tokens.specs.Number.{Digits, digitsFrom, Exponent, exponent, wrong, exponentFrom, signedNumber}
+use Rattle.tokens.specs.Number.{Digits, digitsFrom, Exponent, exponent, wrong, exponentFrom, numberWith}
 
 abbrev pub cutOf : Token → ℕ → ℕ → Cut
 cutOf t at next = record { token = t; at = at; next = next }
@@ -22,11 +22,11 @@ badAt code at = cutOf (Bad code) at at
 abbrev pub numberEnd : List ℕ → ℕ → Digits → Exponent → Cut
 numberEnd s at m wrong = badAt 16 at
 numberEnd s at m (exponent minus e stop) =
-    cond (isWord (getD s stop 0) || isPoint (getD s stop 0)) (badAt 16 at) (cutOf (signedNumber m minus e) at stop)
+    cond (isWord (getD s stop 0) || isPoint (getD s stop 0)) (badAt 16 at) (cutOf (numberWith m minus e) at stop)
 
 -- a number: at least one digit, and what follows decides
-unfoldable pub numberAt : List ℕ → ℕ → Cut
-numberAt s at =
+unfoldable pub numberCut : List ℕ → ℕ → Cut
+numberCut s at =
     let m = digitsFrom s at in
     cond (eqb (m .count) 0) (badAt 16 at) (numberEnd s at m (exponentFrom s (m .end)))
 
@@ -42,7 +42,7 @@ tokenAt s at =
     let b = getD s at 0 in
     cond (leb (length s) at) (cutOf End at at)
     (cond (isLetter b) (nameAt s at)
-    (cond (isDigit b || isPoint b) (numberAt s at) (cond (isMark b) (cutOf (Mark b) at (at + 1)) (badAt 14 at))))
+    (cond (isDigit b || isPoint b) (numberCut s at) (cond (isMark b) (cutOf (Mark b) at (at + 1)) (badAt 14 at))))
 
 -- the next token from a place on: spaces separate
 unfoldable pub cutAt : List ℕ → ℕ → Cut

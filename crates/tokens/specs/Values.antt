@@ -9,7 +9,7 @@ use lib.ListN.{length, getD, take, drop}
 use lib.Ieee.{Float, binary64, round, ofInt}
 use lib.Ieee.Exact.{HasValue}
 use lib.Ieee.Scale.{finite}
-use Rattle.laws.specs.Runs.{run}
+use Rattle.laws.specs.Runs.{frontRun}
 use Rattle.limits.specs.Limits.{mostDigits, mostTens, exponentDigits, nameBytes}
 use Rattle.tokens.specs.Bytes.{isDigit, isPoint, isWord}
 use Rattle.tokens.specs.Number.{decimal, tenTo, scaled}
@@ -88,11 +88,11 @@ digitsOf n = n .before ++ afterPoint (n .pointed)
 -- an exponent has one or two digits
 abbrev pub FewDigits : ExponentPart → Type 0
 FewDigits no-exponent = Unit {0}
-FewDigits (raised-by sign ds) = (run isDigit ds ≡ ds) × (1 ≤ length ds) × (length ds ≤ exponentDigits)
+FewDigits (raised-by sign ds) = (frontRun isDigit ds ≡ ds) × (1 ≤ length ds) × (length ds ≤ exponentDigits)
 
 -- the parts make a number: all digits are digits, and there is at least one before the exponent
 pub record IsNumber (n : NumberParts) : Type 0 where
-  pub digits : run isDigit (digitsOf n) ≡ digitsOf n
+  pub digits : frontRun isDigit (digitsOf n) ≡ digitsOf n
   pub some : 1 ≤ length (digitsOf n)
   pub few : FewDigits (n .raised)
 
@@ -140,5 +140,5 @@ pub record NumberAt (text : List ℕ) (at : ℕ) (x : Float) : Type 0 where
 
 -- ---- names: letters and digits, at most six
 pub record Name (n : List ℕ) : Type 0 where
-  pub spelled : run isWord n ≡ n
+  pub spelled : frontRun isWord n ≡ n
   pub few : length n ≤ nameBytes

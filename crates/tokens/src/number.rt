@@ -9,8 +9,8 @@ ghost use mathlib.Core.Path.{_≡_};
 ghost use Prim.Native.Nat.{_+_, _*_, _-_, _≤_, min};
 ghost use lib.ListN.{length, getD};
 ghost use Rattle.limits.specs.Limits.{mostTens};
-ghost use Rattle.tokens.specs.Number.{tenTo, numberOf, digitsFrom, signEnd, exponentFrom};
-ghost use Rattle.tokens.specs.Token.{numberAt};
+ghost use Rattle.tokens.specs.Number.{tenTo, rangedNumber, digitsFrom, signEnd, exponentFrom};
+ghost use Rattle.tokens.specs.Token.{numberCut};
 ghost use Rattle.tokens.specs.Capped.{cap, decimalAt, capped, powerOf};
 
 // A number read from digits, the place behind them, and the byte there.
@@ -198,7 +198,7 @@ fn apart(a: usize, b: usize) -> usize
 
 // m times 10 to the up less down, or 17 where one of them is out of range.
 fn scaled(m: u64, up: usize, down: usize) -> Token
-    ensures { λ r. ⌜ r ≡ numberOf m up down ⌝ }
+    ensures { λ r. ⌜ r ≡ rangedNumber m up down ⌝ }
 {
     if limits::MOST_DIGITS < m {
         return Token::Bad(17);
@@ -216,7 +216,7 @@ fn scaled(m: u64, up: usize, down: usize) -> Token
 
 // The number at a place.
 pub fn read_number(body: &[u8], at: usize) -> Cut
-    ensures { λ r. ⌜ r ≡ numberAt (now (body .entry)) at ⌝ }
+    ensures { λ r. ⌜ r ≡ numberCut (now (body .entry)) at ⌝ }
 {
     let m = read_mantissa(body, at);
     let count = m.count;

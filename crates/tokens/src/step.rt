@@ -10,7 +10,7 @@ ghost use Prim.Native.Nat.{_≤_};
 ghost use lib.ListN.{length};
 ghost use Rattle.limits.specs.Limits.{nameBytes};
 ghost use Rattle.tokens.specs.Symbol.{symbolNamed};
-ghost use Rattle.tokens.specs.Steps.{heldAs, stepAt};
+ghost use Rattle.tokens.specs.Steps.{heldAs, rowStepAt};
 
 // A token's kind and argument.
 pub struct Held {
@@ -43,7 +43,7 @@ pub enum Step {
 
 // The next step from a place on.
 pub fn take_step(body: &[u8], from: usize) -> Step
-    ensures { λ r. ⌜ r ≡ stepAt (now (body .entry)) from ⌝ }
+    ensures { λ r. ⌜ r ≡ rowStepAt (now (body .entry)) from ⌝ }
 {
     let c = take_cut(body, from);
     let t = c.token;

@@ -28,7 +28,7 @@ use Rattle.model.specs.Places.{loopAt, loops}
 use Rattle.model.specs.Plan.{Lent, lent, PlanOutcome, planOutcome, refused, faulted, some, fit, orderedPlan, weighed}
 use Rattle.model.specs.Plan.{tested, linkedPlan, distinct}
 use Rattle.model.specs.Plan.{sheeted, planned}
-use Rattle.translator.specs.Working.{blank, padded}
+use Rattle.translator.specs.Working.{unfilled, padded}
 use Rattle.model.proofs.ArraysMean.{keys-meant, doubles-meant, names-meant, equated-meant, order-meant, loops-meant}
 
 -- without a 24 all equations are placed
@@ -173,7 +173,7 @@ module _ (ss : List Numbered) (kinds args lines bounds : List ℕ) (laid : Laid 
   -- CONCLUSION: of arrays that fit, what is planned is one of the three
   pub concluded : fit lines bounds kinds (length args) (length used)
       (length faults) mostDefinitions mostStatements mostStatements ≡ true
-      → Conclusion (planned lines bounds kinds args used faults blank)
+      → Conclusion (planned lines bounds kinds args used faults unfilled)
   unfolding planned sheeted
   concluded h =
       rw (length-replicate {A = ℕ} mostDefinitions 0, length-replicate {A = ℕ} mostStatements 0, h, count-keys)

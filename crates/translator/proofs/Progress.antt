@@ -27,7 +27,7 @@ use Rattle.sheet.specs.Reader.{told, sheetOf}
 use Rattle.sheet.specs.Layout.{draftsIn, draftKinds, draftArgs, boundsFrom}
 use Rattle.sheet.proofs.Entries.{list-length}
 use Rattle.translator.specs.declared.SoFar.{SoFar}
-use Rattle.translator.specs.Working.{Progress, Read}
+use Rattle.translator.specs.Working.{Progress, ReadThrough}
 
 -- ---- rows written behind what is held
 
@@ -214,7 +214,7 @@ module _ {text list₀ kinds args lines bounds list : List ℕ} {c : Cursor} {n 
   pub all-done : statementsFrom text c ≡ [] → p .done ≡ sheetOf text
   all-done e = sym (p .split ∙ ap (λ (r : List Statement). p .done ++ map (report told) r) e ∙ append-nil (p .done))
 
-  pub progress-last : statementsFrom text c ≡ [] → Read text list₀ n kinds args lines bounds list
+  pub progress-last : statementsFrom text c ≡ [] → ReadThrough text list₀ n kinds args lines bounds list
   progress-last e =
       let q = all-done e in
       record {

@@ -20,12 +20,12 @@ use Rattle.translator.specs.declared.Ordered.{Ordered}
 use Rattle.translator.specs.declared.Verdict.the-variants.{Faulty}
 use Rattle.translator.specs.Contract.{ordered, orderedReply, orderedReplyOf}
 use Rattle.translator.specs.Verdict.{ifFaults, modelled, decided}
-use Rattle.translator.specs.Working.{Read, Ready, Concludes, Taken, Room, Decides}
+use Rattle.translator.specs.Working.{ReadThrough, ArraysReady, Concludes, Taken, Room, Decides}
 use Rattle.model.proofs.LaidFits.{bounds-many, laid-fits}
 use Rattle.translator.proofs.Counted.{counts}
 
 module _ {text list₀ kinds₀ args₀ lines₀ bounds₀ : List ℕ} (room : Room text list₀ kinds₀ args₀ lines₀ bounds₀)
-    {n : SoFar} {kinds args lines bounds list : List ℕ} (r : Read text list₀ n kinds args lines bounds list) where
+    {n : SoFar} {kinds args lines bounds list : List ℕ} (r : ReadThrough text list₀ n kinds args lines bounds list) where
   few : ltb mostStatements (length (sheetOf text)) ≡ false
   few = le-ltb mostStatements (length (sheetOf text)) (room .taken .few)
 
@@ -99,7 +99,7 @@ module _ {text list₀ kinds₀ args₀ lines₀ bounds₀ : List ℕ} (room : R
 
   -- and all fits
   pub ready-so : {used : List ℕ} → length text ≤ length used
-      → Ready (take (n .statements) lines) (take (n .statements + 1) bounds) (take (n .drafts) kinds)
+      → ArraysReady (take (n .statements) lines) (take (n .statements + 1) bounds) (take (n .drafts) kinds)
       (take (n .drafts) args) used list
   ready-so uses =
       let fs = faultList (statementFaults (sheetOf text)) in

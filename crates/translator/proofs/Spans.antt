@@ -11,7 +11,7 @@ use lib.Seq.{take-at}
 use Rattle.laws.proofs.Tests.{cond-ind}
 use Rattle.limits.specs.Limits.{cardBytes}
 use Rattle.deck.specs.Lines.{Line, cut, linesOf, dotted, passed}
-use Rattle.deck.specs.Joined.{partOf, joined}
+use Rattle.deck.specs.Joined.{linePart, joined}
 use Rattle.deck.specs.Next.{width, runOf, nextOf, Lawful, foundFrom, cardsAt}
 use Rattle.deck.specs.declared.Cursor.{Cursor}
 use Rattle.deck.specs.declared.Found.{Found}
@@ -19,7 +19,7 @@ use Rattle.deck.specs.declared.Found.the-variants.{Statement, End}
 use Rattle.deck.proofs.Cutting.{lineOf, line-at, lines-some, lines-tail}
 use Rattle.deck.proofs.Parts.{part-le}
 use Rattle.deck.proofs.Steps.{found-next}
-use Rattle.translator.specs.Working.{Stands}
+use Rattle.translator.specs.Working.{BytesFrom}
 
 -- the bytes of lines, a byte 10 behind each
 unfoldable pub spread : List Line → ℕ
@@ -53,7 +53,7 @@ joined-spread : (l : Line) (ls : List Line) → length (joined (l ∷ ls)) < spr
 unfolding spread joined
 joined-spread l [] = omega (arith, part-le l)
 joined-spread l (m ∷ ls) =
-    omega (arith, part-le l, length-append (partOf l) (32 ∷ joined (m ∷ ls)), joined-spread m ls)
+    omega (arith, part-le l, length-append (linePart l) (32 ∷ joined (m ∷ ls)), joined-spread m ls)
 
 -- where the statement that is found starts, and where the next cursor stands
 abbrev Spans : List ℕ → ℕ → Found → Type 0
@@ -143,7 +143,7 @@ span t c h b {f} {s} {k} {d} {g} {nx} e =
 -- the joined text of a closed statement of one line stands before the next cursor
 abbrev Alone : List ℕ → Found → Type 0
 Alone t End = Unit {0}
-Alone t (Statement f s k d g nx) = k ≡ 1 → d ≡ true → Stands t s (nx .at) (joined (cardsAt t s k))
+Alone t (Statement f s k d g nx) = k ≡ 1 → d ≡ true → BytesFrom t s (nx .at) (joined (cardsAt t s k))
 
 -- with a line read already it stays open, or has more lines
 run-never : (t : List ℕ) (f s at k : ℕ) (long : Bool) (ls : List Line) → 0 < k → Alone t (runOf f s at k long ls)
@@ -167,7 +167,7 @@ line-stands t s l ls q =
 -- without dots it is the joined text
 run-alone : (t : List ℕ) (f s : ℕ) (l : Line) (ls : List Line) → linesOf (drop s t) ≡ l ∷ ls
     → Alone t (runOf f s s 0 false (l ∷ ls))
-unfolding runOf joined partOf
+unfolding runOf joined linePart
 run-alone t f s l ls q =
     let w = line-stands t s l ls q in
     let m : s + length l + 1 - 1 - s ≡ length l = omega arith in
@@ -186,7 +186,7 @@ next-alone t at n (l ∷ ls) q =
 -- from a lawful cursor on
 pub alone : (t : List ℕ) (c : Cursor) → Lawful c → {f s k : ℕ} {d g : Bool} {nx : Cursor}
     → foundFrom t c ≡ Statement f s k d g nx → k ≡ 1 → d ≡ true
-    → Stands t s (nx .at) (joined (cardsAt t s k))
+    → BytesFrom t s (nx .at) (joined (cardsAt t s k))
 alone t c h e =
     let n : Alone t (foundFrom t c) =
     rw (found-next t c h) (next-alone t (c .at) (c .line) (linesOf (drop (c .at) t)) refl) in

@@ -13,7 +13,7 @@ use Rattle.deck.specs.Lines.{Line}
 use Rattle.deck.specs.Faults.{Place, at-start, at-token, at-end, Flaw, flaw, sizeFlaw}
 use Rattle.deck.specs.Joined.{joined}
 use Rattle.tokens.specs.Symbol.{Symbol, mark, number, name, word}
-use Rattle.tokens.specs.Held.{kindOf, argOf, heldRow}
+use Rattle.tokens.specs.Held.{symbolKind, argOf, heldRow}
 use Rattle.tokens.specs.Row.{Placed, Close, all-good, bad, Row, rowOf, symbols}
 use Rattle.tokens.specs.Contract.{closeEnd, rowEnd, kindsOf, argsOf}
 use Rattle.tokens.specs.declared.RowEnd.the-variants.{NoRoom, Tokens, Fault}
@@ -75,7 +75,7 @@ module _ (s : List ℕ) where
       → ks′ ≡ sets ks 0 (kindsOf (rowOf s)) → us′ ≡ sets us 0 (argsOf (rowOf s))
       → heldRow (take n ks′) (take n us′) ≡ symbols (rowOf s .tokens)
   row-held {n} ks us ks′ us′ e hk hu ek eu =
-      rw (held kindOf ks ks′ hk ek, held argOf us us′ hu eu) (held-back ts (all-hold ts (symbols-fine s)))
+      rw (held symbolKind ks ks′ hk ek, held argOf us us′ hu eu) (held-back ts (all-hold ts (symbols-fine s)))
     where
       ts : List Symbol
       ts = symbols (rowOf s .tokens)

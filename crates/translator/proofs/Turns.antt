@@ -18,7 +18,7 @@ use Rattle.deck.proofs.Walking.{walk, walk-end}
 use Rattle.sheet.specs.Sheet.{Told, says, faulty}
 use Rattle.sheet.specs.Reader.{told, sheetOf}
 use Rattle.translator.specs.declared.SoFar.{SoFar}
-use Rattle.translator.specs.Working.{Able, AddsOf, Adds, Progress, Room, Read}
+use Rattle.translator.specs.Working.{Able, AddsOf, Adds, Progress, Room, ReadThrough}
 use Rattle.translator.proofs.Counted.{counts}
 use Rattle.translator.proofs.Parsing.{drafts-few}
 use Rattle.translator.proofs.Spans.{Span, span, alone, first-near}
@@ -60,7 +60,7 @@ module _ {text kinds₀ args₀ lines₀ bounds₀ list₀ kinds args lines boun
   going-list = ap length (g .progress .listed) ∙ simp length-sets
 
   -- the end
-  pub going-last : foundFrom text c ≡ End → Read text list₀ n kinds args lines bounds list
+  pub going-last : foundFrom text c ≡ End → ReadThrough text list₀ n kinds args lines bounds list
   going-last e = progress-last (g .progress) (walk-end text c (g .progress .lawful) e)
 
   module _ {f s k : ℕ} {d long : Bool} {nx : Cursor} (e : foundFrom text c ≡ Statement f s k d long nx) where

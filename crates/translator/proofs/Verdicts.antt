@@ -17,7 +17,7 @@ use Rattle.translator.specs.declared.Ordered.{Ordered}
 use Rattle.translator.specs.declared.Verdict.{Verdict}
 use Rattle.translator.specs.declared.Verdict.the-variants.{Refused}
 use Rattle.translator.specs.Contract.{Reply, reply, replyOf, Translates, ordered, OrderedReply}
-use Rattle.translator.specs.Contract.{TranslatesInOrder, byNumber, Gives}
+use Rattle.translator.specs.Contract.{TranslatesInOrder, inNumbers, Gives}
 use Rattle.translator.specs.Verdict.{Decision, refused, faulty, translated, decided, verdictOf}
 use Rattle.translator.specs.Verdict.{translationOf, translation}
 use Rattle.translator.specs.Working.{Taken, Decides}
@@ -88,7 +88,7 @@ without-order text f p o e = ap (λ (x : OrderedReply). reply (x .answer .verdic
 
 -- the reply to a verdict has its number and count
 by-case : (v : Decision) (f p : List ℕ)
-    → byNumber (replyOf v f p .answer) (replyOf v f p .faults) (replyOf v f p .program) ≡ translationOf v f p
+    → inNumbers (replyOf v f p .answer) (replyOf v f p .faults) (replyOf v f p .program) ≡ translationOf v f p
 by-case (refused n) f p = refl
 by-case (faulty n fs) f p = refl
 by-case (translated rs ls) f p = refl
@@ -98,5 +98,5 @@ pub by-number : (text f p : List ℕ) {r : Verdict} {f′ p′ : List ℕ} → T
     → Gives text f p r f′ p′
 unfolding translation
 by-number text f p e =
-    ap (λ (x : Reply). byNumber (x .answer) (x .faults) (x .program)) e
+    ap (λ (x : Reply). inNumbers (x .answer) (x .faults) (x .program)) e
     ∙ by-case (verdictOf text (length f) (length p)) f p

@@ -27,7 +27,7 @@ use Rattle.program.specs.Written.{recordCount, writtenProgram, fitting}
 use Rattle.translator.specs.declared.Ordered.{Ordered}
 use Rattle.translator.specs.declared.Verdict.the-variants.{Refused, Faulty, Translated}
 use Rattle.translator.specs.Contract.{ordered}
-use Rattle.translator.specs.Working.{blank, padded, Ready, Planned, orderedLines, Concludes}
+use Rattle.translator.specs.Working.{unfilled, padded, ArraysReady, Planned, orderedLines, Concludes}
 use Rattle.translator.proofs.Progress.{take-sets}
 use Rattle.translator.proofs.Concluding.{Conclusion, concluded, soundPlan, all-placed}
 use Rattle.translator.proofs.Deciding.{written, handed, decides-six, decides-seven, decides-sound, decides-eight}
@@ -188,9 +188,9 @@ module _ {p : Plan} {places equated order lines bounds kinds args : List ℕ}
             (under .0) (under .1))
 
 -- ---- what is planned of statements that are laid out
-module _ {lines bounds kinds args used faults : List ℕ} (ready : Ready lines bounds kinds args used faults)
+module _ {lines bounds kinds args used faults : List ℕ} (ready : ArraysReady lines bounds kinds args used faults)
     {p : Plan} {args′ used′ faults′ places equated order : List ℕ}
-    (plans : Plans lines bounds kinds args used faults blank p args′ used′ faults′ (arrays places equated order))
+    (plans : Plans lines bounds kinds args used faults unfilled p args′ used′ faults′ (arrays places equated order))
     (ss : List Numbered) (laid : Laid ss kinds args lines bounds) (out lent : List ℕ) where
   abbrev reached : PlanOutcome
   reached = planOutcome p args′ used′ faults′ (arrays places equated order)

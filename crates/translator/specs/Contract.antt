@@ -79,8 +79,8 @@ TranslatesInOrder text f p o r f′ p′ o′ =
     orderedReply r f′ p′ o′ ≡ orderedReplyOf (verdictOf text (length f) (length p)) f p o
 
 -- ---- the same by number and count: all that the paper names (law `by-number`)
-abbrev pub byNumber : Verdict → List ℕ → List ℕ → Translation
-byNumber v f p = record { number = numberIn v; count = countIn v; faults = f; program = p }
+abbrev pub inNumbers : Verdict → List ℕ → List ℕ → Translation
+inNumbers v f p = record { number = numberIn v; count = countIn v; faults = f; program = p }
 
 abbrev pub Gives : List ℕ → List ℕ → List ℕ → Verdict → List ℕ → List ℕ → Type 0
-Gives text f p r f′ p′ = byNumber r f′ p′ ≡ translation text f p
+Gives text f p r f′ p′ = inNumbers r f′ p′ ≡ translation text f p

@@ -68,7 +68,7 @@ pub record CardsRoom (body ks us : List ℕ) (p : ℕ) (l u : List ℕ) : Type 0
   pub room : JoinedRoom body ks us p l u
 
 -- the bytes from a place up to one before another are these
-pub record Stands (text : List ℕ) (start next : ℕ) (body : List ℕ) : Type 0 where
+pub record BytesFrom (text : List ℕ) (start next : ℕ) (body : List ℕ) : Type 0 where
   pub from : start < next
   pub upto : next ≤ length text + 1
   pub same : take (next - 1 - start) (drop start text) ≡ body
@@ -77,7 +77,7 @@ pub record Stands (text : List ℕ) (start next : ℕ) (body : List ℕ) : Type 
 -- what stands there
 pub record Before (text : List ℕ) (start cards next code : ℕ) (ks us : List ℕ) (p : ℕ) (l u : List ℕ) : Type 0 where
   pub short : code ≡ 0 → length (joined (cardsAt text start cards)) ≤ joinedRoom
-  pub alone : code ≡ 0 → cards ≡ 1 → Stands text start next (joined (cardsAt text start cards))
+  pub alone : code ≡ 0 → cards ≡ 1 → BytesFrom text start next (joined (cardsAt text start cards))
   pub row-kinds : code ≡ 0 → length (joined (cardsAt text start cards)) ≤ length ks
   pub row-args : code ≡ 0 → length (joined (cardsAt text start cards)) ≤ length us
   pub room-kinds : p + length (joined (cardsAt text start cards)) ≤ length l
@@ -158,7 +158,7 @@ pub record Room (text list kinds args lines bounds : List ℕ) : Type 0 where
   pub bounds-first : take 1 bounds ≡ 0 ∷ []
 
 -- what reading all gives: the whole sheet is done
-pub record Read (text list₀ : List ℕ) (n : SoFar) (kinds args lines bounds list : List ℕ) : Type 0 where
+pub record ReadThrough (text list₀ : List ℕ) (n : SoFar) (kinds args lines bounds list : List ℕ) : Type 0 where
   pub statements : n .statements ≡ length (said (sheetOf text))
   pub drafts : n .drafts ≡ length (draftsIn (said (sheetOf text)))
   pub faults : n .faults ≡ length (statementFaults (sheetOf text))
@@ -175,11 +175,11 @@ padded n l = sets (replicate n 0) 0 l
 
 -- the three arrays that are lent to the plan: a place for each definition, for each statement, and for the order of
 -- these
-abbrev pub blank : Lent
-blank = lent (replicate mostDefinitions 0) (replicate mostStatements 0) (replicate mostStatements 0)
+abbrev pub unfilled : Lent
+unfilled = lent (replicate mostDefinitions 0) (replicate mostStatements 0) (replicate mostStatements 0)
 
 -- the arrays hold some statements, and fit
-pub record Ready (lines bounds kinds args used faults : List ℕ) : Type 0 where
+pub record ArraysReady (lines bounds kinds args used faults : List ℕ) : Type 0 where
   pub statements : List Numbered
   pub laid : Laid statements kinds args lines bounds
   pub fits : fit lines bounds kinds (length args) (length used)

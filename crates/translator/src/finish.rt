@@ -9,7 +9,7 @@ ghost use Rattle.limits.specs.Limits.{mostRecords};
 ghost use Rattle.program.specs.Written.{recordCount};
 ghost use Rattle.sheet.specs.Sheet.{Numbered};
 ghost use Rattle.sheet.specs.Layout.{Laid};
-ghost use Rattle.translator.specs.Working.{Planned, Ready, Concludes, orderedLines};
+ghost use Rattle.translator.specs.Working.{Planned, ArraysReady, Concludes, orderedLines};
 use super::Ordered;
 use super::Verdict;
 use bits::reads::short_at;
@@ -111,7 +111,7 @@ pub(crate) fn conclude(
     out: &mut [u8],
     ordered: &mut [u16],
 ) -> Ordered
-    requires { ⌜ Ready (now lines) (now bounds) (now kinds) (now args) (now used) (now faults) ⌝ }
+    requires { ⌜ ArraysReady (now lines) (now bounds) (now kinds) (now args) (now used) (now faults) ⌝ }
     ensures { λ r. ⌜ ((ss : List Numbered) → Laid ss (now (kinds .entry)) (now (args .entry)) (now (lines .entry))
         (now (bounds .entry))
         → Concludes ss (now (faults .entry)) (now (out .entry)) (now (ordered .entry))

@@ -9,7 +9,7 @@ ghost use Rattle.deck.specs.Joined.{joined};
 ghost use Rattle.deck.specs.Next.{cardsAt};
 ghost use Rattle.sheet.specs.Reader.{parsed, tokened, told};
 ghost use Rattle.translator.specs.Working.{Tells, RowRoom, JoinedRoom, CardsRoom, Size, Before};
-ghost use Rattle.translator.specs.Working.{Able, Adds, Room, Read};
+ghost use Rattle.translator.specs.Working.{Able, Adds, Room, ReadThrough};
 ghost use Rattle.translator.specs.Contract.{Translates, TranslatesInOrder};
 
 mod finish;
@@ -218,7 +218,7 @@ fn read_all(
     list: &mut [u8],
 ) -> SoFar
     requires { ⌜ Room (now text) (now list) (now kinds) (now args) (now lines) (now bounds) ⌝ }
-    ensures { λ r. ⌜ Read (now (text .entry)) (now (list .entry)) r
+    ensures { λ r. ⌜ ReadThrough (now (text .entry)) (now (list .entry)) r
         (now (kinds .exit)) (now (args .exit)) (now (lines .exit)) (now (bounds .exit)) (now (list .exit)) ⌝ }
 {
     let mut row_kinds = [0u8; deck::JOINED_BYTES];

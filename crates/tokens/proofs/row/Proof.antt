@@ -7,7 +7,7 @@ use borrow.Author.Needs.{needs}
 use lib.ListN.{length}
 use Rattle.tokens.specs.declared.step.Held.{Held}
 use Rattle.tokens.specs.declared.step.Step.the-variants.{Good}
-use Rattle.tokens.specs.Steps.{stepAt}
+use Rattle.tokens.specs.Steps.{rowStepAt}
 use Rattle.tokens.proofs.Sound.{Inside}
 use Rattle.tokens.proofs.Steps.{Turn, no-kinds, no-args, turn-first, turn-over, turn-refused, turn-inside}
 use Rattle.tokens.proofs.Steps.{turn-next}
@@ -44,7 +44,7 @@ H k = k .s2 .given .0 .0
 abbrev N : tie.After-s2 Inv-loop μ-loop → ℕ
 N k = k .s2 .given .0 .1 .0
 
-good : (k : tie.After-s2 Inv-loop μ-loop) → Good (H k) (N k) ≡ stepAt (B (L k)) (L k .loop .from)
+good : (k : tie.After-s2 Inv-loop μ-loop) → Good (H k) (N k) ≡ rowStepAt (B (L k)) (L k .loop .from)
 good k = sym (k .s2 .given .1) ∙ k .before .before .take-step .ensures
 
 onward : (k : tie.After-s2 Inv-loop μ-loop) → Inside (B (L k)) (L k .loop .from) (N k)

@@ -10,7 +10,7 @@ use Rattle.deck.specs.Joined.{joined}
 use Rattle.deck.specs.Next.{cardsAt}
 use Rattle.tokens.specs.Row.{rowOf}
 use Rattle.sheet.specs.Reader.{tokened}
-use Rattle.translator.specs.Working.{Size, Stands}
+use Rattle.translator.specs.Working.{Size, BytesFrom}
 use Rattle.translator.proofs.Telling.{tells-of, tells-fault, told-sized, told-joined}
 use Rattle.translator.proofs.read_statement.Statement.{statement}
 use Rattle.translator.proofs.read_statement.Tie as tie
@@ -24,7 +24,7 @@ abbrev A : tie.Then2 → tie.Start
 A t = t .before .before .before .before .before .before .before
 
 -- the line that stands there is the joined text
-stands : (t : tie.Then2) → let s = A t in Stands (s .args .text .now) (s .args .start) (s .args .next) (joined (C s))
+stands : (t : tie.Then2) → let s = A t in BytesFrom (s .args .text .now) (s .args .start) (s .args .next) (joined (C s))
 stands t = A t .pre .alone (t .before .if1 .left) (t .if2 .taken)
 
 returns : tie.Need-returns

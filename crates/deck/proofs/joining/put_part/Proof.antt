@@ -5,7 +5,7 @@ use native.Mathlib.Omega.{arith}
 use borrow.Author.Needs.{needs}
 use lib.ListN.{length, take}
 use lib.Seq.{sets, length-take-le}
-use Rattle.deck.specs.Joined.{partOf}
+use Rattle.deck.specs.Joined.{linePart}
 use Rattle.deck.proofs.Parts.{part-le, part-take}
 use Rattle.deck.proofs.joining.put_part.Statement.{statement}
 use Rattle.deck.proofs.joining.put_part.Tie as tie
@@ -16,7 +16,7 @@ within c = omega (arith, part-le (c .before .before .before .args .line .now), c
 
 -- and gives the part
 whole : (c : tie.After-part-len) → let line = c .before .before .before .args .line .now in
-    take (c .part-len .result) line ≡ partOf line
+    take (c .part-len .result) line ≡ linePart line
 whole c = rw (c .part-len .ensures) (part-take (c .before .before .before .args .line .now))
 
 slice-aggregate-copy : tie.Need-slice-aggregate-copy

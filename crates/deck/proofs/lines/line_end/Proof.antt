@@ -3,14 +3,14 @@ use Prim.Native.Nat.{_-_}
 use native.Mathlib.Omega.{arith}
 use borrow.Author.Needs.{needs}
 use lib.ListN.{length}
-use Rattle.deck.specs.Next.{Passes}
+use Rattle.deck.specs.Next.{SameEnd}
 use Rattle.deck.proofs.Ends.{passes-both}
 use Rattle.deck.proofs.Cutting.{width-ten, width-more, width-end}
 use Rattle.deck.proofs.lines.line_end.Statement.{statement}
 use Rattle.deck.proofs.lines.line_end.Tie as tie
 
 abbrev Inv-loop : tie.InvT-loop
-Inv-loop text at far i₀ i = Passes text at i
+Inv-loop text at far i₀ i = SameEnd text at i
 
 abbrev μ-loop : tie.MeasureT-loop
 μ-loop text at far i₀ i = length text - i

@@ -4,13 +4,13 @@ use mathlib.Core.Path.{sym, _∙_}
 use native.Mathlib.Omega.{arith}
 use borrow.Author.Needs.{needs}
 use lib.ListN.{length}
-use Rattle.deck.specs.Next.{Passes}
+use Rattle.deck.specs.Next.{SameEnd}
 use Rattle.deck.proofs.Ends.{passes-first, passes-on}
 use Rattle.deck.proofs.lines.pass.Statement.{statement}
 use Rattle.deck.proofs.lines.pass.Tie as tie
 
 abbrev Inv-loop : tie.InvT-loop
-Inv-loop text at stride i₀ i = Passes text at i
+Inv-loop text at stride i₀ i = SameEnd text at i
 
 abbrev μ-loop : tie.MeasureT-loop
 μ-loop text at stride i₀ i = length text - i

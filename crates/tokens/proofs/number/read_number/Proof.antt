@@ -9,7 +9,7 @@ use Rattle.tokens.specs.declared.number.Power.{Power}
 use Rattle.tokens.specs.declared.number.Power.the-variants.{Wrong}
 use Rattle.tokens.specs.Bytes.{isWord, isPoint}
 use Rattle.tokens.specs.Number.{digitsFrom}
-use Rattle.tokens.specs.Token.{numberAt}
+use Rattle.tokens.specs.Token.{numberCut}
 use Rattle.tokens.proofs.Numbers.{endOf, empty, through, behind-digits, tail-after, no-tail, after-short}
 use Rattle.tokens.proofs.Numbers.{down-small}
 use Rattle.tokens.proofs.number.read_number.Statement.{statement}
@@ -30,7 +30,7 @@ abbrev M : tie.After-read-exponent → tie.After-read-mantissa
 M x = x .before .before
 
 found : (x : tie.After-read-exponent) (p : Power) → x .read-exponent .result ≡ p
-    → endOf (S (M x)) (A (M x)) (digitsFrom (S (M x)) (A (M x))) p ≡ numberAt (S (M x)) (A (M x))
+    → endOf (S (M x)) (A (M x)) (digitsFrom (S (M x)) (A (M x))) p ≡ numberCut (S (M x)) (A (M x))
 found x p e =
     let m = M x in
     through (S m) (A m) (D m) (m .read-mantissa .ensures) (x .before .if1 .left) p (sym e ∙ x .read-exponent .ensures)

@@ -8,7 +8,7 @@ use Rattle.tokens.specs.declared.Token.{Token}
 use Rattle.tokens.specs.declared.Token.the-variants.{Name, Mark, Number, End, Bad}
 use Rattle.tokens.specs.declared.step.Held.{Held}
 use Rattle.tokens.specs.declared.step.Step.the-variants.{Good}
-use Rattle.tokens.specs.Steps.{stepOf, stepAt}
+use Rattle.tokens.specs.Steps.{stepOf, rowStepAt}
 use Rattle.tokens.proofs.Sound.{Sound}
 use Rattle.tokens.proofs.Steps.{step-sound, as-step, part-bytes}
 use Rattle.tokens.proofs.step.take_step.Statement.{statement}
@@ -23,7 +23,7 @@ F k = k .before .before .args .from
 
 -- the step that the token decides
 gives : (k : tie.After-take-cut) (t : Token) → k .take-cut .result .token ≡ t
-    → stepOf (S k) t (k .take-cut .result .at) (k .take-cut .result .next) ≡ stepAt (S k) (F k)
+    → stepOf (S k) t (k .take-cut .result .at) (k .take-cut .result .next) ≡ rowStepAt (S k) (F k)
 gives k t e = as-step (S k) (F k) (k .take-cut .result) (k .take-cut .ensures) t e
 
 -- a name's place and length, and what is known of them
