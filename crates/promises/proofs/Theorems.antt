@@ -255,7 +255,7 @@ order = agreement.order
 pub records : agree.Records
 records = agreement.records
 
-pub sheet : agree.Sheet
+pub sheet : agree.Sheets
 sheet = agreement.sheet
 
 pub model : agree.Model
