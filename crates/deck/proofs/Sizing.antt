@@ -38,7 +38,8 @@ begun-reading fresh n (l ∷ ls) = go (passed l) (dotted l) (λ s. begun-reading
 begun-reading (inside f cs) n (l ∷ ls) = go (dotted l) (λ s. begun-reading s (suc n) ls)
   where
     go : (d : Bool) → ((s : State) → length (reading s (suc n) ls) ≡ owed s + countBegun (open-in s) ls)
-        → length (justClosed d f (cs ++ (l ∷ [])) ++ reading (goes-on d f (cs ++ (l ∷ []))) (suc n) ls) ≡ 1 + countBegun d ls
+        → length (justClosed d f (cs ++ (l ∷ [])) ++ reading (goes-on d f (cs ++ (l ∷ []))) (suc n) ls)
+        ≡ 1 + countBegun d ls
     go true ih = ih (inside f (cs ++ (l ∷ [])))
     go false ih = omega (arith, ih fresh)
 

@@ -55,7 +55,8 @@ module _ (t : List ℕ) (start cards to : ℕ) (old : List ℕ) where
         let line = lineOf t at e in
         let rest = spaced (cardsAt t (e + 1) (left - 1)) in
         let all : spaced (cardsAt t at left) ≡ 32 ∷ (linePart line ++ rest) = ap spaced (cards-cons t at left e z l) in
-        let n : length (linePart line ++ rest) ≡ length (linePart line) + length rest = length-append (linePart line) rest in
+        let n : length (linePart line ++ rest) ≡ length (linePart line) + length rest =
+        length-append (linePart line) rest in
         let m : r ≡ w + length (32 ∷ linePart line) = omega arith in
         record {
           before = omega (arith, j .before, l .from, l .long, part-le line);

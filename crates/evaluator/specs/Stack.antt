@@ -56,8 +56,8 @@ pub record FindsRoom (x : Instr) (l : List Float) (n : ℕ) (v d : List Float) :
   pub derivs : slots ≤ length d
 
 -- it made one step of the machine
-pub record OneStep (x : Instr) (l : List Float) (n : ℕ) (v d : List Float) (l′ : List Float) (r : ℕ) (v′ d′ : List Float)
-    : Type 0 where
+pub record OneStep (x : Instr) (l : List Float) (n : ℕ) (v d : List Float)
+    (l′ : List Float) (r : ℕ) (v′ d′ : List Float) : Type 0 where
   pub same : machine l′ r v′ d′ ≡ step (machine l n v d) x
   pub count : r ≡ n - takes x + gives x
   pub full : length l′ ≡ stackPlaces

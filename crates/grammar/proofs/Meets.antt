@@ -18,8 +18,8 @@ use Rattle.grammar.specs.declared.expressions.Part.{Part}
 use Rattle.drafts.specs.Drafts.{Draft, draft}
 use Rattle.grammar.specs.Look.{next, rest, byteOf}
 use Rattle.grammar.specs.Parser.{End, got, bad, Res, give, stop, tell, onward, bind, when, need}
-use Rattle.grammar.specs.Contract.{ParseOutcome, parseOutcome, wrote, opDrafts, PutsOp, partDone, partStopped, partOf}
-use Rattle.grammar.specs.Contract.{partWrote, Meets}
+use Rattle.grammar.specs.Contract.{ParseOutcome, parseOutcome, wrote, opDrafts, PutsOp, partDone, partStopped}
+use Rattle.grammar.specs.Contract.{partOf, partWrote, Meets}
 use Rattle.grammar.proofs.Clauses.{rest-at, left-at}
 use Rattle.grammar.proofs.Room.{Fits, FitsEnd}
 use Rattle.grammar.proofs.Seen.{token-at, mark-test}

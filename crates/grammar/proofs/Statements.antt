@@ -131,7 +131,8 @@ module _ {ks us : List ℕ} {i p m : ℕ} {l u : List ℕ} (w : Ready ks us i p 
             const-named λ f le. meets-need 61 (w .even) (omega arith) (sym ee ∙ equals) (rw n at (g f le))
 
         -- no number
-        pub const-missing : {j : ℕ} → Missing j ≡ numberAt ks us (i + 2) → ParsesMany ks us i p l u (partStopped 18 j) l u
+        pub const-missing : {j : ℕ} → Missing j ≡ numberAt ks us (i + 2)
+            → ParsesMany ks us i p l u (partStopped 18 j) l u
         const-missing h = const-equals λ f le. number-stops const-within _ h
 
         module _ {k a j : ℕ} (h : Found k a j ≡ numberAt ks us (i + 2)) where
@@ -286,7 +287,8 @@ module _ {ks us : List ℕ} {i p : ℕ} {l u : List ℕ} {r : Part} {l₁ u₁ :
 
 module _ {ks us : List ℕ} {i p m : ℕ} {l u : List ℕ} (key : ℕ) (w : Ready ks us i p l u) (em : m ≡ getD ks i 0) where
   -- no opening parenthesis
-  pub state-shut : (m ≡ 40 → ⊥) → Meets ks us (integrated (calls (heldRow ks us)) levels key) i p l u (partStopped 18 i) l u
+  pub state-shut : (m ≡ 40 → ⊥)
+      → Meets ks us (integrated (calls (heldRow ks us)) levels key) i p l u (partStopped 18 i) l u
   unfolding integrated
   state-shut n =
       meets-shut (begunState (calls (heldRow ks us)) levels key) 40 (w .even) (w .within) (omega arith) λ z. n (em ∙ z)
@@ -401,7 +403,8 @@ module _ {ks us : List ℕ} {p k : ℕ} {l u : List ℕ} (w : Ready ks us 0 p l 
 
     module _ {e : ℕ} (ee : e ≡ getD ks 1 0) where
       -- no =
-      pub begins-shut : (e ≡ 61 → ⊥) → Meets ks us (statement (calls (heldRow ks us)) levels) 0 p l u (partStopped 18 1) l u
+      pub begins-shut : (e ≡ 61 → ⊥)
+          → Meets ks us (statement (calls (heldRow ks us)) levels) 0 p l u (partStopped 18 1) l u
       begins-shut n =
           let a = first-inside in
           begins-name

@@ -25,8 +25,8 @@ use Rattle.grammar.specs.Grammar.{Signed, unsigned-number, signed-number
 use Rattle.grammar.specs.Parser.{End, got, bad, Res, give, stop, bind, onward, byName, byNumber, behindSign}
 use Rattle.grammar.specs.Parser.{signedValue, aNumber, signedNumber, initially}
 use Rattle.grammar.specs.Codes.{skipOf}
-use Rattle.grammar.specs.Contract.{Within, parseOutcome, wrote, partStopped, partWrote, Meets, valueRead, numberAt}
-use Rattle.grammar.specs.Contract.{initialAt}
+use Rattle.grammar.specs.Contract.{Within, parseOutcome, wrote, partStopped, partWrote, Meets, valueRead}
+use Rattle.grammar.specs.Contract.{numberAt, initialAt}
 use Rattle.grammar.proofs.Endings.{clash, Asked, Before, Out, OutEnd}
 use Rattle.grammar.proofs.StatementsSound.{signed-out, initially-out}
 use Rattle.grammar.proofs.Clauses.{rest-at, left-at}

@@ -130,7 +130,8 @@ rank (terms l) = 0
 rank (factors l) = 0
 rank (list p) = 4
 
--- with calls enough for the tokens at hand: it obeys the clauses of `oneCall` (laws `reads-expr`, ..), and needs no count
+-- with calls enough for the tokens at hand: it obeys the clauses of `oneCall` (laws `reads-expr`, ..), and needs no
+-- count
 unfoldable pub reads : Mode → ℕ → List Symbol → Res Tree
 reads m d s = parse (suc (rank m + 5 * length s)) m d s
 
@@ -187,7 +188,8 @@ abbrev pub rated : ℕ → ℕ → ℕ → Initial → List Symbol → Res Says
 rated f d k i s = bind (parse f expr d s) λ e t. need 41 t λ u. tell (draft kindRate k ∷ []) (give (state k i e) u)
 
 abbrev pub begunState : ℕ → ℕ → ℕ → List Symbol → Res Says
-begunState f d k s = bind (initially s) λ i t. tell (draft kindInitial k ∷ initialDraft i ∷ []) (need 44 t (rated f d k i))
+begunState f d k s =
+    bind (initially s) λ i t. tell (draft kindInitial k ∷ initialDraft i ∷ []) (need 44 t (rated f d k i))
 
 unfoldable pub integrated : ℕ → ℕ → ℕ → List Symbol → Res Says
 integrated f d k s = need 40 s (begunState f d k)

@@ -47,8 +47,8 @@ module _ (p : ℕ → Bool) where
   unfolding frontRun
   run-short [] = zero-le
   run-short (x ∷ xs) =
-      cond-ind (λ (l : List ℕ). length l ≤ length (x ∷ xs)) (p x) (x ∷ frontRun p xs) [] (λ _. suc-le-suc (run-short xs))
-      (λ _. zero-le)
+      cond-ind (λ (l : List ℕ). length l ≤ length (x ∷ xs)) (p x) (x ∷ frontRun p xs) []
+      (λ _. suc-le-suc (run-short xs)) (λ _. zero-le)
 
   -- so the place behind it is not past the end
   pub run-room : (s : List ℕ) (i : ℕ) → i ≤ length s → i + length (frontRun p (drop i s)) ≤ length s

@@ -219,7 +219,8 @@ pub flaw-found : (places lines bounds kinds slots : List ℕ) (j : ℕ) {flaw li
     → faultIf (ltb 0 flaw) line flaw ≡ namesAt places lines bounds kinds slots j
 flaw-found places lines bounds kinds slots j {flaw} {line} {a} {b} e p q l =
     let found : ℕ → ℕ → ℕ = λ (x y : ℕ).
-    nameFlaw (anyIn (undefinedAt (length places) kinds slots) (y - x) x) (anyIn (unfitAt places kinds slots) (y - x) x) in
+    nameFlaw (anyIn (undefinedAt (length places) kinds slots) (y - x) x)
+    (anyIn (unfitAt places kinds slots) (y - x) x) in
     ap₂ (λ (c n : ℕ). faultIf (ltb 0 c) n c) (e ∙ ap₂ found p q) l
     ∙ flaw-fault (anyOf bounds (undefinedAt (length places) kinds slots) j)
     (anyOf bounds (unfitAt places kinds slots) j) (getD lines j 0)

@@ -231,8 +231,8 @@ module _ {lines bounds kinds slots starts used equated : List ℕ} {m w : ℕ}
   pub weighed-by : {p : Plan} {faults′ placed′ : List ℕ} (n : ℕ) (faults placed : List ℕ)
       → ((slots filled places : List ℕ)
       → planOutcome p slots filled faults′ (lent places equated placed′)
-      ≡ orderedPlan (order m (usesByTable (take (m + 1) starts) (take w used))) n (take m equated) lines slots filled faults
-      (lent places equated placed))
+      ≡ orderedPlan (order m (usesByTable (take (m + 1) starts) (take w used))) n (take m equated) lines slots filled
+      faults (lent places equated placed))
       → (places : List ℕ)
       → planOutcome p slots used faults′ (lent places equated placed′)
       ≡ weighed (equatedIn (length lines) bounds kinds) n lines bounds kinds slots used faults

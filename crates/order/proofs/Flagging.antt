@@ -130,8 +130,9 @@ module _ {n : ℕ} {s u m f v : List ℕ} (t : Fit n s u) where
         }
 
     -- or it waits
-    pub flags-wait : Flags n k s u m f v p → (j : ℕ) → getD v′ x 0 ≡ j → j < n → usesByTable s u x j ≡ true → getD m j 0 ≡ 0
-        → getD m x 0 ≡ 0 → getD f x 0 ≡ 0 → {c : ℕ} → ((i : ℕ) → i < c → (i ≡ x → ⊥) → i < k) → Flags n c s u m f v′ p
+    pub flags-wait : Flags n k s u m f v p → (j : ℕ) → getD v′ x 0 ≡ j → j < n → usesByTable s u x j ≡ true
+        → getD m j 0 ≡ 0 → getD m x 0 ≡ 0 → getD f x 0 ≡ 0
+        → {c : ℕ} → ((i : ℕ) → i < c → (i ≡ x → ⊥) → i < k) → Flags n c s u m f v′ p
     flags-wait g j at hj uses mj z fz up =
         record {
           flags-size = g .flags-size;

@@ -160,7 +160,8 @@ module _ (n : ℕ) (uses : ℕ → ℕ → Bool) where
   next-none l h j m = first-before (ready n uses l) n 0 j (omega arith) (omega arith)
 
   -- what each step keeps holds at the end
-  place-keeps : (P : List ℕ → Type 0) → ((l : List ℕ) → P l → leastReady n uses l < n → P (l ++ (leastReady n uses l ∷ [])))
+  place-keeps : (P : List ℕ → Type 0)
+      → ((l : List ℕ) → P l → leastReady n uses l < n → P (l ++ (leastReady n uses l ∷ [])))
       → (k : ℕ) (l : List ℕ) → P l → P (place n uses k l)
   unfolding place
   place-keeps P step zero l p = p
@@ -195,7 +196,8 @@ module _ (n : ℕ) (uses : ℕ → ℕ → Bool) where
   after-nil p j h = absurd (omega arith)
 
   -- and with one more
-  after-step : (l : List ℕ) → EachAfter n uses l → leastReady n uses l < n → EachAfter n uses (l ++ (leastReady n uses l ∷ []))
+  after-step : (l : List ℕ) → EachAfter n uses l → leastReady n uses l < n
+      → EachAfter n uses (l ++ (leastReady n uses l ∷ []))
   after-step l a h p j m hj u =
       ⊎-elim
       (λ e.
@@ -224,8 +226,8 @@ module _ (n : ℕ) (uses : ℕ → ℕ → Bool) where
   full-step : (l : List ℕ) → Full l → leastReady n uses l < n → Full (l ++ (leastReady n uses l ∷ []))
   unfolding Full
   full-step l f h =
-      omega
-      (arith, free-snoc n (leastReady n uses l) l h (ready-free l _ (next-ready l h)), length-append l (leastReady n uses l ∷ []))
+      let x = leastReady n uses l in
+      omega (arith, free-snoc n x l h (ready-free l _ (next-ready l h)), length-append l (x ∷ []))
 
   -- in the end none is ready
   stuck : (k : ℕ) (l : List ℕ) → free n l ≤ k → (i : ℕ) → i < n → ready n uses (place n uses k l) i ≡ false
@@ -381,7 +383,8 @@ module _ (n : ℕ) (uses : ℕ → ℕ → Bool) where
       cond-ind (λ r. r ≼ p ++ []) (ltb (leastReady n uses p) n) _ p
       (λ t.
       let h = ltb-true (leastReady n uses p) n t in
-      absurd (omega (arith, ready-free p _ (next-ready p h), g .perm .within _ h, count-append (leastReady n uses p) p [])))
+      let c = count-append (leastReady n uses p) p [] in
+      absurd (omega (arith, ready-free p _ (next-ready p h), g .perm .within _ h, c)))
       (λ t. ≼-prefix p [])
   least (suc k) p (b ∷ q) g =
       let c = count-append b p (b ∷ q) in
@@ -395,7 +398,8 @@ module _ (n : ℕ) (uses : ℕ → ℕ → Bool) where
       (least k (p ++ (b ∷ [])) q (rw (append-assoc p (b ∷ []) q) g)))
       (λ l.
       let f = place-front k (p ++ (leastReady n uses p ∷ [])) in
-      rw (f .1, append-assoc p (leastReady n uses p ∷ []) (f .0)) (≼-append p (leastReady n uses p ∷ f .0) (b ∷ q) (inl l)))
+      rw (f .1, append-assoc p (leastReady n uses p ∷ []) (f .0))
+      (≼-append p (leastReady n uses p ∷ f .0) (b ∷ q) (inl l)))
       (eq-or-lt-of-le (next-least p b r))) (λ t. ≼-prefix p (b ∷ q))
 
   -- the order is the first of all good ones in dictionary order

@@ -37,8 +37,8 @@ use Rattle.promises.specs.Table.{Trial, trials, shown, wanted, tank, dec
 pub tried : map shown trials ≡ map wanted trials
 unfolding trials listing listingOf figuresIn verdictOf decided linesOf trimmed dotted passed after ended left reading
     linePart joined anyLong sizeFlaw told sheetOf
-    concat-map sameBytes numbers frontRun count lowWord decimal digitsFrom exponentFrom tenTo scaled tokenOf numberCut nameAt
-    tokenAt cutAt
+    concat-map sameBytes numbers frontRun count lowWord decimal digitsFrom exponentFrom tenTo scaled tokenOf numberCut
+    nameAt tokenAt cutAt
     lookUp symbolNamed rowFrom rowOf
     names postfix next rest byteOf give-to factorStart startOf bind parse signedNumber many initially assigned
     integrated statement entire readRow
@@ -57,12 +57,12 @@ pub computed : (heightOf (verdictOf deck faultRoom programRoom) ≡ stackPlaces)
     × (numberFor loop ≡ 7) × Plain loop
 unfolding highest verdictOf decided linesOf trimmed dotted passed after ended left reading linePart joined anyLong
     sizeFlaw told sheetOf concat-map
-    sameBytes numbers frontRun count lowWord decimal digitsFrom exponentFrom tenTo scaled tokenOf numberCut nameAt tokenAt
-    cutAt
+    sameBytes numbers frontRun count lowWord decimal digitsFrom exponentFrom tenTo scaled tokenOf numberCut
+    nameAt tokenAt cutAt
     lookUp symbolNamed rowFrom rowOf names
     postfix next rest byteOf give-to factorStart startOf bind parse signedNumber many initially assigned integrated
     statement entire readRow any chained
-    all first ready leastReady place order placeIn again faults21 within modelFaults valueIn program ofBits ofInt mul div
-    neg round units size climb
+    all first ready leastReady place order placeIn again faults21 within modelFaults valueIn program ofBits ofInt mul
+    div neg round units size climb
     span odd
 computed = (refl, refl, (refl, refl), refl, (refl, refl))

@@ -93,7 +93,8 @@ module _ (n : List ℕ) where
 
   -- a word has none
   arg-word : (symbolKind (symbolNamed n) ≡ nameKind → ⊥) → argOf (symbolNamed n) ≡ 0
-  arg-word = symbol-ind (λ (t : Symbol). (symbolKind t ≡ nameKind → ⊥) → argOf t ≡ 0) (λ w h. refl) (λ h. absurd (h refl))
+  arg-word =
+      symbol-ind (λ (t : Symbol). (symbolKind t ≡ nameKind → ⊥) → argOf t ≡ 0) (λ w h. refl) (λ h. absurd (h refl))
 
   -- a name's number is its key
   pub name-key : (k : ℕ) → symbolNamed n ≡ name k → k ≡ keyOf n

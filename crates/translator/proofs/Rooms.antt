@@ -25,7 +25,8 @@ use Rattle.model.proofs.LaidFits.{bounds-many, laid-fits}
 use Rattle.translator.proofs.Counted.{counts}
 
 module _ {text list₀ kinds₀ args₀ lines₀ bounds₀ : List ℕ} (room : Room text list₀ kinds₀ args₀ lines₀ bounds₀)
-    {n : SoFar} {kinds args lines bounds list : List ℕ} (r : ReadThrough text list₀ n kinds args lines bounds list) where
+    {n : SoFar} {kinds args lines bounds list : List ℕ}
+    (r : ReadThrough text list₀ n kinds args lines bounds list) where
   few : ltb mostStatements (length (sheetOf text)) ≡ false
   few = le-ltb mostStatements (length (sheetOf text)) (room .taken .few)
 
