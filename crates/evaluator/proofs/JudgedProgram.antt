@@ -20,35 +20,39 @@ use Rattle.records.specs.Record.{decodeAt, decoded}
 use Rattle.records.specs.Decode.{decodedAt}
 use Rattle.records.proofs.Decoding.{slot-inside, decoded-at}
 use Rattle.records.proofs.LeftRecords.{left, left-all, left-next, left-none}
-use Rattle.evaluator.specs.Judge.{ruleOf, good, judged, judge₀, anyOpen, answer, judgeFrom, judge}
-use Rattle.evaluator.specs.State.{state, known, Stands, Judges}
+use Rattle.evaluator.specs.Judge.{stateMark, ruleOf, good, judged, judge₀, anyOpen, answer, judgeFrom, judge}
+use Rattle.evaluator.specs.Reached.{reached, known, Stands, Judges}
 use Rattle.evaluator.specs.declared.Answer.{Answer}
-use Rattle.evaluator.specs.declared.judge.State.{State}
+use Rattle.evaluator.specs.declared.judge.Reached.{Reached}
 
 -- where no derivative is owed, no state is without one
-open-none : (l : List ℕ) → count 2 l ≡ 0 → anyOpen l ≡ false
+open-none : (l : List ℕ) → count stateMark l ≡ 0 → anyOpen l ≡ false
 unfolding anyOpen count
 open-none [] e = refl
 open-none (m ∷ l) e =
-    ⊎-elim (λ (q : 2 ≡ m). let o : once (eqb 2 m) ≡ 1 = rw (eq-eqb 2 m q) in absurd (omega arith))
-    (λ d. rw (ne-eqb m 2 (λ q. d (sym q)), open-none l (omega arith))) (eq-or-ne 2 m)
+    ⊎-elim
+    (λ (q : stateMark ≡ m).
+    let o : once (eqb stateMark m) ≡ 1 = rw (eq-eqb stateMark m q) in
+    absurd (omega arith))
+    (λ d. rw (ne-eqb m stateMark (λ q. d (sym q)), open-none l (omega arith))) (eq-or-ne stateMark m)
 
 -- where one is owed, some state is
-open-some : (l : List ℕ) → (count 2 l ≡ 0 → ⊥) → anyOpen l ≡ true
+open-some : (l : List ℕ) → (count stateMark l ≡ 0 → ⊥) → anyOpen l ≡ true
 unfolding anyOpen count
 open-some [] e = absurd (e refl)
 open-some (m ∷ l) e =
-    ⊎-elim (λ (q : 2 ≡ m). rw (eq-eqb m 2 (sym q)))
-    (λ d. rw (ne-eqb m 2 (λ q. d (sym q))) (open-some l (λ z. e (omega (arith, once-other 2 m d))))) (eq-or-ne 2 m)
+    ⊎-elim (λ (q : stateMark ≡ m). rw (eq-eqb m stateMark (sym q)))
+    (λ d. rw (ne-eqb m stateMark (λ q. d (sym q))) (open-some l (λ z. e (omega (arith, once-other stateMark m d)))))
+    (eq-or-ne stateMark m)
 
 -- before record i
-pub record Judging (p : List ℕ) (l : List ℕ) (t : State) (i : ℕ) : Type 0 where
+pub record Judging (p : List ℕ) (l : List ℕ) (t : Reached) (i : ℕ) : Type 0 where
   pub here : i ≤ length p / recordBytes
   pub stands : Stands t l
   pub same : judge (decoded p) ≡ judgeFrom i (known t l) (left p i)
 
 -- before record 0
-pub first : (p : List ℕ) {t : State} → t ≡ state 1 0 0 → Judging p (judge₀ .marks) t 0
+pub first : (p : List ℕ) {t : Reached} → t ≡ reached 1 0 0 → Judging p (judge₀ .marks) t 0
 unfolding count
 first p e =
     rw e
@@ -62,8 +66,8 @@ first p e =
 pub ready : (p : List ℕ) (i : ℕ) {x : Instr} → i < length p / recordBytes → x ≡ decodedAt p i → operandOf x < slots
 ready p i h e = rw (e, decoded-at p i h) (slot-inside p (i * recordBytes))
 
-module _ {p l : List ℕ} {t : State} {i : ℕ} (a : Judging p l t i) where
-  module _ {x : Instr} (h : i < length p / recordBytes) (e : x ≡ decodedAt p i) {u : State} {k : List ℕ}
+module _ {p l : List ℕ} {t : Reached} {i : ℕ} (a : Judging p l t i) where
+  module _ {x : Instr} (h : i < length p / recordBytes) (e : x ≡ decodedAt p i) {u : Reached} {k : List ℕ}
       (j : Judges t l (ruleOf (shapeOf x)) u k) where
     -- record i is bad
     pub refused : {r : Answer} → not (u .ok) ≡ true → r ≡ answer 3 i → r ≡ judge (decoded p)

@@ -8,8 +8,8 @@ use borrow.Author.Tests.{le-leb, ne-eqb}
 use lib.ListN.{length, getD}
 use Rattle.limits.specs.Limits.{stackPlaces}
 use Rattle.records.specs.declared.Instr.{Instr}
-use Rattle.evaluator.specs.Judge.{takes, gives, phaseOf, slotFine, marked, Judge, good, judged, anyOpen, answer}
-use Rattle.evaluator.specs.Judge.{judgeFrom}
+use Rattle.evaluator.specs.Judge.{stateMark, takes, gives, phaseOf, slotFine, marked, Judge, good, judged}
+use Rattle.evaluator.specs.Judge.{anyOpen, answer, judgeFrom}
 
 -- the judge in a phase, with a count of values and with marks
 abbrev pub judgeAt : ℕ → ℕ → List ℕ → Judge
@@ -56,8 +56,8 @@ unfolding judgeFrom
 leads-accepted i j k [] a h o = rw (a, h, o)
 leads-accepted i j k (x ∷ xs) a h o = rw (a .0) (leads-accepted (suc i) (judged j x) k xs (a .1) h o)
 
--- no state is open where no mark is 2
-pub none-open : (l : List ℕ) → ((p : ℕ) → p < length l → getD l p 0 ≡ 2 → ⊥) → anyOpen l ≡ false
+-- no state is open where no mark is that of a state without derivative
+pub none-open : (l : List ℕ) → ((p : ℕ) → p < length l → getD l p 0 ≡ stateMark → ⊥) → anyOpen l ≡ false
 unfolding anyOpen
 none-open [] h = refl
-none-open (x ∷ l) h = rw (ne-eqb x 2 (h 0 (omega arith)), none-open l (λ p m. h (suc p) (omega arith)))
+none-open (x ∷ l) h = rw (ne-eqb x stateMark (h 0 (omega arith)), none-open l (λ p m. h (suc p) (omega arith)))

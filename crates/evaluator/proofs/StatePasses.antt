@@ -23,7 +23,7 @@ use Rattle.records.proofs.LeftRecords.{left, left-all, left-next, left-none}
 use Rattle.evaluator.specs.Judge.{ruleOf, takes, gives, phaseOf}
 use Rattle.evaluator.specs.Evaluate.{ifInitial, eachState}
 use Rattle.evaluator.specs.Sound.{Sound}
-use Rattle.evaluator.specs.State.{Passes}
+use Rattle.evaluator.specs.Reached.{Passes}
 use Rattle.evaluator.proofs.AcceptedSound.{sound-next}
 
 -- ---- one record

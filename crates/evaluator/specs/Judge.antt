@@ -10,12 +10,32 @@ use Rattle.records.specs.Shape.{value, slot, operands}
 use Rattle.records.specs.Shape.{Shape, constant, initial, push, fold, store, derivative, store-again, bad, shapeOf}
 use Rattle.evaluator.specs.declared.Answer.{Answer}
 
+-- ---- marks: what is known of a slot
+
+-- it is not set
+abbrev pub unsetMark : ℕ
+unsetMark = 0
+
+-- it is a constant, or slot 0
+abbrev pub givenMark : ℕ
+givenMark = 1
+
+-- it is a state, without its derivative or with it
+abbrev pub stateMark : ℕ
+stateMark = 2
+
+abbrev pub derivedMark : ℕ
+derivedMark = 3
+
+-- it is stored: a kind 13 set it
+abbrev pub storedMark : ℕ
+storedMark = 4
+
 -- ---- one record
 
--- What is known of a slot is its mark: 0 it is not set, 1 it is a constant or slot 0, 2 a state, 3 a state with its
--- derivative, 4 it is stored: a kind 13 set it. With the marks l the slot s is not set
+-- with the marks l the slot s is not set
 abbrev unset : List ℕ → ℕ → Bool
-unset l s = eqb (getD l s 0) 0
+unset l s = eqb (getD l s 0) unsetMark
 
 -- what the judge asks of a record, and what it makes of it
 pub record Rule : Type 0 where
@@ -46,23 +66,23 @@ foldRule n = rule n 1 3 (λ l h. true) (λ l. l)
 
 -- 13 wants one value
 abbrev pub storeRule : ℕ → Rule
-storeRule s = rule 1 0 3 (λ l h. eqb h 1 && unset l s) (λ l. set l s 4)
+storeRule s = rule 1 0 3 (λ l h. eqb h 1 && unset l s) (λ l. set l s storedMark)
 
 -- 14 wants one value, and a state without derivative
 abbrev pub derivativeRule : ℕ → Rule
-derivativeRule s = rule 1 0 3 (λ l h. eqb h 1 && eqb (getD l s 0) 2) (λ l. set l s 3)
+derivativeRule s = rule 1 0 3 (λ l h. eqb h 1 && eqb (getD l s 0) stateMark) (λ l. set l s derivedMark)
 
 -- 15 wants one value, and a slot that a kind 13 set
 abbrev pub againRule : ℕ → Rule
-againRule s = rule 1 0 3 (λ l h. eqb h 1 && eqb (getD l s 0) 4) (λ l. l)
+againRule s = rule 1 0 3 (λ l h. eqb h 1 && eqb (getD l s 0) storedMark) (λ l. l)
 
 -- what is no record is bad
 abbrev pub badRule : Rule
 badRule = rule 0 0 3 (λ l h. false) (λ l. l)
 
 abbrev pub ruleOf : Shape → Rule
-ruleOf (constant s x) = setRule 1 s 1
-ruleOf (initial s x) = setRule 2 s 2
+ruleOf (constant s x) = setRule 1 s givenMark
+ruleOf (initial s x) = setRule 2 s stateMark
 ruleOf (push (value x)) = foldRule 0
 ruleOf (push (slot s)) = readRule s
 ruleOf (fold o) = foldRule (operands o)
@@ -112,12 +132,12 @@ judged j x = judgedBy j (ruleOf (shapeOf x))
 
 -- at the beginning slot 0 is set, and no other
 abbrev pub judge₀ : Judge
-judge₀ = record { phase = 1; height = 0; marks = set (replicate slots 0) 0 1 }
+judge₀ = record { phase = 1; height = 0; marks = set (replicate slots unsetMark) 0 givenMark }
 
 -- some slot is a state without derivative
 unfoldable pub anyOpen : List ℕ → Bool
 anyOpen [] = false
-anyOpen (m ∷ ms) = eqb m 2 || anyOpen ms
+anyOpen (m ∷ ms) = eqb m stateMark || anyOpen ms
 
 -- the answer: a number, and a record number, 0 but for 3
 abbrev pub answer : ℕ → ℕ → Answer

@@ -6,4 +6,4 @@ pub mod Contract
 -- as code holds it
 pub mod Sound
 pub mod Stack
-pub mod State
+pub mod Reached

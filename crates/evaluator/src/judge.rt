@@ -12,13 +12,31 @@ ghost use Rattle.limits.specs.Limits.{slots, stackPlaces};
 ghost use Rattle.records.specs.Fields.{operandOf};
 ghost use Rattle.records.specs.Shape.{shapeOf};
 ghost use Rattle.records.specs.Record.{decoded};
-ghost use Rattle.evaluator.specs.Judge.{setRule, readRule, storeRule, derivativeRule, againRule};
-ghost use Rattle.evaluator.specs.Judge.{ruleOf, judge};
-ghost use Rattle.evaluator.specs.State.{state, stopped, pushed, folded, Stands, Judges};
+ghost use Rattle.evaluator.specs.Judge.{givenMark, stateMark, setRule, readRule, storeRule};
+ghost use Rattle.evaluator.specs.Judge.{derivativeRule, againRule, ruleOf, judge};
+ghost use Rattle.evaluator.specs.Reached.{reached, stopped, pushed, folded, Stands, Judges};
+
+// ---- marks: what is known of a slot
+
+// It is not set.
+const UNSET: u8 = 0;
+
+// It is a constant, or slot 0.
+const GIVEN: u8 = 1;
+
+// It is a state, without its derivative or with it.
+const STATE: u8 = 2;
+
+const DERIVED: u8 = 3;
+
+// It is stored: a kind 13 set it.
+const STORED: u8 = 4;
+
+// ---- one record
 
 // What is known between two records, beside the marks of the slots: the phase reached, the count of values on the stack
 // and the count of states without derivative; or that the record was bad.
-pub struct State {
+pub struct Reached {
     pub ok: bool,
     pub phase: usize,
     pub height: usize,
@@ -26,10 +44,10 @@ pub struct State {
 }
 
 // The record was bad.
-fn bad() -> State
+fn bad() -> Reached
     ensures { λ r. ⌜ r ≡ stopped ⌝ }
 {
-    State {
+    Reached {
         ok: false,
         phase: 0,
         height: 0,
@@ -38,10 +56,10 @@ fn bad() -> State
 }
 
 // The record was good.
-fn fine(phase: usize, height: usize, owed: usize) -> State
-    ensures { λ r. ⌜ r ≡ state phase height owed ⌝ }
+fn fine(phase: usize, height: usize, owed: usize) -> Reached
+    ensures { λ r. ⌜ r ≡ reached phase height owed ⌝ }
 {
-    State {
+    Reached {
         ok: true,
         phase,
         height,
@@ -50,7 +68,7 @@ fn fine(phase: usize, height: usize, owed: usize) -> State
 }
 
 // One value more.
-fn push(t: State) -> State
+fn push(t: Reached) -> Reached
     ensures { λ r. ⌜ r ≡ pushed t ⌝ }
 {
     if t.height < STACK {
@@ -61,7 +79,7 @@ fn push(t: State) -> State
 }
 
 // One value for k.
-fn fold(t: State, k: usize) -> State
+fn fold(t: Reached, k: usize) -> Reached
     requires { ⌜ t .height ≤ stackPlaces ⌝ }
     ensures { λ r. ⌜ r ≡ folded t k ⌝ }
 {
@@ -73,92 +91,92 @@ fn fold(t: State, k: usize) -> State
 }
 
 // Kind 1: its slot is not set yet, and no other kind stood before.
-fn constant(t: State, marks: &mut [u8; SLOTS], s: u16) -> State
+fn constant(t: Reached, marks: &mut [u8; SLOTS], s: u16) -> Reached
     requires { ⌜ Stands t (now marks) × (s < slots) ⌝ }
-    ensures { λ r. ⌜ Judges t (now (marks .entry)) (setRule 1 s 1) r (now (marks .exit)) ⌝ }
+    ensures { λ r. ⌜ Judges t (now (marks .entry)) (setRule 1 s givenMark) r (now (marks .exit)) ⌝ }
 {
     if 1 < t.phase {
         return bad();
     }
-    if marks[s as usize] != 0 {
+    if marks[s as usize] != UNSET {
         return bad();
     }
-    marks[s as usize] = 1;
+    marks[s as usize] = GIVEN;
     fine(1, t.height, t.owed)
 }
 
 // Kind 2: its slot is not set yet, and kinds 3 to 15 did not stand before.
-fn initial(t: State, marks: &mut [u8; SLOTS], s: u16) -> State
+fn initial(t: Reached, marks: &mut [u8; SLOTS], s: u16) -> Reached
     requires { ⌜ Stands t (now marks) × (s < slots) ⌝ }
-    ensures { λ r. ⌜ Judges t (now (marks .entry)) (setRule 2 s 2) r (now (marks .exit)) ⌝ }
+    ensures { λ r. ⌜ Judges t (now (marks .entry)) (setRule 2 s stateMark) r (now (marks .exit)) ⌝ }
 {
     if 2 < t.phase {
         return bad();
     }
-    if marks[s as usize] != 0 {
+    if marks[s as usize] != UNSET {
         return bad();
     }
-    marks[s as usize] = 2;
+    marks[s as usize] = STATE;
     fine(2, t.height, t.owed + 1)
 }
 
 // Kind 4: its slot is set.
-fn slot(t: State, marks: &mut [u8; SLOTS], s: u16) -> State
+fn slot(t: Reached, marks: &mut [u8; SLOTS], s: u16) -> Reached
     requires { ⌜ Stands t (now marks) × (s < slots) ⌝ }
     ensures { λ r. ⌜ Judges t (now (marks .entry)) (readRule s) r (now (marks .exit)) ⌝ }
 {
-    if marks[s as usize] == 0 {
+    if marks[s as usize] == UNSET {
         return bad();
     }
     push(t)
 }
 
 // Kind 13: there is one value, and the slot is not set yet.
-fn store(t: State, marks: &mut [u8; SLOTS], s: u16) -> State
+fn store(t: Reached, marks: &mut [u8; SLOTS], s: u16) -> Reached
     requires { ⌜ Stands t (now marks) × (s < slots) ⌝ }
     ensures { λ r. ⌜ Judges t (now (marks .entry)) (storeRule s) r (now (marks .exit)) ⌝ }
 {
     if t.height != 1 {
         return bad();
     }
-    if marks[s as usize] != 0 {
+    if marks[s as usize] != UNSET {
         return bad();
     }
-    marks[s as usize] = 4;
+    marks[s as usize] = STORED;
     fine(3, 0, t.owed)
 }
 
 // Kind 14: there is one value, and the slot is a state without derivative.
-fn deriv(t: State, marks: &mut [u8; SLOTS], s: u16) -> State
+fn deriv(t: Reached, marks: &mut [u8; SLOTS], s: u16) -> Reached
     requires { ⌜ Stands t (now marks) × (s < slots) ⌝ }
     ensures { λ r. ⌜ Judges t (now (marks .entry)) (derivativeRule s) r (now (marks .exit)) ⌝ }
 {
     if t.height != 1 {
         return bad();
     }
-    if marks[s as usize] != 2 {
+    if marks[s as usize] != STATE {
         return bad();
     }
-    marks[s as usize] = 3;
+    marks[s as usize] = DERIVED;
     fine(3, 0, t.owed - 1)
 }
 
 // Kind 15: there is one value, and a kind 13 set the slot.
-fn store_again(t: State, marks: &mut [u8; SLOTS], s: u16) -> State
+fn store_again(t: Reached, marks: &mut [u8; SLOTS], s: u16) -> Reached
     requires { ⌜ Stands t (now marks) × (s < slots) ⌝ }
     ensures { λ r. ⌜ Judges t (now (marks .entry)) (againRule s) r (now (marks .exit)) ⌝ }
 {
     if t.height != 1 {
         return bad();
     }
-    if marks[s as usize] != 4 {
+    if marks[s as usize] != STORED {
         return bad();
     }
     fine(3, 0, t.owed)
 }
 
 // One record.
-fn judge_step(t: State, marks: &mut [u8; SLOTS], ins: Instr) -> State
+fn judge_step(t: Reached, marks: &mut [u8; SLOTS], ins: Instr) -> Reached
     requires { ⌜ Stands t (now marks) × (operandOf ins < slots) ⌝ }
     ensures { λ r. ⌜ Judges t (now (marks .entry)) (ruleOf (shapeOf ins)) r (now (marks .exit)) ⌝ }
 {
@@ -182,12 +200,14 @@ fn judge_step(t: State, marks: &mut [u8; SLOTS], ins: Instr) -> State
     }
 }
 
+// ---- all records
+
 // The judge's answer on a program.
 pub fn judge(program: &[u8]) -> Answer
     ensures { λ r. ⌜ r ≡ judge (decoded (now (program .entry))) ⌝ }
 {
-    let mut marks = [0u8; SLOTS];
-    marks[0] = 1;
+    let mut marks = [UNSET; SLOTS];
+    marks[0] = GIVEN;
     let mut t = fine(1, 0, 0);
     let total = program.len() / RECORD_BYTES;
     let mut i: usize = 0;

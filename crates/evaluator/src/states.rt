@@ -11,7 +11,7 @@ ghost use Rattle.records.specs.Fields.{operandOf};
 ghost use Rattle.records.specs.Record.{decoded};
 ghost use Rattle.evaluator.specs.Evaluate.{startAll, moved, moveAll};
 ghost use Rattle.evaluator.specs.Sound.{Sound};
-ghost use Rattle.evaluator.specs.State.{Passes};
+ghost use Rattle.evaluator.specs.Reached.{Passes};
 
 // One record of a start, and whether an initial value can follow it.
 fn start_step(values: &mut [f64], ins: Instr) -> bool

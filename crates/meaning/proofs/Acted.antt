@@ -16,7 +16,7 @@ use Rattle.records.specs.declared.Instr.{Instr}
 use Rattle.records.specs.Fields.{fieldsOf}
 use Rattle.records.specs.Shape.{value, slot, operands, applied}
 use Rattle.records.specs.Shape.{Shape, constant, initial, push, fold, store, derivative, store-again, bad, shapeOf}
-use Rattle.evaluator.specs.Judge.{ruleOf}
+use Rattle.evaluator.specs.Judge.{unsetMark, givenMark, stateMark, derivedMark, storedMark, ruleOf}
 use Rattle.evaluator.specs.Machine.{Machine, act, step, run}
 use Rattle.meaning.specs.ReadSlots.{SetSlot, DerivedSlot, Same}
 
@@ -107,7 +107,7 @@ acted-roomy m n h r =
 
 -- by the marks l a slot is set
 abbrev pub Marked : List ℕ → ℕ → Type 0
-Marked l q = getD l q 0 ≡ 0 → ⊥
+Marked l q = getD l q 0 ≡ unsetMark → ⊥
 
 -- the same working values, and the same values in each slot that is set
 pub record Alike (l : List ℕ) (m n : Machine) : Type 0 where
@@ -208,7 +208,7 @@ acted-alike l k m n r a h b g f = go h b g f
           stack = a .stack;
           values =
               λ q u.
-              marked-set l s 1 q u
+              marked-set l s givenMark q u
               (λ (e : q ≡ s). rw e (set-now (m .values) (n .values) s x x (omega (arith, r .values))
               (omega (arith, r .values-too)) refl))
               (kept (constant s x) b q);
@@ -216,7 +216,7 @@ acted-alike l k m n r a h b g f = go h b g f
     go (initial s x) b g f =
         record {
           stack = a .stack;
-          values = λ q u. marked-set l s 2 q u (λ (e : q ≡ s). rw e (f s x refl)) (kept (initial s x) b q);
+          values = λ q u. marked-set l s stateMark q u (λ (e : q ≡ s). rw e (f s x refl)) (kept (initial s x) b q);
         }
     go (push (value x)) b g f = record { stack = ap (λ t. x ∷ t) (a .stack); values = a .values }
     go (push (slot s)) b g f =
@@ -232,13 +232,17 @@ acted-alike l k m n r a h b g f = go h b g f
     go (store s) b g f =
         record {
           stack = ap (drop 1) (a .stack);
-          values = λ q u. marked-set l s 4 q u (λ (e : q ≡ s). rw e (stored-now m n r tops s b)) (kept (store s) b q);
+          values =
+              λ q u.
+              marked-set l s storedMark q u (λ (e : q ≡ s). rw e (stored-now m n r tops s b)) (kept (store s) b q);
         }
     go (derivative s) b g f =
-        let two = eqb-true (getD l s 0) 2 (and-true (eqb k 1) (eqb (getD l s 0) 2) g .1) in
+        let is-state = eqb-true (getD l s 0) stateMark (and-true (eqb k 1) (eqb (getD l s 0) stateMark) g .1) in
         record {
           stack = ap (drop 1) (a .stack);
-          values = λ q u. marked-set l s 3 q u (λ (e : q ≡ s). rw e (a .values s (λ z. omega arith))) (a .values q);
+          values =
+              λ q u.
+              marked-set l s derivedMark q u (λ (e : q ≡ s). rw e (a .values s (λ z. omega arith))) (a .values q);
         }
     go (store-again s) b g f =
         record { stack = ap (drop 1) (a .stack); values = kept (store-again s) b }

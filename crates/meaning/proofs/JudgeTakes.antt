@@ -23,7 +23,7 @@ use Rattle.model.proofs.KeyPlaces.{Once, equationKeys, count-keys}
 use Rattle.records.specs.declared.Instr.the-variants.{Store, Deriv}
 use Rattle.records.specs.Record.{instrs}
 use Rattle.program.specs.Program.{lastInstr, program}
-use Rattle.evaluator.specs.Judge.{judge₀, answer, judge}
+use Rattle.evaluator.specs.Judge.{unsetMark, givenMark, stateMark, derivedMark, storedMark, judge₀, answer, judge}
 use Rattle.evaluator.proofs.JudgedRows.{judgeAt, Leads, leads-append, leads-one, leads-accepted, none-open}
 use Rattle.meaning.proofs.Postfix.{steps, AllSet, judge-tree}
 use Rattle.meaning.proofs.Settle.{heldKeys}
@@ -36,18 +36,18 @@ use Rattle.meaning.proofs.Settings.{Open, pass-constants, pass-initials
 
 -- the mark of an equation's slot, by whether it is a state's and whether it is placed
 abbrev status : Bool → Bool → ℕ
-status false false = 0
-status false true = 4
-status true false = 2
-status true true = 3
+status false false = unsetMark
+status false true = storedMark
+status true false = stateMark
+status true true = derivedMark
 
 -- a state's slot is set
-held-mark : (b : Bool) → status true b ≡ 0 → ⊥
+held-mark : (b : Bool) → status true b ≡ unsetMark → ⊥
 held-mark true e = omega arith
 held-mark false e = omega arith
 
 -- what is placed is not open
-placed-mark : (b : Bool) → status b true ≡ 2 → ⊥
+placed-mark : (b : Bool) → status b true ≡ stateMark → ⊥
 placed-mark true e = omega arith
 placed-mark false e = omega arith
 
@@ -61,16 +61,18 @@ module _ (ds : List Def) where
   -- the marks l when the equations of f are placed
   record Stand (f l : List ℕ) : Type 0 where
     long : length l ≡ slots
-    time : getD l 0 0 ≡ 1
-    fixed : (k : ℕ) → k ∈ constantKeys ds → getD l (slot k) 0 ≡ 1
+    time : getD l 0 0 ≡ givenMark
+    fixed : (k : ℕ) → k ∈ constantKeys ds → getD l (slot k) 0 ≡ givenMark
     placed : (j : ℕ) → j < equationCount ds → getD l (slot (eqn j .key)) 0 ≡ status (eqn j .held) (has j f)
-    other : (p : ℕ) → getD l p 0 ≡ 2 → (j : ℕ) × (j < equationCount ds) × (slot (eqn j .key) ≡ p)
+    other : (p : ℕ) → getD l p 0 ≡ stateMark → (j : ℕ) × (j < equationCount ds) × (slot (eqn j .key) ≡ p)
 
   -- the last record of an equation
   pass-last : (b : Bool) (s : ℕ) (l : List ℕ) → getD l s 0 ≡ status b false
       → Leads (judgeAt 3 1 l) (lastInstr ds b s ∷ []) (judgeAt 3 0 (set l s (status b true)))
-  pass-last false s l e = leads-one (judgeAt 3 1 l) (Store s) (omega arith) (omega arith) (omega arith) (eq-eqb _ 0 e)
-  pass-last true s l e = leads-one (judgeAt 3 1 l) (Deriv s) (omega arith) (omega arith) (omega arith) (eq-eqb _ 2 e)
+  pass-last false s l e =
+      leads-one (judgeAt 3 1 l) (Store s) (omega arith) (omega arith) (omega arith) (eq-eqb _ unsetMark e)
+  pass-last true s l e =
+      leads-one (judgeAt 3 1 l) (Deriv s) (omega arith) (omega arith) (omega arith) (eq-eqb _ stateMark e)
 
   module _ (one : Once (keys ds)) (few : length ds ≤ mostDefinitions)
       (known : (j : ℕ) → j < equationCount ds → (k : ℕ) → k ∈ names (eqn j .tree) → k ∈ keys ds)
@@ -80,14 +82,14 @@ module _ (ds : List Def) where
         (u : (j : ℕ) → j < equationCount ds → usesIn ds i j ≡ true → j ∈ f) where
       -- a name that is no constant is set: it is a state, or its equation is placed
       read-equation : (k : ℕ) → k ∈ names (eqn i .tree) → (j : ℕ) → j < equationCount ds → eqn j .key ≡ k
-          → getD l (slot k) 0 ≡ 0 → ⊥
+          → getD l (slot k) 0 ≡ unsetMark → ⊥
       read-equation k n j h e z =
           let m : getD l (slot k) 0 ≡ status (eqn j .held) (has j f) = rw e at (t .placed j h) in
           let n′ : eqn j .key ∈ names (eqn i .tree) = rw e n in
           ⊎-elim (λ b. held-mark (has j f) (sym (rw b at m) ∙ z))
           (λ (b : eqn j .held ≡ false).
           let y = u j h (rw (b, lt-ltb 0 (count (eqn j .key) (names (eqn i .tree))) n′)) in
-          let w : getD l (slot k) 0 ≡ 4 = rw (b, lt-ltb 0 (count j f) y) at m in
+          let w : getD l (slot k) 0 ≡ storedMark = rw (b, lt-ltb 0 (count j f) y) at m in
           omega arith) (bool-cases (eqn j .held))
 
       -- so all that it reads is set
@@ -179,20 +181,23 @@ module _ (ds : List Def) where
 
     -- one for each slot
     long : length l₀ ≡ slots
-    long = length-set {A = ℕ} (replicate slots 0) 0 1 ∙ length-replicate {A = ℕ} slots 0
+    long = length-set {A = ℕ} (replicate slots unsetMark) 0 givenMark ∙ length-replicate {A = ℕ} slots unsetMark
 
     -- that of no other slot is set
-    clear : (p : ℕ) → 0 < p → p < slots → getD l₀ p 0 ≡ 0
+    clear : (p : ℕ) → 0 < p → p < slots → getD l₀ p 0 ≡ unsetMark
     clear p a b =
-        getD-set-other {A = ℕ} (replicate slots 0) 0 p 1 0 (λ e. omega arith) ∙ getD-replicate {A = ℕ} slots p 0 0 b
+        getD-set-other {A = ℕ} (replicate slots unsetMark) 0 p givenMark 0 (λ e. omega arith)
+        ∙ getD-replicate {A = ℕ} slots p unsetMark 0 b
 
     -- that of slot 0 is
-    set-first : getD l₀ 0 0 ≡ 1
-    set-first = getD-set-same {A = ℕ} (replicate slots 0) 0 1 0 (rw (length-replicate {A = ℕ} slots 0) (omega arith))
+    set-first : getD l₀ 0 0 ≡ givenMark
+    set-first =
+        getD-set-same {A = ℕ} (replicate slots unsetMark) 0 givenMark 0
+        (rw (length-replicate {A = ℕ} slots unsetMark) (omega arith))
 
-    -- no mark is 2
-    not-two : (p : ℕ) → getD l₀ p 0 ≡ 2 → ⊥
-    not-two p e =
+    -- no slot is a state's
+    no-state : (p : ℕ) → getD l₀ p 0 ≡ stateMark → ⊥
+    no-state p e =
         ⊎-elim
         (λ (z : p < slots).
         ⊎-elim (λ y. omega (arith, clear p y z))
@@ -200,7 +205,7 @@ module _ (ds : List Def) where
         (λ z. omega (arith, List·getD-eq-default l₀ 0 {n = p} (omega (arith, long)))) (lt-or-ge p slots)
 
     -- the slot of a definition is not set
-    free : (k : ℕ) → k ∈ keys ds → getD l₀ (slot k) 0 ≡ 0
+    free : (k : ℕ) → k ∈ keys ds → getD l₀ (slot k) 0 ≡ unsetMark
     free k h = clear (slot k) (omega arith) (omega (arith, slot-mine ds one k h))
 
     -- so the constants can be set
@@ -214,7 +219,7 @@ module _ (ds : List Def) where
 
     -- ---- behind the constants
     abbrev l₁ : List ℕ
-    l₁ = marksOn slot 1 (constantKeys ds) l₀
+    l₁ = marksOn slot givenMark (constantKeys ds) l₀
 
     -- an equation's key is no constant's
     no-constant : (k : ℕ) → k ∈ equationKeys ds → (j : ℕ) → j ∈ constantKeys ds → slot j ≡ slot k → ⊥
@@ -224,9 +229,10 @@ module _ (ds : List Def) where
         omega (arith, one k, count-keys k ds)
 
     -- so its slot is not set yet
-    still-free : (k : ℕ) → k ∈ equationKeys ds → getD l₁ (slot k) 0 ≡ 0
+    still-free : (k : ℕ) → k ∈ equationKeys ds → getD l₁ (slot k) 0 ≡ unsetMark
     still-free k h =
-        marks-other slot 1 (constantKeys ds) l₀ (slot k) (no-constant k h) ∙ free k (omega (arith, count-keys k ds))
+        marks-other slot givenMark (constantKeys ds) l₀ (slot k) (no-constant k h)
+        ∙ free k (omega (arith, count-keys k ds))
 
     -- so the states can be set
     open-initials : Open ds (heldKeys (equations ds)) l₁
@@ -239,24 +245,24 @@ module _ (ds : List Def) where
 
     -- ---- behind the initials
     abbrev l₂ : List ℕ
-    l₂ = marksOn slot 2 (heldKeys (equations ds)) l₁
+    l₂ = marksOn slot stateMark (heldKeys (equations ds)) l₁
 
     -- there are as many marks
     long-first : length l₁ ≡ slots
-    long-first = marks-long slot 1 (constantKeys ds) l₀ ∙ long
+    long-first = marks-long slot givenMark (constantKeys ds) l₀ ∙ long
 
-    -- a state's slot has the mark 2, that of an assignment is not set
+    -- a state's slot is marked as one, that of an assignment is not set
     placed-none : (j : ℕ) → j < equationCount ds → (b : Bool) → eqn j .held ≡ b
         → getD l₂ (slot (eqn j .key)) 0 ≡ status (eqn j .held) (has j [])
     unfolding count
     placed-none j h true e =
         let m = slot-mine ds one (eqn j .key) (eq-mine ds one j h) in
         rw e
-        (marks-same slot 2 (heldKeys (equations ds)) l₁ (eqn j .key) (to-helds (equations ds) j h e)
+        (marks-same slot stateMark (heldKeys (equations ds)) l₁ (eqn j .key) (to-helds (equations ds) j h e)
         (omega (arith, long-first)))
     placed-none j h false e =
         rw e
-        (marks-other slot 2 (heldKeys (equations ds)) l₁ (slot (eqn j .key))
+        (marks-other slot stateMark (heldKeys (equations ds)) l₁ (slot (eqn j .key))
         (λ k m s.
         let r = from-helds (equations ds) k m in
         let z : k ≡ eqn j .key = own ds one k (eqn j .key) (eq-mine ds one j h) s in
@@ -264,14 +270,14 @@ module _ (ds : List Def) where
         not-both (r .2) (rw y e))
         ∙ still-free (eqn j .key) (eq-in ds one j h))
 
-    -- a constant's slot has the mark 1
-    fixed-first : (k : ℕ) → k ∈ constantKeys ds → getD l₁ (slot k) 0 ≡ 1
-    fixed-first k h = marks-same slot 1 (constantKeys ds) l₀ k h
+    -- a constant's slot is marked as given
+    fixed-first : (k : ℕ) → k ∈ constantKeys ds → getD l₁ (slot k) 0 ≡ givenMark
+    fixed-first k h = marks-same slot givenMark (constantKeys ds) l₀ k h
         (omega (arith, slot-mine ds one k (omega (arith, count-keys k ds)), long))
 
-    -- only a state's slot has the mark 2
-    two-first : (p : ℕ) → getD l₂ p 0 ≡ 2 → (j : ℕ) × (j < equationCount ds) × (slot (eqn j .key) ≡ p)
-    two-first p e =
+    -- only a state's slot is marked as one
+    states-first : (p : ℕ) → getD l₂ p 0 ≡ stateMark → (j : ℕ) × (j < equationCount ds) × (slot (eqn j .key) ≡ p)
+    states-first p e =
         ⊎-elim
         (λ (z : (k : ℕ) × (k ∈ heldKeys (equations ds)) × (slot k ≡ p)).
         let r = from-helds (equations ds) (z .0) (z .1) in
@@ -280,25 +286,25 @@ module _ (ds : List Def) where
         ⊎-elim
         (λ (y : (k : ℕ) × (k ∈ constantKeys ds) × (slot k ≡ p)). absurd
         (let w = rw (y .2) at (fixed-first (y .0) (y .1)) in omega (arith, z, w, e)))
-        (λ y. absurd (not-two p (sym y ∙ sym z ∙ e))) (marks-either slot 1 (constantKeys ds) l₀ p))
-        (marks-either slot 2 (heldKeys (equations ds)) l₁ p)
+        (λ y. absurd (no-state p (sym y ∙ sym z ∙ e))) (marks-either slot givenMark (constantKeys ds) l₀ p))
+        (marks-either slot stateMark (heldKeys (equations ds)) l₁ p)
 
     -- no equation is placed yet
     stand : Stand [] l₂
     stand =
         record {
-          long = marks-long slot 2 (heldKeys (equations ds)) l₁ ∙ long-first;
+          long = marks-long slot stateMark (heldKeys (equations ds)) l₁ ∙ long-first;
           time =
-              marks-other slot 2 (heldKeys (equations ds)) l₁ 0 (λ k h e. omega arith)
-              ∙ marks-other slot 1 (constantKeys ds) l₀ 0 (λ k h e. omega arith)
+              marks-other slot stateMark (heldKeys (equations ds)) l₁ 0 (λ k h e. omega arith)
+              ∙ marks-other slot givenMark (constantKeys ds) l₀ 0 (λ k h e. omega arith)
               ∙ set-first;
           fixed =
               λ k h.
-              marks-other slot 2 (heldKeys (equations ds)) l₁ (slot k)
+              marks-other slot stateMark (heldKeys (equations ds)) l₁ (slot k)
               (λ j m e. no-constant j (omega (arith, held-few j (equations ds))) k h (sym e))
               ∙ fixed-first k h;
           placed = λ j h. placed-none j h (eqn j .held) refl;
-          other = two-first;
+          other = states-first;
         }
 
     -- THE PROGRAM of a good order is accepted
@@ -319,7 +325,7 @@ module _ (ds : List Def) where
         ∙ leads-accepted 0 (judgeAt 1 0 l₀) end (C ++ (I ++ Q)) all refl
         (none-open (o .0) (λ p _ e. closed q g (o .0) (o .1) p e))
       where
-        closed : (q : List ℕ) → GoodOrder ds q → (l : List ℕ) → Stand q l → (p : ℕ) → getD l p 0 ≡ 2 → ⊥
+        closed : (q : List ℕ) → GoodOrder ds q → (l : List ℕ) → Stand q l → (p : ℕ) → getD l p 0 ≡ stateMark → ⊥
         closed q g l t p e =
             let r = t .other p e in
             let m : getD l p 0 ≡ status (eqn (r .0) .held) (has (r .0) q) = rw (r .2) at (t .placed (r .0) (r .1)) in

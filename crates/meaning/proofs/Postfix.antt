@@ -18,6 +18,7 @@ use Rattle.records.specs.Shape.{zero64, one64}
 use Rattle.records.specs.declared.Instr.{Instr}
 use Rattle.records.specs.declared.Instr.the-variants.{Value, Slot, Add, Sub, Mul, Div, Neg, Insw, Limit, Compar}
 use Rattle.program.specs.Program.{instrTwo, instrThree, instrItem}
+use Rattle.evaluator.specs.Judge.{unsetMark}
 use Rattle.evaluator.specs.Machine.{Machine, step, run}
 use Rattle.meaning.specs.Meaning.{nought, unity, valueTwo, valueThree, valueOf}
 use Rattle.meaning.proofs.Heights.{peak-some}
@@ -163,12 +164,13 @@ judge-three limit h l m =
 module _ (slot : ℕ → ℕ) where
   -- slot 0 and the slots of what e names are set
   abbrev pub AllSet : List ℕ → Tree → Type 0
-  AllSet l e = (getD l 0 0 ≡ 0 → ⊥) × ((k : ℕ) → k ∈ names e → getD l (slot k) 0 ≡ 0 → ⊥)
+  AllSet l e = (getD l 0 0 ≡ unsetMark → ⊥) × ((k : ℕ) → k ∈ names e → getD l (slot k) 0 ≡ unsetMark → ⊥)
 
   -- a slot that is set is pushed
-  judge-slot : (s p h : ℕ) (l : List ℕ) → (getD l s 0 ≡ 0 → ⊥) → h + 1 ≤ stackPlaces → p ≤ 3
+  judge-slot : (s p h : ℕ) (l : List ℕ) → (getD l s 0 ≡ unsetMark → ⊥) → h + 1 ≤ stackPlaces → p ≤ 3
       → Leads (judgeAt p h l) (Slot s ∷ []) (judgeAt 3 (1 + h) l)
-  judge-slot s p h l n m q = leads-op (Slot s) p h (1 + h) l refl (rw (ne-eqb (getD l s 0) 0 n)) refl (omega arith)
+  judge-slot s p h l n m q =
+      leads-op (Slot s) p h (1 + h) l refl (rw (ne-eqb (getD l s 0) unsetMark n)) refl (omega arith)
       (omega arith) (omega arith) q
 
   -- JUDGED with room for all that stands at once, a tree is good and leaves one value more

@@ -14,7 +14,7 @@ use Rattle.records.specs.declared.Instr.{Instr}
 use Rattle.records.specs.Record.{decoded}
 use Rattle.records.specs.Shape.{Shape, initial, shapeOf}
 use Rattle.evaluator.specs.declared.Answer.{Answer}
-use Rattle.evaluator.specs.Judge.{Judge, judged, judge₀, answer, judgeFrom, judge}
+use Rattle.evaluator.specs.Judge.{unsetMark, givenMark, Judge, judged, judge₀, answer, judgeFrom, judge}
 use Rattle.evaluator.specs.Machine.{Machine, run, begun, act}
 use Rattle.evaluator.specs.Evaluate.{runOutcome, refusal, ran, evaluated}
 use Rattle.evaluator.specs.Sound.{Sound}
@@ -104,12 +104,12 @@ refusal-judge p v d =
 -- at the beginning slot 0 alone is marked
 begun-marked : (q : ℕ) → Marked (judge₀ .marks) q → q ≡ 0
 begun-marked q u =
-    marked-set (replicate slots 0) 0 1 q u (λ e. e)
+    marked-set (replicate slots unsetMark) 0 givenMark q u (λ e. e)
     (λ f. absurd (f
-    (⊎-elim (λ h. getD-replicate slots q 0 0 h)
+    (⊎-elim (λ h. getD-replicate slots q unsetMark 0 h)
     (λ h.
-    let out : length (replicate {A = ℕ} slots 0) ≤ q = rw (length-replicate {A = ℕ} slots 0) h in
-    List·getD-eq-default (replicate slots 0) 0 out) (lt-or-ge q slots))))
+    let out : length (replicate {A = ℕ} slots unsetMark) ≤ q = rw (length-replicate {A = ℕ} slots unsetMark) h in
+    List·getD-eq-default (replicate slots unsetMark) 0 out) (lt-or-ge q slots))))
 
 module _ (p : List ℕ) (v d : List Float) (accepted : refusal p v d ≡ answer 0 0) where
   -- evaluating is the run
@@ -122,10 +122,10 @@ module _ (p : List ℕ) (v d : List Float) (accepted : refusal p v d ≡ answer 
   read-apart s r z =
       let a = refusal-judge p v d (ap (λ (x : Answer). x .number) accepted) in
       let g = granted {r = answer 0 0} (sym accepted) refl in
-      let none = replicate {A = ℕ} slots 0 in
-      let wide : length none ≡ slots = length-replicate {A = ℕ} slots 0 in
-      let long : length (judge₀ .marks) ≡ slots = length-set none 0 1 ∙ wide in
-      let time = unstored-now none 0 1 (omega (arith, wide)) (λ t. omega arith) (λ t. omega arith) in
+      let none = replicate {A = ℕ} slots unsetMark in
+      let wide : length none ≡ slots = length-replicate {A = ℕ} slots unsetMark in
+      let long : length (judge₀ .marks) ≡ slots = length-set none 0 givenMark ∙ wide in
+      let time = unstored-now none 0 givenMark (omega (arith, wide)) (λ t. omega arith) (λ t. omega arith) in
       ⊎-elim
       (λ (e : s ≡ 0). marked-apart (decoded p) 0 judge₀ a 0 .0 time (rw e at z))
       (λ (t : StateSlot (shapes p) s).

@@ -17,6 +17,7 @@ use Rattle.records.specs.Fields.{fieldsOf}
 use Rattle.records.specs.Shape.{value, slot}
 use Rattle.records.specs.Shape.{Shape, constant, initial, push, fold, store, derivative, store-again, bad, shapeOf}
 use Rattle.evaluator.specs.declared.Answer.{Answer}
+use Rattle.evaluator.specs.Judge.{unsetMark, givenMark, stateMark, derivedMark, storedMark}
 use Rattle.evaluator.specs.Judge.{ruleOf, takes, gives, phaseOf, Judge, good, judged, answer, judgeFrom}
 use Rattle.evaluator.specs.Sound.{Sound}
 use Rattle.meaning.specs.ReadSlots.{StateSlot, SetSlot}
@@ -51,7 +52,7 @@ set-none q (inr (inr t)) = List·Memᴰ·not-nil t
 
 -- by the marks l a slot is set, and is no stored one
 abbrev pub Unstored : List ℕ → ℕ → Type 0
-Unstored l q = Marked l q × (getD l q 0 ≡ 4 → ⊥)
+Unstored l q = Marked l q × (getD l q 0 ≡ storedMark → ⊥)
 
 -- from the marks l to the marks m: there are as many; a slot that is set stays set, and one that is no stored one then
 -- does not become one
@@ -74,7 +75,8 @@ mark-after l s x q =
     (λ e. inr (getD-set-other l s q x 0 e)) (eq-or-ne q s)
 
 -- where s is marked x, and as a stored one only if it was not set
-set-marks : (l : List ℕ) (s x : ℕ) → (x ≡ 0 → ⊥) → (x ≡ 4 → getD l s 0 ≡ 0) → MarksStay l (set l s x)
+set-marks : (l : List ℕ) (s x : ℕ) → (x ≡ unsetMark → ⊥) → (x ≡ storedMark → getD l s 0 ≡ unsetMark)
+    → MarksStay l (set l s x)
 set-marks l s x n f =
     let after = mark-after l s x in
     let stay : (q : ℕ) → Marked l q → Marked (set l s x) q =
@@ -90,24 +92,25 @@ set-marks l s x n f =
 
 -- so by each good record
 marks-stay : (h : Shape) (l : List ℕ) (k : ℕ) → ruleOf h .fine l k ≡ true → MarksStay l (ruleOf h .marks l)
-marks-stay (constant s x) l k g = set-marks l s 1 (λ e. omega arith) (λ e. absurd (omega arith))
-marks-stay (initial s x) l k g = set-marks l s 2 (λ e. omega arith) (λ e. absurd (omega arith))
+marks-stay (constant s x) l k g = set-marks l s givenMark (λ e. omega arith) (λ e. absurd (omega arith))
+marks-stay (initial s x) l k g = set-marks l s stateMark (λ e. omega arith) (λ e. absurd (omega arith))
 marks-stay (push (value x)) l k g = same-marks l
 marks-stay (push (slot s)) l k g = same-marks l
 marks-stay (fold o) l k g = same-marks l
 marks-stay (store s) l k g =
-    set-marks l s 4 (λ e. omega arith)
-    (λ e. eqb-true (getD l s 0) 0 (and-true (eqb k 1) (eqb (getD l s 0) 0) g .1))
-marks-stay (derivative s) l k g = set-marks l s 3 (λ e. omega arith) (λ e. absurd (omega arith))
+    set-marks l s storedMark (λ e. omega arith)
+    (λ e. eqb-true (getD l s 0) unsetMark (and-true (eqb k 1) (eqb (getD l s 0) unsetMark) g .1))
+marks-stay (derivative s) l k g = set-marks l s derivedMark (λ e. omega arith) (λ e. absurd (omega arith))
 marks-stay (store-again s) l k g = same-marks l
 marks-stay bad l k g = same-marks l
 
 -- a slot that is marked now
-mark-now : (l : List ℕ) (q x : ℕ) → q < length l → (x ≡ 0 → ⊥) → Marked (set l q x) q
+mark-now : (l : List ℕ) (q x : ℕ) → q < length l → (x ≡ unsetMark → ⊥) → Marked (set l q x) q
 mark-now l q x h n z = n (sym (getD-set-same l q x 0 h) ∙ z)
 
 -- .. and not as a stored one
-pub unstored-now : (l : List ℕ) (q x : ℕ) → q < length l → (x ≡ 0 → ⊥) → (x ≡ 4 → ⊥) → Unstored (set l q x) q
+pub unstored-now : (l : List ℕ) (q x : ℕ) → q < length l → (x ≡ unsetMark → ⊥) → (x ≡ storedMark → ⊥)
+    → Unstored (set l q x) q
 unstored-now l q x h n m = (mark-now l q x h n, λ z. m (sym (getD-set-same l q x 0 h) ∙ z))
 
 module _ (h : Shape) (hs : List Shape) (l : List ℕ) (k q : ℕ) (fine : ruleOf h .fine l k ≡ true) where
@@ -120,25 +123,25 @@ module _ (h : Shape) (hs : List Shape) (l : List ℕ) (k q : ℕ) (fine : ruleOf
   set-first (inl z) =
       ⊎-elim
       (λ (e : constant q (z .0) ≡ h).
-      let f : eqb (getD l q 0) 0 ≡ true = rw (← e) at fine in
+      let f : eqb (getD l q 0) unsetMark ≡ true = rw (← e) at fine in
       inl (rw (← e) (
         λ t. omega arith,
-        λ u. u .0 (eqb-true (getD l q 0) 0 f),
-        λ b. mark-now l q 1 b (λ t. omega arith),
+        λ u. u .0 (eqb-true (getD l q 0) unsetMark f),
+        λ b. mark-now l q givenMark b (λ t. omega arith),
       )))
       (λ t. inr (inl (z .0, t))) (List·Memᴰ·cases-cons (z .1))
   set-first (inr (inl z)) =
       ⊎-elim
       (λ (e : store q ≡ h).
-      let f : (eqb k 1 && eqb (getD l q 0) 0) ≡ true = rw (← e) at fine in
-      let g = eqb-true (getD l q 0) 0 (and-true (eqb k 1) (eqb (getD l q 0) 0) f .1) in
-      inl (rw (← e) (λ t. omega arith, λ u. u .0 g, λ b. mark-now l q 4 b (λ t. omega arith))))
+      let f : (eqb k 1 && eqb (getD l q 0) unsetMark) ≡ true = rw (← e) at fine in
+      let g = eqb-true (getD l q 0) unsetMark (and-true (eqb k 1) (eqb (getD l q 0) unsetMark) f .1) in
+      inl (rw (← e) (λ t. omega arith, λ u. u .0 g, λ b. mark-now l q storedMark b (λ t. omega arith))))
       (λ t. inr (inr (inl t))) (List·Memᴰ·cases-cons z)
   set-first (inr (inr z)) =
       ⊎-elim
       (λ (e : store-again q ≡ h).
-      let f : (eqb k 1 && eqb (getD l q 0) 4) ≡ true = rw (← e) at fine in
-      let g = eqb-true (getD l q 0) 4 (and-true (eqb k 1) (eqb (getD l q 0) 4) f .1) in
+      let f : (eqb k 1 && eqb (getD l q 0) storedMark) ≡ true = rw (← e) at fine in
+      let g = eqb-true (getD l q 0) storedMark (and-true (eqb k 1) (eqb (getD l q 0) storedMark) f .1) in
       inl (rw (← e) (λ t. omega arith, λ u. u .1 g, λ b z. omega (arith, g))))
       (λ t. inr (inr (inr t))) (List·Memᴰ·cases-cons z)
 
@@ -151,11 +154,11 @@ module _ (h : Shape) (hs : List Shape) (l : List ℕ) (k q : ℕ) (fine : ruleOf
   state-first z =
       ⊎-elim
       (λ (e : initial q (z .0) ≡ h).
-      let f : eqb (getD l q 0) 0 ≡ true = rw (← e) at fine in
+      let f : eqb (getD l q 0) unsetMark ≡ true = rw (← e) at fine in
       inl (rw (← e) (
         refl,
-        λ u. u (eqb-true (getD l q 0) 0 f),
-        λ b. unstored-now l q 2 b (λ t. omega arith) (λ t. omega arith),
+        λ u. u (eqb-true (getD l q 0) unsetMark f),
+        λ b. unstored-now l q stateMark b (λ t. omega arith) (λ t. omega arith),
       )))
       (λ t. inr (z .0, t)) (List·Memᴰ·cases-cons (z .1))
 

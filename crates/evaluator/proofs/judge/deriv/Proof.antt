@@ -2,6 +2,7 @@ use borrow.Author.Needs.{needs}
 use borrow.Author.Tests.{ne-eqb}
 use lib.Dec.{eqb}
 use Rattle.laws.proofs.Bools.{and-fails}
+use Rattle.evaluator.specs.Judge.{stateMark}
 use Rattle.evaluator.proofs.JudgedRecord.{unfit, deriv, owing}
 use Rattle.evaluator.proofs.judge.deriv.Statement.{statement}
 use Rattle.evaluator.proofs.judge.deriv.Tie as tie
@@ -12,7 +13,7 @@ returns c = unfit _ (c .bad .ensures) (rw (ne-eqb _ 1 (c .before .if1 .taken)))
 returns-2 : tie.Need-returns-2
 returns-2 c =
     let height = c .before .before .before .before .before .args .t .height in
-    unfit _ (c .bad2 .ensures) (and-fails (eqb height 1) (λ _. ne-eqb _ 2 (c .before .if2 .taken)))
+    unfit _ (c .bad2 .ensures) (and-fails (eqb height 1) (λ _. ne-eqb _ stateMark (c .before .if2 .taken)))
 
 sub-fine : tie.Need-sub-fine
 sub-fine c =

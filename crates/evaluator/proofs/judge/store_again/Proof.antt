@@ -2,6 +2,7 @@ use borrow.Author.Needs.{needs}
 use borrow.Author.Tests.{ne-eqb}
 use lib.Dec.{eqb}
 use Rattle.laws.proofs.Bools.{and-fails}
+use Rattle.evaluator.specs.Judge.{storedMark}
 use Rattle.evaluator.proofs.JudgedRecord.{unfit, again}
 use Rattle.evaluator.proofs.judge.store_again.Statement.{statement}
 use Rattle.evaluator.proofs.judge.store_again.Tie as tie
@@ -12,7 +13,7 @@ returns c = unfit _ (c .bad .ensures) (rw (ne-eqb _ 1 (c .before .if1 .taken)))
 returns-2 : tie.Need-returns-2
 returns-2 c =
     let height = c .before .before .before .before .before .args .t .height in
-    unfit _ (c .bad2 .ensures) (and-fails (eqb height 1) (λ _. ne-eqb _ 4 (c .before .if2 .taken)))
+    unfit _ (c .bad2 .ensures) (and-fails (eqb height 1) (λ _. ne-eqb _ storedMark (c .before .if2 .taken)))
 
 pub store-again-spec : {M : Type 1} → statement M
 store-again-spec =

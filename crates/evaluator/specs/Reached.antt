@@ -1,5 +1,5 @@
--- The judge as the code has it: beside the marks a state, which counts the states without derivative. And the passes
--- over the states.
+-- The judge as the code has it: beside the marks what is reached, which counts the states without derivative. And the
+-- passes over the states.
 use Prim.Native.Nat.{ℕ, _+_, _-_, _≤_}
 use mathlib.Core.Path.{_≡_}
 use mathlib.Core.Bool.{Bool, true, false, cond}
@@ -11,38 +11,38 @@ use Rattle.limits.specs.Limits.{slots, stackPlaces}
 use Rattle.laws.specs.Counts.{count}
 use Rattle.records.specs.declared.Instr.{Instr}
 use Rattle.records.specs.Shape.{shapeOf}
-use Rattle.evaluator.specs.Judge.{Rule, phaseOf, Judge, goodBy, judgedBy}
+use Rattle.evaluator.specs.Judge.{stateMark, Rule, phaseOf, Judge, goodBy, judgedBy}
 use Rattle.evaluator.specs.Evaluate.{ifInitial}
-use Rattle.evaluator.specs.declared.judge.State.{State}
+use Rattle.evaluator.specs.declared.judge.Reached.{Reached}
 
 -- after a good record: the phase reached, the count of values, the count of derivatives owed
-abbrev pub state : ℕ → ℕ → ℕ → State
-state p h o = record { ok = true; phase = p; height = h; owed = o }
+abbrev pub reached : ℕ → ℕ → ℕ → Reached
+reached p h o = record { ok = true; phase = p; height = h; owed = o }
 
 -- after a bad one
-abbrev pub stopped : State
+abbrev pub stopped : Reached
 stopped = record { ok = false; phase = 0; height = 0; owed = 0 }
 
 -- one value more, or one for k
-abbrev pub pushed : State → State
-pushed t = cond (ltb (t .height) stackPlaces) (state 3 (t .height + 1) (t .owed)) stopped
+abbrev pub pushed : Reached → Reached
+pushed t = cond (ltb (t .height) stackPlaces) (reached 3 (t .height + 1) (t .owed)) stopped
 
-abbrev pub folded : State → ℕ → State
-folded t k = cond (leb k (t .height)) (state 3 (t .height - k + 1) (t .owed)) stopped
+abbrev pub folded : Reached → ℕ → Reached
+folded t k = cond (leb k (t .height)) (reached 3 (t .height - k + 1) (t .owed)) stopped
 
 -- the definition's judge
-abbrev pub known : State → List ℕ → Judge
+abbrev pub known : Reached → List ℕ → Judge
 known t l = record { phase = t .phase; height = t .height; marks = l }
 
--- a state and its marks between two good records
-pub record Stands (t : State) (l : List ℕ) : Type 0 where
+-- what is reached and the marks between two good records
+pub record Stands (t : Reached) (l : List ℕ) : Type 0 where
   pub low : t .height ≤ stackPlaces
   pub phase : t .phase ≤ 3
-  pub owed : t .owed ≡ count 2 l
+  pub owed : t .owed ≡ count stateMark l
   pub long : length l ≡ slots
 
 -- one record by its rule, from t and l to r and k: r says whether it is good, and then is where the definition goes
-pub record Judges (t : State) (l : List ℕ) (q : Rule) (r : State) (k : List ℕ) : Type 0 where
+pub record Judges (t : Reached) (l : List ℕ) (q : Rule) (r : Reached) (k : List ℕ) : Type 0 where
   pub fine : r .ok ≡ goodBy (known t l) q
   pub next : r .ok ≡ true → known r k ≡ judgedBy (known t l) q
   pub stands : r .ok ≡ true → Stands r k
