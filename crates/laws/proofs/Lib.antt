@@ -3,6 +3,7 @@ pub mod Counts
 pub mod EachMember
 pub mod Runs
 pub mod Sets
+pub mod Puts
 pub mod Rising
 pub mod Lists
 pub mod SameBytes
@@ -16,3 +17,4 @@ pub mod Bools
 pub mod Stores
 pub mod Every
 pub mod Chosen
+pub mod Compares

@@ -18,7 +18,6 @@ pub mod Lost
 pub mod States
 pub mod Solutions
 pub mod Made
-pub mod Compares
 pub mod Acted
 pub mod SetApart
 pub mod ReadSlots

@@ -19,8 +19,8 @@ use Rattle.model.specs.Places.{usedAt, usedIn, startsFrom}
 use Rattle.model.specs.Plan.{ownSlots}
 use Rattle.model.specs.Working.{flawedBy, usedOwner, usedHere, usedFrom, Resolved, Resolving, Linking, Walked}
 use Rattle.model.specs.Working.{Linkable, Tabled, Linked}
-use Rattle.model.specs.declared.names.Walk.{Walk}
-use Rattle.model.proofs.Puts.{put-none, put-both}
+use Rattle.model.specs.declared.names.Usage.{Usage}
+use Rattle.laws.proofs.Puts.{put-none, put-both}
 use Rattle.model.proofs.DefinitionsCollected.{only-length}
 use Rattle.model.proofs.NamesResolved.{resolving-first, resolving-flawed, resolving-clear, resolving-other}
 use Rattle.model.proofs.NamesResolved.{resolving-last, slot-here}
@@ -41,20 +41,20 @@ used-other owners kind slot n =
     let b = or-false (eqb kind kindFetch) _ a .0 in
     rw b
 
-abbrev pub walk : ℕ → Bool → Walk
-walk w flawed = record { count = w; flawed = flawed }
+abbrev pub usage : ℕ → Bool → Usage
+usage w flawed = record { count = w; flawed = flawed }
 
 -- ---- before the first draft of a part
 linking-first : {keys kinds places args₀ args : List ℕ} {flawed : Bool} {i : ℕ} (owners used : List ℕ) (w : ℕ)
     → Resolving keys kinds places args₀ flawed i args
-    → Linking keys kinds places owners args₀ used i w i (walk w flawed) args used
+    → Linking keys kinds places owners args₀ used i w i (usage w flawed) args used
 unfolding gather
 linking-first {i = i} owners used w r =
     let e : i - i ≡ 0 = omega arith in
     record { resolving = r; uses = rw e (put-none w used refl) }
 
 -- ---- the loop over drafts stands at draft i, with w numbers listed; it began at `from` with what n tells
-pub record Walking (keys kinds places owners args₁ used₁ : List ℕ) (from end : ℕ) (n : Walk) (w : ℕ) (flawed : Bool)
+pub record Walking (keys kinds places owners args₁ used₁ : List ℕ) (from end : ℕ) (n : Usage) (w : ℕ) (flawed : Bool)
     (i : ℕ) (args used : List ℕ)
     : Type 0 where
   pub beyond : from ≤ i
@@ -63,12 +63,12 @@ pub record Walking (keys kinds places owners args₁ used₁ : List ℕ) (from e
   pub long : length args ≡ length args₁
   pub long-used : length used ≡ length used₁
   pub so : (args₀ : List ℕ) → Resolving keys kinds places args₀ (n .flawed) from args₁
-      → Linking keys kinds places owners args₀ used₁ from (n .count) i (walk w flawed) args used
+      → Linking keys kinds places owners args₀ used₁ from (n .count) i (usage w flawed) args used
 
 -- its beginning
 pub walking-first : {keys kinds args : List ℕ} {from end w : ℕ} (places owners used : List ℕ) (flawed : Bool)
     → Walked keys kinds args from end w
-    → Walking keys kinds places owners args used from end (walk w flawed) w flawed from args used
+    → Walking keys kinds places owners args used from end (usage w flawed) w flawed from args used
 walking-first {w = w} places owners used flawed p =
     record {
       beyond = omega arith;
@@ -79,7 +79,7 @@ walking-first {w = w} places owners used flawed p =
       so = λ args₀ r. linking-first owners used w r;
     }
 
-module _ {keys kinds places owners args₁ used₁ args used : List ℕ} {from end w i : ℕ} {n : Walk} {flawed : Bool}
+module _ {keys kinds places owners args₁ used₁ args used : List ℕ} {from end w i : ℕ} {n : Usage} {flawed : Bool}
     (v : Walking keys kinds places owners args₁ used₁ from end n w flawed i args used) (l : length kinds ≤ length args₁)
     (e : end ≤ length kinds) where
   -- one draft more, of which vs is what it uses
@@ -99,8 +99,8 @@ module _ {keys kinds places owners args₁ used₁ args used : List ℕ} {from e
         so = λ args₀ k. so args₀ (v .so args₀ k);
       }
     where
-      so : (args₀ : List ℕ) → Linking keys kinds places owners args₀ used₁ from (n .count) i (walk w flawed) args used
-          → Linking keys kinds places owners args₀ used₁ from (n .count) (i + 1) (walk r after) args′ used′
+      so : (args₀ : List ℕ) → Linking keys kinds places owners args₀ used₁ from (n .count) i (usage w flawed) args used
+          → Linking keys kinds places owners args₀ used₁ from (n .count) (i + 1) (usage r after) args′ used′
       so args₀ k =
           let f = usedFrom owners kinds (resolved keys kinds args₀) in
           let m = more args₀ (omega (arith, k .resolving .long, v .long)) (k .resolving) in
@@ -145,7 +145,7 @@ module _ {keys kinds places owners args₁ used₁ args used : List ℕ} {from e
 
   -- all drafts
   pub walking-last : end ≤ i → (w ≤ end) × ((args₀ : List ℕ) → Resolving keys kinds places args₀ (n .flawed) from args₁
-      → Linking keys kinds places owners args₀ used₁ from (n .count) end (walk w flawed) args used)
+      → Linking keys kinds places owners args₀ used₁ from (n .count) end (usage w flawed) args used)
   walking-last h =
       let e : i ≡ end = omega (arith, v .within) in
       (omega (arith, v .short, v .within), λ args₀ k. rw e at (v .so args₀ k))
@@ -178,7 +178,7 @@ module _ (bounds kinds slots owners assigned : List ℕ)
           (gather-none (usedFrom [] kinds slots) count
           begin (λ i _ _. none (getD slots i 0) (eqb (getD kinds i 0) kindFetch)))
 
-pub record Stating (lines bounds kinds keys places args₀ starts₀ used₀ : List ℕ) (n : Walk) (r j : ℕ)
+pub record Stating (lines bounds kinds keys places args₀ starts₀ used₀ : List ℕ) (n : Usage) (r j : ℕ)
     (args starts used : List ℕ) : Type 0 where
   pub within : j ≤ length lines
   pub few : r ≤ j
@@ -203,7 +203,7 @@ module _ {lines bounds kinds keys owners args₀ used₀ : List ℕ} (places sta
   abbrev own : List ℕ
   own = ownSlots (length lines) bounds kinds slots
 
-  pub stating-first : Stating lines bounds kinds keys places args₀ starts₀ used₀ (walk 0 false) 0 0 args₀ starts₀ used₀
+  pub stating-first : Stating lines bounds kinds keys places args₀ starts₀ used₀ (usage 0 false) 0 0 args₀ starts₀ used₀
   unfolding gather
   stating-first =
       record {
@@ -217,7 +217,7 @@ module _ {lines bounds kinds keys owners args₀ used₀ : List ℕ} (places sta
         begun = put-none 0 starts₀ refl;
       }
 
-  module _ {n : Walk} {r j : ℕ} {args starts used : List ℕ}
+  module _ {n : Usage} {r j : ℕ} {args starts used : List ℕ}
       (v : Stating lines bounds kinds keys places args₀ starts₀ used₀ n r j args starts used) where
     -- the drafts of a statement can be gone over
     pub stating-walked : {from end : ℕ} → j < length lines → from ≡ begins bounds j → end ≡ ends bounds j
@@ -244,7 +244,7 @@ module _ {lines bounds kinds keys owners args₀ used₀ : List ℕ} (places sta
         )
 
     -- one statement more, of which the first m owners are looked at
-    pub stating-next : {b : Bool} {w r′ m from end : ℕ} {n′ : Walk} {args′ starts′ used′ : List ℕ} → j < length lines
+    pub stating-next : {b : Bool} {w r′ m from end : ℕ} {n′ : Usage} {args′ starts′ used′ : List ℕ} → j < length lines
         → b ≡ isEquation bounds kinds j
         → w ≡ n .count → Put (onlyIf b w) r r′ starts starts′ → m ≡ cond b (length owners) 0 → from ≡ begins bounds j
         → end ≡ ends bounds j

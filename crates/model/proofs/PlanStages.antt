@@ -35,7 +35,7 @@ use Rattle.model.specs.Plan.{planned}
 use Rattle.model.specs.Working.{Reported, Collected, Keyed, flawedAt, Follows, Holds, Wide, Slotted, Owned}
 use Rattle.model.specs.Working.{Linkable, Linked, Links, Searched, Weighs}
 use Rattle.model.specs.Working.{repeated}
-use Rattle.model.specs.declared.names.Walk.{Walk}
+use Rattle.model.specs.declared.names.Usage.{Usage}
 use Rattle.model.specs.declared.stages.Link.{Link}
 use Rattle.model.specs.declared.answer.Plan.{Plan}
 use Rattle.model.specs.Definitions.{placeIn}
@@ -164,7 +164,7 @@ equated-few n bounds kinds =
     gather-short (λ j. onlyIf (isEquation bounds kinds j) j) (λ j. only-length (isEquation bounds kinds j) j) n 0
 
 -- ---- the table of uses is written
-module _ {lines bounds kinds keys places args slots used used′ starts equated : List ℕ} {m : ℕ} {n : Walk}
+module _ {lines bounds kinds keys places args slots used used′ starts equated : List ℕ} {m : ℕ} {n : Usage}
     (s : Follows lines bounds kinds used)
     (h : Holds equated m (equatedIn (length lines) bounds kinds))
     (k : Linked lines bounds kinds keys places n args slots (replicate (mostStatements + 1) 0) starts used used′) where

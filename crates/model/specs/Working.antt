@@ -15,7 +15,7 @@ use Rattle.sheet.specs.Sheet.{Fault, faultList}
 use Rattle.model.specs.Definitions.{placeIn}
 use Rattle.model.specs.Faults.{again, faultIf}
 use Rattle.model.specs.Plan.{ownSlots, ownUses}
-use Rattle.model.specs.declared.names.Walk.{Walk}
+use Rattle.model.specs.declared.names.Usage.{Usage}
 use Rattle.model.specs.declared.stages.Link.{Link}
 use Rattle.drafts.specs.Kinds.{kindConstant, kindFrom, kindFetch, defines, asks}
 use Rattle.drafts.specs.Places.{begins, ends, homeOf}
@@ -170,7 +170,7 @@ pub record Resolving (keys kinds places args₀ : List ℕ) (flawed : Bool) (i :
       ≡ anyIn (flawedAt places kinds (resolved keys kinds args₀)) (length kinds) 0
 
 -- and what those of them from a place on use is listed behind w numbers
-pub record Linking (keys kinds places owners args₀ used₀ : List ℕ) (from w i : ℕ) (n : Walk)
+pub record Linking (keys kinds places owners args₀ used₀ : List ℕ) (from w i : ℕ) (n : Usage)
     (args used : List ℕ) : Type 0 where
   pub resolving : Resolving keys kinds places args₀ (n .flawed) i args
   pub uses : Put (gather (usedFrom owners kinds (resolved keys kinds args₀)) (i - from) from) w (n .count) used₀ used
@@ -199,7 +199,7 @@ pub record Tabled (equated bounds kinds slots : List ℕ) (r : ℕ) (starts star
       (startsFrom 0 (assignedSlots equated bounds kinds slots) bounds kinds slots equated)
 
 -- what it gives
-pub record Linked (lines bounds kinds keys places : List ℕ) (n : Walk)
+pub record Linked (lines bounds kinds keys places : List ℕ) (n : Usage)
     (args args′ starts starts′ used used′ : List ℕ) : Type 0 where
   pub resolved-so : Resolved keys kinds places args args′ (n .flawed)
   pub tabled-so : Tabled (equatedIn (length lines) bounds kinds) bounds kinds args′

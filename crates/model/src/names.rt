@@ -59,7 +59,7 @@ fn is_flawed(places: &[u16], kinds: &[u8], kind: u8, slot: u64) -> bool
 }
 
 // How much is used so far, and whether a name so far is flawed.
-pub(crate) struct Walk {
+pub(crate) struct Usage {
     pub count: usize,
     pub flawed: bool,
 }
@@ -74,21 +74,21 @@ fn resolve_in(
     owners: &[u16],
     from: usize,
     end: usize,
-    walk: Walk,
+    usage: Usage,
     args: &mut [u64],
     used: &mut [u16],
-) -> Walk
+) -> Usage
     requires { ⌜ Hinted (now keys) (now hints) (now links) × Walked (now keys) (now kinds) (now args) from end
-        (walk .count) ⌝ }
+        (usage .count) ⌝ }
     ensures { λ r. ⌜ (r .count ≤ end) × ((args₀ : List ℕ)
-        → Resolving (now (keys .entry)) (now (kinds .entry)) (now (places .entry)) args₀ (walk .flawed) from
+        → Resolving (now (keys .entry)) (now (kinds .entry)) (now (places .entry)) args₀ (usage .flawed) from
         (now (args .entry))
         → Linking (now (keys .entry)) (now (kinds .entry)) (now (places .entry)) (now (owners .entry)) args₀
         (now (used .entry))
-        from (walk .count) end r (now (args .exit)) (now (used .exit))) ⌝ }
+        from (usage .count) end r (now (args .exit)) (now (used .exit))) ⌝ }
 {
-    let mut w = walk.count;
-    let mut flawed = walk.flawed;
+    let mut w = usage.count;
+    let mut flawed = usage.flawed;
     let mut i = from;
     while i < end {
         let kind = kinds[i];
@@ -102,7 +102,7 @@ fn resolve_in(
         }
         i += 1;
     }
-    Walk { count: w, flawed }
+    Usage { count: w, flawed }
 }
 
 // How many owners are looked at in a statement: all in an equation, else none.
@@ -126,7 +126,7 @@ pub(crate) fn resolve(
     args: &mut [u64],
     starts: &mut [u16],
     used: &mut [u16],
-) -> Walk
+) -> Usage
     requires { ⌜ Hinted (now keys) (now hints) (now links) ×
         Linkable (now lines) (now bounds) (now kinds) (now keys) (now owners) (now args) (now used) ⌝ }
     ensures { λ r. ⌜ Linked (now (lines .entry)) (now (bounds .entry)) (now (kinds .entry)) (now (keys .entry))
@@ -134,7 +134,7 @@ pub(crate) fn resolve(
         (now (args .entry)) (now (args .exit)) (now (starts .entry)) (now (starts .exit)) (now (used .entry))
         (now (used .exit)) ⌝ }
 {
-    let mut walk = Walk {
+    let mut usage = Usage {
         count: 0,
         flawed: false,
     };
@@ -142,10 +142,10 @@ pub(crate) fn resolve(
     let mut j = 0;
     while j < lines.len() {
         let equation = is_equation(bounds, kinds, j);
-        let w = walk.count;
+        let w = usage.count;
         r = put_if(equation, w, &mut *starts, r);
         let known = all_or_none(equation, owners.len());
-        walk = resolve_in(
+        usage = resolve_in(
             kinds,
             keys,
             hints,
@@ -154,15 +154,15 @@ pub(crate) fn resolve(
             &owners[..known],
             short_at(bounds, j),
             short_at(bounds, j + 1),
-            walk,
+            usage,
             &mut *args,
             &mut *used,
         );
         j += 1;
     }
-    let w = walk.count;
+    let w = usage.count;
     put_short(starts, r, w);
-    walk
+    usage
 }
 
 // 22 if a name of the drafts from a place on, before an end, is undefined, else 23 if an initial is unfit, else 0.

@@ -76,7 +76,7 @@ fn connect(
         args,
         &mut owners,
     );
-    let walk = resolve(
+    let usage = resolve(
         lines,
         bounds,
         kinds,
@@ -91,8 +91,8 @@ fn connect(
     );
     Link {
         equations: m,
-        used: walk.count,
-        flawed: walk.flawed,
+        used: usage.count,
+        flawed: usage.flawed,
     }
 }
 

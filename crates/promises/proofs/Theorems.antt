@@ -42,7 +42,7 @@ use Rattle.meaning.specs.Faithful.{saidIn, handedOn, HasSlots, Faithful}
 use Rattle.meaning.specs.ReadSlots.{shapes, SameRead, SameWritten, ReadsStates}
 use Rattle.meaning.specs.Depth.{highest, heightOf}
 use Rattle.meaning.proofs.Acceptance as acceptance
-use Rattle.meaning.proofs.Compares as compares
+use Rattle.laws.proofs.Compares as compares
 use Rattle.meaning.proofs.ReadSlots as slots
 use Rattle.promises.specs.Table.{Trial, trials, shown, wanted, tank, deck as full-deck, loop, Plain}
 use Rattle.promises.specs.Table.{numberFor}

@@ -4,7 +4,7 @@ use native.Mathlib.Omega.{arith}
 use borrow.Author.Needs.{needs}
 use borrow.Fn.Kinds.{In, Out}
 use borrow.Fn.PlainCycle.{Measures, is, falls, and}
-use Rattle.model.proofs.Puts.{put-both}
+use Rattle.laws.proofs.Puts.{put-both}
 use Rattle.listing_text.specs.Listing.{figures}
 use Rattle.listing_text.proofs.Figures.{one-figure, more-figures}
 use Rattle.listing_text.proofs.Reach.{reach-first, reach-second}

@@ -4,7 +4,7 @@ use Prim.Native.Nat.{ℕ}
 use native.Mathlib.Omega.{arith}
 use borrow.Author.Needs.{needs}
 use Rattle.laws.specs.Places.{gather}
-use Rattle.model.proofs.Puts.{put-both}
+use Rattle.laws.proofs.Puts.{put-both}
 use Rattle.listing_text.proofs.Reach.{reach-first, reach-second, listing-reach}
 use Rattle.listing_text.specs.Written.{detailAt, head, InReach}
 use Rattle.listing_text.proofs.put_all.Statement.{statement}

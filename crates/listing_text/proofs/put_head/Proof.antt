@@ -1,6 +1,6 @@
 -- One byte behind another, and the number's line.
 use borrow.Author.Needs.{needs}
-use Rattle.model.proofs.Puts.{put-both}
+use Rattle.laws.proofs.Puts.{put-both}
 use Rattle.listing_text.proofs.put_head.Statement.{statement}
 use Rattle.listing_text.proofs.put_head.Tie as tie
 

@@ -1,7 +1,7 @@
 -- The digits, and byte 10 behind them.
 use mathlib.Core.List.{[], _∷_}
 use borrow.Author.Needs.{needs}
-use Rattle.model.proofs.Puts.{put-both}
+use Rattle.laws.proofs.Puts.{put-both}
 use Rattle.listing_text.specs.Listing.{figures}
 use Rattle.listing_text.proofs.Reach.{reach-first, reach-second}
 use Rattle.listing_text.proofs.put_line.Statement.{statement}

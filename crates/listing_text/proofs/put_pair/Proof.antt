@@ -1,7 +1,7 @@
 -- The digits of the first, a space, and the line of the second.
 use mathlib.Core.List.{[], _∷_}
 use borrow.Author.Needs.{needs}
-use Rattle.model.proofs.Puts.{put-both}
+use Rattle.laws.proofs.Puts.{put-both}
 use Rattle.listing_text.specs.Listing.{figures, line}
 use Rattle.listing_text.proofs.Reach.{reach-first, reach-second}
 use Rattle.listing_text.proofs.put_pair.Statement.{statement}

@@ -11,11 +11,11 @@ use Rattle.model.proofs.names.resolve.Statement.{statement}
 use Rattle.model.proofs.names.resolve.Tie as tie
 
 abbrev Inv-loop : tie.InvT-loop
-Inv-loop lines bounds kinds keys hints links places owners args₀ starts₀ used₀ walk₀ r₀ j₀ args starts used walk r j =
-    Stating lines bounds kinds keys places args₀ starts₀ used₀ walk r j args starts used
+Inv-loop lines bounds kinds keys hints links places owners args₀ starts₀ used₀ usage₀ r₀ j₀ args starts used usage r j =
+    Stating lines bounds kinds keys places args₀ starts₀ used₀ usage r j args starts used
 
 abbrev μ-loop : tie.MeasureT-loop
-μ-loop lines bounds kinds keys hints links places owners args₀ starts₀ used₀ walk₀ r₀ j₀ args starts used walk r j =
+μ-loop lines bounds kinds keys hints links places owners args₀ starts₀ used₀ usage₀ r₀ j₀ args starts used usage r j =
     length lines - j
 
 loop-holds : tie.Need-loop-holds Inv-loop μ-loop

@@ -7,14 +7,14 @@ use borrow.Author.Needs.{needs}
 use lib.ListN.{getD}
 use Rattle.model.proofs.KeysFound.{place-le}
 use Rattle.model.proofs.NamesResolved.{slot-named}
-use Rattle.model.proofs.NamesLinked.{walk, Walking, walking-first, walking-flawed, walking-clear, walking-other}
+use Rattle.model.proofs.NamesLinked.{usage, Walking, walking-first, walking-flawed, walking-clear, walking-other}
 use Rattle.model.proofs.NamesLinked.{walking-last}
 use Rattle.model.proofs.names.resolve_in.Statement.{statement}
 use Rattle.model.proofs.names.resolve_in.Tie as tie
 
 abbrev Inv-loop : tie.InvT-loop
 Inv-loop kinds keys hints links places owners from end args₀ used₀ w₀ flawed₀ i₀ args used w flawed i =
-    Walking keys kinds places owners args₀ used₀ from end (walk w₀ flawed₀) w flawed i args used
+    Walking keys kinds places owners args₀ used₀ from end (usage w₀ flawed₀) w flawed i args used
 
 abbrev μ-loop : tie.MeasureT-loop
 μ-loop kinds keys hints links places owners from end args₀ used₀ w₀ flawed₀ i₀ args used w flawed i = end - i
@@ -22,7 +22,8 @@ abbrev μ-loop : tie.MeasureT-loop
 loop-holds : tie.Need-loop-holds Inv-loop μ-loop
 loop-holds c =
     let s = c .before .before .before .before .before .before .before .before in
-    walking-first (s .args .places .now) (s .args .owners .now) (s .args .used .now) (s .args .walk .flawed) (s .pre .1)
+    walking-first (s .args .places .now) (s .args .owners .now) (s .args .used .now) (s .args .usage .flawed)
+    (s .pre .1)
 
 add-slot : tie.Need-add-slot Inv-loop μ-loop
 add-slot c =
