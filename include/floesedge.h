@@ -50,7 +50,7 @@ enum {
     FLOESEDGE_TOO_MANY_STATEMENTS = 4,  /* over 256 */
     FLOESEDGE_STATEMENT_FAULTS = 5,     /* the fault list is written (codes 11 to 19), count is its faults */
     FLOESEDGE_TOO_MANY_DEFINITIONS = 6, /* over 255, doubles counted */
-    FLOESEDGE_MODEL_FAULTS = 7,         /* the fault list is written (codes 21 to 24), count is its faults */
+    FLOESEDGE_MODEL_FAULTS = 7,         /* the fault list is written (codes 21 to 26), count is its faults */
     FLOESEDGE_PROGRAM_TOO_LARGE = 8     /* over 4,096 records, or over the bytes lent divided by 16 */
 };
 
@@ -78,7 +78,9 @@ enum {
     FLOESEDGE_FAULT_DEFINED_TWICE = 21,    /* defines a name that is already defined */
     FLOESEDGE_FAULT_UNDEFINED = 22,        /* names what nothing defines */
     FLOESEDGE_FAULT_INITIAL = 23,          /* its initial name is no constant */
-    FLOESEDGE_FAULT_UNSORTABLE = 24        /* in a loop without a state, or uses one that is */
+    FLOESEDGE_FAULT_UNSORTABLE = 24,       /* in a loop without a state, or uses one that is */
+    FLOESEDGE_FAULT_UNPAIRED = 25,         /* a PROCED or ENDPRO without its other, or a PROCED inside a block */
+    FLOESEDGE_FAULT_INSIDE = 26            /* not allowed inside a block; or an output not set there, or named twice */
 };
 
 /* ---- records: 16 bytes each, every number low byte first, unused fields 0

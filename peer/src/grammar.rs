@@ -1,6 +1,7 @@
 //! The grammar: reads the tokens of one statement and adds what it says to
 //! the model, its expression already in postfix.
 
+use crate::blocks::{Header, Mark};
 use crate::model::{Definition, Equation, Model, Sort};
 use crate::program::{
     Item, ADD, COMPAR, DERIVATIVE, DIVIDE, INSW, LIMIT, MULTIPLY, NEGATE, STORE, SUBTRACT,
@@ -26,21 +27,27 @@ mod word {
     pub const INSW: Name = pack(b"INSW");
     pub const LIMIT: Name = pack(b"LIMIT");
     pub const COMPAR: Name = pack(b"COMPAR");
+    pub const PROCED: Name = pack(b"PROCED");
+    pub const ENDPRO: Name = pack(b"ENDPRO");
 }
 
-/// Whether a name token is a reserved word.
+/// Whether a name token is a reserved word. None of them ends in a digit.
 fn is_reserved(name: Name) -> bool {
-    matches!(
-        name,
-        word::CONST
-            | word::PARAM
-            | word::INCON
-            | word::INTGRL
-            | word::TIME
-            | word::INSW
-            | word::LIMIT
-            | word::COMPAR
-    )
+    let letter = name as u8 >= b'A';
+    letter
+        && matches!(
+            name,
+            word::CONST
+                | word::PARAM
+                | word::INCON
+                | word::INTGRL
+                | word::TIME
+                | word::INSW
+                | word::LIMIT
+                | word::COMPAR
+                | word::PROCED
+                | word::ENDPRO
+        )
 }
 
 /// Reads one whole statement, its tokens closed by the end token, or gives
@@ -54,6 +61,8 @@ pub fn read(tokens: &[Token], line: u32, model: &mut Model) -> Result<(), u8> {
     };
     match reader.next() {
         Token::Name(word::CONST | word::PARAM | word::INCON) => reader.constants(),
+        Token::Name(word::PROCED) => reader.header(),
+        Token::Name(word::ENDPRO) => reader.end(),
         Token::Name(name) if !is_reserved(name) => reader.equation(name),
         _ => Err(GRAMMAR),
     }
@@ -120,13 +129,7 @@ impl Reader<'_> {
             let name = self.name()?;
             self.expect(Token::Mark(b'='))?;
             let value = self.signed_number()?;
-            let sort = Sort::Constant;
-            self.model.definitions.push(Definition {
-                name,
-                line: self.line,
-                sort,
-                value,
-            });
+            self.define(name, Sort::Constant, value);
             match self.next() {
                 Token::Mark(b',') => {}
                 Token::End => return Ok(()),
@@ -140,7 +143,6 @@ impl Reader<'_> {
         self.expect(Token::Mark(b'='))?;
         let (items, uses) = self.lengths();
         let definition = self.model.definitions.len() as u16;
-        let slot = definition + 1;
         let state = self.peek() == Token::Name(word::INTGRL);
         let mut value = 0.0;
         let mut initial = None;
@@ -162,24 +164,14 @@ impl Reader<'_> {
         let (kind, sort) = if state {
             (DERIVATIVE, Sort::State)
         } else {
-            (STORE, Sort::Assigned(self.model.equations.len() as u16))
+            (STORE, Sort::Assigned)
         };
-        self.emit(Item {
-            kind,
-            slot,
-            bits: 0,
-        });
+        self.emit(Item::plain(kind));
         let end = self.lengths();
         let (items, uses) = ((items, end.0), (uses, end.1));
-        let line = self.line;
-        self.model.definitions.push(Definition {
-            name,
-            line,
-            sort,
-            value,
-        });
+        self.define(name, sort, value);
         self.model.equations.push(Equation {
-            line,
+            line: self.line,
             items,
             uses,
             definition,
@@ -260,6 +252,61 @@ impl Reader<'_> {
         self.expect(Token::Mark(b')'))?;
         self.emit(Item::plain(kind));
         Ok(())
+    }
+
+    /// Reads a header, behind its first word.
+    fn header(&mut self) -> Result<(), u8> {
+        let outputs = self.names(b'=')?;
+        self.name()?;
+        self.expect(Token::Mark(b'('))?;
+        let inputs = self.names(b')')?;
+        self.expect(Token::End)?;
+        self.mark(Some(Header { outputs, inputs }));
+        Ok(())
+    }
+
+    /// Reads the end of a block, behind its word.
+    fn end(&mut self) -> Result<(), u8> {
+        self.expect(Token::End)?;
+        self.mark(None);
+        Ok(())
+    }
+
+    /// Reads names with commas up to a mark, and gives where they begin and end.
+    fn names(&mut self, mark: u8) -> Result<(u32, u32), u8> {
+        let from = self.model.header_names.len() as u32;
+        loop {
+            let name = self.name()?;
+            self.model.header_names.push(name);
+            match self.next() {
+                Token::Mark(b',') => {}
+                token if token == Token::Mark(mark) => {
+                    return Ok((from, self.model.header_names.len() as u32));
+                }
+                _ => return Err(GRAMMAR),
+            }
+        }
+    }
+
+    /// Adds a header or an end to the model.
+    fn mark(&mut self, header: Option<Header>) {
+        self.model.marks.push(Mark {
+            line: self.line,
+            header,
+            definitions: self.model.definitions.len() as u16,
+            equations: self.model.equations.len() as u16,
+        });
+    }
+
+    /// Adds a definition to the model.
+    fn define(&mut self, name: Name, sort: Sort, value: f64) {
+        self.model.definitions.push(Definition {
+            name,
+            line: self.line,
+            sort,
+            known: 0,
+            value,
+        });
     }
 
     /// How many items and uses the model has.
@@ -346,9 +393,77 @@ mod tests {
             "CONST=1",
             "1=A",
             "=",
+            "PROCED",
+            "PROCED A",
+            "PROCED A=",
+            "PROCED A=F",
+            "PROCED A=F(",
+            "PROCED A=F()",
+            "PROCED A=F(C",
+            "PROCED A=F(C,",
+            "PROCED A=F(C,)",
+            "PROCED A=F(C))",
+            "PROCED A=F(C)D",
+            "PROCED A=F(C) D",
+            "PROCED A=F(C),B",
+            "PROCED A=F(C D)",
+            "PROCED A=F(-C)",
+            "PROCED A=F(C+D)",
+            "PROCED A=F((C))",
+            "PROCED A=F(1)",
+            "PROCED A=F(TIME)",
+            "PROCED A=F(C,TIME)",
+            "PROCED A=F(ENDPRO)",
+            "PROCED A=(C)",
+            "PROCED A=F G(C)",
+            "PROCED A=F=G(C)",
+            "PROCED A=1(C)",
+            "PROCED A=TIME(C)",
+            "PROCED A=INSW(C)",
+            "PROCED A=PROCED(C)",
+            "PROCED =F(C)",
+            "PROCED F(C)",
+            "PROCED A,=F(C)",
+            "PROCED ,A=F(C)",
+            "PROCED A B=F(C)",
+            "PROCED A,B F(C)",
+            "PROCED TIME=F(C)",
+            "PROCED A,CONST=F(C)",
+            "PROCED=1",
+            "PROCED PROCED A=F(C)",
+            "ENDPRO A",
+            "ENDPRO 1",
+            "ENDPRO ENDPRO",
+            "ENDPRO=1",
+            "ENDPRO,",
+            "A=PROCED",
+            "A=ENDPRO+1",
+            "A=INTGRL(ENDPRO,1)",
+            "CONST PROCED=1",
+            "PARAM A=1,ENDPRO=1",
         ] {
             assert_eq!(kinds(text), Err(GRAMMAR), "{text}");
         }
+    }
+
+    #[test]
+    fn headers_and_ends() {
+        for text in [
+            "PROCED A=F(C)",
+            "PROCED A,B=F(C,D)",
+            " PROCED  A , B = F ( C )",
+            "PROCED A,A=A(A,A)",
+            "PROCED PROCE=ENDPR(PROCE1)",
+            "ENDPRO",
+            "  ENDPRO  ",
+        ] {
+            assert_eq!(kinds(text), Ok(vec![]), "{text}");
+        }
+        // The header's parentheses are no level, nor is any inside them allowed.
+        assert_eq!(
+            kinds(&format!("PROCED A=F{}", "(".repeat(17))),
+            Err(GRAMMAR)
+        );
     }
 
     #[test]

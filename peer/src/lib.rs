@@ -3,15 +3,17 @@
 //! dependency. It exists to disagree with the proved library; `check` compares
 //! the two and `bench` measures them side by side.
 //!
-//! One module stands for each section of the paper.
+//! One module stands for each section of the papers; `names` serves the model.
 
 #![forbid(unsafe_code)]
 
+pub mod blocks;
 pub mod deck;
 pub mod evaluate;
 pub mod grammar;
 pub mod listing;
 pub mod model;
+pub mod names;
 pub mod order;
 pub mod program;
 pub mod tokens;

@@ -2,8 +2,7 @@
 
 use std::io::Write;
 
-use crate::program::{DERIVATIVE, RECORD, STORE};
-use crate::translate::translate;
+use crate::translate::translate_ordered;
 
 /// The bytes lent for the fault list.
 const FAULTS: usize = 1024;
@@ -14,16 +13,13 @@ const PROGRAM: usize = 65_536;
 pub fn listing(text: &[u8]) -> Vec<u8> {
     let mut faults = vec![0; FAULTS];
     let mut program = vec![0; PROGRAM];
-    let verdict = translate(text, &mut faults, &mut program);
+    let (verdict, order) = translate_ordered(text, &mut faults, &mut program);
     let count = verdict.count as usize;
     let mut out = Vec::new();
     if verdict.number == 0 {
         print(&mut out, format_args!("OK {count}"));
-        for record in program.chunks_exact(RECORD).take(count) {
-            if matches!(record[0], STORE | DERIVATIVE) {
-                let line = u32::from_le_bytes(record[4..8].try_into().unwrap());
-                print(&mut out, format_args!("{line}"));
-            }
+        for unit in order {
+            print(&mut out, format_args!("{}", unit.line));
         }
     } else {
         print(&mut out, format_args!("NO {}", verdict.number));

@@ -1,8 +1,9 @@
-//! The order of assignments and state statements.
+//! The order of units: assignments and state statements outside, and blocks.
 
-use crate::model::{Fault, Model, Sort, UNSORTABLE};
+use crate::model::{Fault, Model, Sort, Unit, UNSORTABLE};
+use crate::names::slot;
 
-/// A set of up to 256 equations.
+/// A set of up to 256 units.
 type Set = [u64; 4];
 
 /// Takes the least member out of a set.
@@ -26,32 +27,60 @@ fn add(set: &mut Set, member: usize) -> bool {
     fresh
 }
 
-/// Gives the equations in the order that the paper asks for, or the faults 24.
-/// Names are resolved, and there are at most 255 equations.
+/// A unit while it is not yet in its place.
+#[derive(Clone)]
+struct Node {
+    /// The units that use it.
+    users: Set,
+    /// How many units that it uses are not yet in their places.
+    waiting: u16,
+}
+
+/// Gives the units in the order that the paper asks for, or the faults 24.
+/// Names are resolved, and there are at most 255 units.
 ///
-/// The least equation all of whose used ones stand already comes next; what is
+/// The least unit all of whose used ones stand already comes next; what is
 /// never ready reaches a loop, and so is just what is unsortable.
-pub fn order(model: &Model) -> Result<Vec<u16>, Vec<Fault>> {
-    let count = model.equations.len();
-    let mut waiting = vec![0u16; count];
-    let mut users: Vec<Set> = vec![[0; 4]; count];
+pub fn order(model: &Model, units: &[Unit]) -> Result<Vec<Unit>, Vec<Fault>> {
+    let count = units.len();
+    let givers = givers(model, units);
+    let empty = Node {
+        users: [0; 4],
+        waiting: 0,
+    };
+    let mut nodes = vec![empty; count];
     let mut ready: Set = [0; 4];
-    for (user, equation) in model.equations.iter().enumerate() {
-        for slot in model.slots_of(equation) {
-            if let Sort::Assigned(used) = model.definitions[slot as usize - 1].sort {
-                waiting[user] += add(&mut users[used as usize], user) as u16;
+    for (user, unit) in units.iter().enumerate() {
+        let mut waiting = 0;
+        let mut wait_for = |slot: u16| {
+            if let Some(used) = nodes.get_mut(givers[slot as usize % 256] as usize) {
+                waiting += add(&mut used.users, user) as u16;
+            }
+        };
+        match unit.inputs {
+            Some(inputs) => {
+                for &input in model.header_known(inputs) {
+                    wait_for(slot(input));
+                }
+            }
+            None => {
+                let equation = &model.equations[unit.equations.0 as usize];
+                model.slots_of(equation).for_each(wait_for);
             }
         }
-        if waiting[user] == 0 {
+        nodes[user].waiting = waiting;
+        if waiting == 0 {
             add(&mut ready, user);
         }
     }
     let mut order = Vec::with_capacity(count);
     while let Some(next) = take_least(&mut ready) {
-        order.push(next as u16);
-        while let Some(user) = take_least(&mut users[next]) {
-            waiting[user] -= 1;
-            if waiting[user] == 0 {
+        order.push(units[next]);
+        let mut users = nodes[next].users;
+        while let Some(user) = take_least(&mut users) {
+            let waiting = &mut nodes[user].waiting;
+            *waiting -= 1;
+            if *waiting == 0 {
                 add(&mut ready, user);
             }
         }
@@ -59,20 +88,33 @@ pub fn order(model: &Model) -> Result<Vec<u16>, Vec<Fault>> {
     if order.len() == count {
         Ok(order)
     } else {
-        Err(unsortable(model, &waiting))
+        Err(unsortable(units, &nodes))
     }
 }
 
-/// The faults of all equations that still wait.
-fn unsortable(model: &Model, waiting: &[u16]) -> Vec<Fault> {
-    let stuck = model
-        .equations
-        .iter()
-        .zip(waiting)
-        .filter(|(_, &waiting)| waiting > 0);
+/// No unit: what is known without order.
+const NONE: u16 = u16::MAX;
+
+/// For each slot the unit that assigns it.
+fn givers(model: &Model, units: &[Unit]) -> [u16; 256] {
+    let mut givers = [NONE; 256];
+    for (index, unit) in units.iter().enumerate() {
+        for equation in model.equations_of(unit) {
+            let definition = &model.definitions[equation.definition as usize];
+            if definition.sort == Sort::Assigned {
+                givers[slot(definition.known) as usize % 256] = index as u16;
+            }
+        }
+    }
+    givers
+}
+
+/// The faults of all units that still wait.
+fn unsortable(units: &[Unit], nodes: &[Node]) -> Vec<Fault> {
+    let stuck = units.iter().zip(nodes).filter(|(_, node)| node.waiting > 0);
     stuck
-        .map(|(equation, _)| Fault {
-            line: equation.line,
+        .map(|(unit, _)| Fault {
+            line: unit.line,
             code: UNSORTABLE,
         })
         .collect()

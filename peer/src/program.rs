@@ -1,6 +1,7 @@
 //! The program: records of 16 bytes.
 
-use crate::model::{Model, Sort};
+use crate::model::{Model, Sort, Unit};
+use crate::names::slot;
 use crate::tokens::Name;
 
 /// The bytes of a record.
@@ -25,7 +26,8 @@ pub const DERIVATIVE: u8 = 14;
 pub const STORE_AGAIN: u8 = 15;
 
 /// A record of an equation before its line is put in. While names are not yet
-/// resolved, the bits of an item that pushes what a name stands for are the name.
+/// resolved, the bits of an item that pushes what a name stands for are the name,
+/// or, inside a block that is looked at already, its slot is the name's index.
 #[derive(Clone, Copy, Debug)]
 pub struct Item {
     pub kind: u8,
@@ -78,17 +80,17 @@ pub fn record(kind: u8, slot: u16, line: u32, bits: u64) -> [u8; RECORD] {
 
 /// How many records a model needs.
 pub fn records_needed(model: &Model) -> usize {
-    let assigned = |sort| matches!(sort, Sort::Assigned(_));
-    let valued = model
+    let valued = |sort| matches!(sort, Sort::Constant | Sort::State);
+    let values = model
         .definitions
         .iter()
-        .filter(|definition| !assigned(definition.sort))
+        .filter(|definition| valued(definition.sort))
         .count();
-    valued + model.items.len()
+    values + model.items.len()
 }
 
 /// Writes the whole program into a lent buffer that has room for it.
-pub fn write(model: &Model, order: &[u16], program: &mut [u8]) {
+pub fn write(model: &Model, order: &[Unit], program: &mut [u8]) {
     let mut room = program.chunks_exact_mut(RECORD);
     let mut put = |bytes: [u8; RECORD]| {
         if let Some(place) = room.next() {
@@ -96,22 +98,22 @@ pub fn write(model: &Model, order: &[u16], program: &mut [u8]) {
         }
     };
     for (kind, sort) in [(CONSTANT, Sort::Constant), (INITIAL, Sort::State)] {
-        for (index, definition) in model.definitions.iter().enumerate() {
+        for definition in &model.definitions {
             if definition.sort == sort {
-                let slot = index as u16 + 1;
                 put(record(
                     kind,
-                    slot,
+                    slot(definition.known),
                     definition.line,
                     definition.value.to_bits(),
                 ));
             }
         }
     }
-    for &index in order {
-        let equation = &model.equations[index as usize];
-        for item in model.items_of(equation) {
-            put(record(item.kind, item.slot, equation.line, item.bits));
+    for unit in order {
+        for equation in model.equations_of(unit) {
+            for item in model.items_of(equation) {
+                put(record(item.kind, item.slot, equation.line, item.bits));
+            }
         }
     }
 }

@@ -1,8 +1,9 @@
 //! The verdict.
 
+use crate::blocks;
 use crate::deck::{Lines, Statement};
 use crate::grammar;
-use crate::model::{Fault, Model, MAX_DEFINITIONS};
+use crate::model::{Fault, Model, Unit, MAX_DEFINITIONS};
 use crate::order::order;
 use crate::program::{self, MAX_RECORDS, RECORD};
 use crate::tokens::{cut, Token};
@@ -30,37 +31,67 @@ impl Verdict {
 
 /// Translates a text into a program, or refuses it.
 pub fn translate(text: &[u8], faults: &mut [u8], program: &mut [u8]) -> Verdict {
-    if faults.len() < FAULT_LIST {
-        return Verdict::bare(1);
+    translate_ordered(text, faults, program).0
+}
+
+/// The same, and hands the order out; none without verdict 0.
+pub fn translate_ordered(
+    text: &[u8],
+    faults: &mut [u8],
+    program: &mut [u8],
+) -> (Verdict, Vec<Unit>) {
+    match judge(text, faults.len()) {
+        Judged::Bare(number) => (Verdict::bare(number), Vec::new()),
+        Judged::Faulty(number, found) => (write_faults(number, &found, faults), Vec::new()),
+        Judged::Sorted(model, order) => {
+            let needed = program::records_needed(&model);
+            if needed > MAX_RECORDS.min(program.len() / RECORD) {
+                return (Verdict::bare(8), Vec::new());
+            }
+            program::write(&model, &order, program);
+            let verdict = Verdict {
+                number: 0,
+                count: needed as u32,
+            };
+            (verdict, order)
+        }
+    }
+}
+
+/// What a text is before the room for its program is looked at.
+enum Judged {
+    /// Refused by a number alone.
+    Bare(u32),
+    /// Refused with 5 or 7.
+    Faulty(u32, Vec<Fault>),
+    /// Sound, its units in order.
+    Sorted(Model, Vec<Unit>),
+}
+
+/// Goes through the verdicts 1 to 7 in their order.
+fn judge(text: &[u8], fault_room: usize) -> Judged {
+    if fault_room < FAULT_LIST {
+        return Judged::Bare(1);
     }
     if text.len() > MAX_TEXT {
-        return Verdict::bare(2);
+        return Judged::Bare(2);
     }
     let Some(lines) = Lines::find(text) else {
-        return Verdict::bare(3);
+        return Judged::Bare(3);
     };
     let mut model = Model::with_room(lines.count(), text.len());
     let Some(found) = read_statements(&lines, &mut model) else {
-        return Verdict::bare(4);
+        return Judged::Bare(4);
     };
     if !found.is_empty() {
-        return write_faults(5, &found, faults);
+        return Judged::Faulty(5, found);
     }
     if model.definitions.len() > MAX_DEFINITIONS {
-        return Verdict::bare(6);
+        return Judged::Bare(6);
     }
-    let order = match sorted(&mut model) {
-        Ok(order) => order,
-        Err(found) => return write_faults(7, &found, faults),
-    };
-    let needed = program::records_needed(&model);
-    if needed > MAX_RECORDS.min(program.len() / RECORD) {
-        return Verdict::bare(8);
-    }
-    program::write(&model, &order, program);
-    Verdict {
-        number: 0,
-        count: needed as u32,
+    match sorted(&mut model) {
+        Ok(order) => Judged::Sorted(model, order),
+        Err(found) => Judged::Faulty(7, found),
     }
 }
 
@@ -99,11 +130,16 @@ fn read_statement(
     grammar::read(tokens, statement.line, model)
 }
 
-/// Seeks the model faults in their order, and gives the order if there are none.
-fn sorted(model: &mut Model) -> Result<Vec<u16>, Vec<Fault>> {
-    let table = model.table()?;
-    model.resolve(&table)?;
-    order(model)
+/// Seeks the model faults in their order, and gives the units in order if
+/// there are none.
+fn sorted(model: &mut Model) -> Result<Vec<Unit>, Vec<Fault>> {
+    let blocks = blocks::pair(&model.marks)?;
+    let mut names = model.names();
+    blocks::judge(model, &blocks, &mut names)?;
+    model.doubles()?;
+    let units = model.units(&blocks);
+    model.resolve(&units, &names)?;
+    order(model, &units)
 }
 
 /// Writes the fault list; there are at most 256 faults.

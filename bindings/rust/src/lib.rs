@@ -61,7 +61,7 @@ pub enum Verdict {
     StatementFaults { faults: usize },
     /// 6: over [`MOST_DEFINITIONS`], doubles counted.
     TooManyDefinitions,
-    /// 7: the fault list is written, so many faults with codes 21 to 24.
+    /// 7: the fault list is written, so many faults with codes 21 to 26.
     ModelFaults { faults: usize },
     /// 8: over [`MOST_RECORDS`], or over the bytes lent divided by [`RECORD_BYTES`].
     ProgramTooLarge,
@@ -129,11 +129,13 @@ pub enum Code {
     Undefined = 22,
     Initial = 23,
     Unsortable = 24,
+    Unpaired = 25,
+    Inside = 26,
 }
 
 impl Code {
     /// Every code, in rising order.
-    pub const ALL: [Code; 13] = [
+    pub const ALL: [Code; 15] = [
         Code::OpenEnd,
         Code::TooManyCards,
         Code::LineTooLong,
@@ -147,6 +149,8 @@ impl Code {
         Code::Undefined,
         Code::Initial,
         Code::Unsortable,
+        Code::Unpaired,
+        Code::Inside,
     ];
 
     /// The code with this number.
@@ -171,6 +175,8 @@ impl fmt::Display for Code {
             Code::Undefined => "a name that nothing defines",
             Code::Initial => "the initial name is no constant",
             Code::Unsortable => "in a loop without a state, or behind one",
+            Code::Unpaired => "a PROCED or ENDPRO without its other, or a PROCED inside a block",
+            Code::Inside => "not allowed inside a block, or an output not set there or named twice",
         };
         write!(f, "{}, {words}", *self as u8)
     }

@@ -8,7 +8,18 @@ use floesedge::{faults_of, translate, Verdict, FAULT_ROOM, PROGRAM_ROOM, RECORD_
 const STORE: u8 = 13;
 const DERIVATIVE: u8 = 14;
 
-/// OK, the record count and the first lines in order; or NO, the number, and line and code of each fault.
+/// The line of the unit that a statement's first line stands in: inside a block the line of its header. So of the
+/// decks here, in which both words begin a line and no block is damaged.
+fn unit_line(text: &[u8], line: usize) -> usize {
+    let lines: Vec<&[u8]> = text.split(|&byte| byte == b'\n').collect();
+    let begins = |at: &usize, word: &[u8]| lines[at - 1].trim_ascii_start().starts_with(word);
+    let nearest = (1..=line)
+        .rev()
+        .find(|at| begins(at, b"PROCED") || begins(at, b"ENDPRO"));
+    nearest.filter(|at| begins(at, b"PROCED")).unwrap_or(line)
+}
+
+/// OK, the record count and the first lines of the units in order; or NO, the number, and line and code of each fault.
 fn listing(text: &[u8]) -> String {
     let mut faults = [0; FAULT_ROOM];
     let mut program = vec![0; PROGRAM_ROOM];
@@ -18,11 +29,15 @@ fn listing(text: &[u8]) -> String {
         _ => format!("NO {}\n", verdict.number()),
     };
     if let Verdict::Translated { records } = verdict {
+        let mut order = Vec::new();
         for record in program.chunks_exact(RECORD_BYTES).take(records) {
             if matches!(record[0], STORE | DERIVATIVE) {
-                out += &format!("{}\n", u32::from_le_bytes(record[4..8].try_into().unwrap()));
+                let line = u32::from_le_bytes(record[4..8].try_into().unwrap());
+                order.push(unit_line(text, line as usize));
             }
         }
+        order.dedup();
+        order.iter().for_each(|line| out += &format!("{line}\n"));
     }
     for fault in faults_of(verdict, &faults) {
         out += &format!("{} {}\n", fault.line, fault.code as u8);

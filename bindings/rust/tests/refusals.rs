@@ -99,6 +99,10 @@ fn faults() {
         ("A=A+1", vec![(1, 24)]),
         ("A=B\nB=A\nC=1", vec![(1, 24), (2, 24)]),
         ("A=B\nB=A\nD=A", vec![(1, 24), (2, 24), (3, 24)]),
+        ("PROCED Q=V(U)\nQ=U\nENDPRO\nU=Q", vec![(1, 24), (4, 24)]),
+        ("PROCED Q=V(U)\nQ=U\nU=1", vec![(1, 25)]),
+        ("U=1\nPROCED Q=V(U)\nT=U\nENDPRO", vec![(2, 26)]),
+        ("U=1\nPROCED Q=V(U)\nQ=Q+U\nENDPRO", vec![(3, 26)]),
     ];
     for (text, wanted) in cases {
         let (verdict, faults) = translated(text.as_bytes());
@@ -204,6 +208,6 @@ fn words() {
     assert_eq!(Answer::BadRecord { record: 3 }.to_string(), "answer 3: record 3 is bad");
     assert_eq!(Code::Undefined.to_string(), "22, a name that nothing defines");
     let numbers: Vec<u8> = Code::ALL.iter().map(|c| *c as u8).collect();
-    assert_eq!(numbers, [11, 12, 13, 14, 15, 16, 17, 18, 19, 21, 22, 23, 24]);
+    assert_eq!(numbers, [11, 12, 13, 14, 15, 16, 17, 18, 19, 21, 22, 23, 24, 25, 26]);
     assert_eq!(Code::from_number(20), None);
 }

@@ -3,11 +3,14 @@ use Prim.Native.Nat.{ℕ}
 use mathlib.Core.Path.{sym, _∙_}
 use mathlib.Core.List.{List}
 use Rattle.laws.specs.Agree.{Agree}
-use Rattle.drafts.specs.Contract.{WhetherDefining, WhetherAsking, WhetherNamed, WhetherClosing}
-use Rattle.drafts.specs.Contract.{CountsDraft, FindsHome}
+use Rattle.drafts.specs.Contract.{WhetherDefining, WhetherUse, WhetherAsking, WhetherNamed}
+use Rattle.drafts.specs.Contract.{WhetherClosing, CountsDraft, FindsHome}
 
 pub is-defining : (kind : ℕ) → Agree (WhetherDefining kind)
 is-defining kind r s p q = p ∙ sym q
+
+pub is-use : (kind : ℕ) → Agree (WhetherUse kind)
+is-use kind r s p q = p ∙ sym q
 
 pub is-asking : (kind : ℕ) → Agree (WhetherAsking kind)
 is-asking kind r s p q = p ∙ sym q

@@ -4,12 +4,16 @@ use mathlib.Core.Path.{_≡_}
 use mathlib.Core.Bool.{Bool}
 use mathlib.Core.List.{List}
 use Rattle.laws.specs.Counts.{once}
-use Rattle.drafts.specs.Kinds.{defines, asks, isNamed, closes, writes}
+use Rattle.drafts.specs.Kinds.{defines, isUse, asks, isNamed, closes, writes}
 use Rattle.drafts.specs.Places.{homeOf}
 
 -- `is_defining`: whether a draft of this kind defines its name
 abbrev pub WhetherDefining : ℕ → Bool → Type 0
 WhetherDefining kind r = r ≡ defines kind
+
+-- `is_use`: whether it uses what assigns its name
+abbrev pub WhetherUse : ℕ → Bool → Type 0
+WhetherUse kind r = r ≡ isUse kind
 
 -- `is_asking`: whether it asks for a name that must be defined
 abbrev pub WhetherAsking : ℕ → Bool → Type 0
@@ -19,7 +23,7 @@ WhetherAsking kind r = r ≡ asks kind
 abbrev pub WhetherNamed : ℕ → Bool → Type 0
 WhetherNamed kind r = r ≡ isNamed kind
 
--- `is_closing`: whether it closes an equation
+-- `is_closing`: whether it closes a unit of the order
 abbrev pub WhetherClosing : ℕ → Bool → Type 0
 WhetherClosing kind r = r ≡ closes kind
 

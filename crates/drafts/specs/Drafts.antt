@@ -6,10 +6,11 @@ use lib.Ieee.{binary64, toBits}
 use Rattle.laws.specs.Lists.{concat-map}
 use Rattle.drafts.specs.Tree.{Tree, value, named, time, negated, two, three}
 use Rattle.drafts.specs.Tree.{Constant, Initial, plain, from, Says, constants, assignment, state}
+use Rattle.drafts.specs.Tree.{header, ending}
 use Rattle.drafts.specs.Items.{Item, push, fetch, clock, negate, apply-two, apply-three, postfix}
 use Rattle.drafts.specs.Kinds.{kindConstant, kindInitial, kindNumber, kindFrom, kindPush, kindFetch, kindClock}
 use Rattle.drafts.specs.Kinds.{kindTwo, kindNegate}
-use Rattle.drafts.specs.Kinds.{kindThree, kindStore, kindRate}
+use Rattle.drafts.specs.Kinds.{kindThree, kindStore, kindRate, kindOutput, kindInput, kindEnding}
 
 pub record Draft : Type 0 where
   pub kind : ℕ
@@ -43,8 +44,10 @@ abbrev pub initialDraft : Initial → Draft
 initialDraft (plain x) = draft kindNumber (toBits binary64 x)
 initialDraft (from k) = draft kindFrom k
 
--- an expression, and what is done with its value
+-- an expression, and what is done with its value; the names of a block's header, and its end
 abbrev pub draftsOf : Says → List Draft
 draftsOf (constants cs) = concat-map constantDrafts cs
 draftsOf (assignment k e) = map draftItem (postfix e) ++ (draft kindStore k ∷ [])
 draftsOf (state k i e) = draft kindInitial k ∷ initialDraft i ∷ (map draftItem (postfix e) ++ (draft kindRate k ∷ []))
+draftsOf (header os is) = map (draft kindOutput) os ++ map (draft kindInput) is
+draftsOf ending = draft kindEnding 0 ∷ []

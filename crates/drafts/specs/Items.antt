@@ -3,7 +3,7 @@ use Prim.Native.Nat.{ℕ, _+_, max}
 use mathlib.Core.List.{List, [], _∷_, _++_}
 use lib.Ieee.{Float}
 use Rattle.drafts.specs.Tree.{Two, Three, Tree, value, named, time, negated, two, three}
-use Rattle.drafts.specs.Tree.{Says, constants, assignment, state}
+use Rattle.drafts.specs.Tree.{Says, constants, assignment, state, header, ending}
 
 -- push a value, push what a name holds, push TIME, negate, an operation on two values or on three
 pub data Item : Type 0 where
@@ -31,8 +31,10 @@ peak (negated a) = peak a
 peak (two o a b) = max (peak a) (1 + peak b)
 peak (three o a b c) = max (peak a) (max (1 + peak b) (2 + peak c))
 
--- for a statement: constants work out nothing
+-- for a statement: constants and the two ends of a block work out nothing
 abbrev pub peakOf : Says → ℕ
 peakOf (constants cs) = 0
 peakOf (assignment k e) = peak e
 peakOf (state k i e) = peak e
+peakOf (header os is) = 0
+peakOf ending = 0

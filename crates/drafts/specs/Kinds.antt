@@ -1,7 +1,7 @@
--- The kinds of drafts, each named once, and the tests of what a kind is for. Kinds 1 to 14 are those of the records
+-- The kinds of drafts, each named once, and the tests of what a kind is for. Kinds 1 to 15 are those of the records
 -- that are written.
 use Prim.Native.Nat.{ℕ}
-use mathlib.Core.Bool.{Bool, _&&_, _||_}
+use mathlib.Core.Bool.{Bool, cond, _&&_, _||_}
 use lib.Dec.{eqb, leb}
 use Rattle.drafts.specs.Tree.{Two, plus, minus, times, over, compar, Three, insw, limit}
 
@@ -53,29 +53,64 @@ kindStore = 13
 abbrev pub kindRate : ℕ
 kindRate = 14
 
+-- ---- of a block. Inside: stored to a name that is set above; the first time to an output, or to a name of the block's
+-- own; push what a name holds, where it is not asked for
+
+abbrev pub kindAgain : ℕ
+kindAgain = 15
+
+abbrev pub kindGiven : ℕ
+kindGiven = 18
+
+abbrev pub kindOwn : ℕ
+kindOwn = 19
+
+abbrev pub kindRead : ℕ
+kindRead = 20
+
+-- its header's outputs and inputs, and its end
+
+abbrev pub kindOutput : ℕ
+kindOutput = 21
+
+abbrev pub kindInput : ℕ
+kindInput = 22
+
+abbrev pub kindEnding : ℕ
+kindEnding = 23
+
 -- ---- what a kind is for
 
--- those that define their name: constant, initial, store
+-- those that define their name: constant, initial, store, and the first settings in a block
 abbrev pub defines : ℕ → Bool
-defines k = eqb k kindConstant || (eqb k kindInitial || eqb k kindStore)
+defines k = eqb k kindConstant || (eqb k kindInitial || (eqb k kindStore || (eqb k kindGiven || eqb k kindOwn)))
 
--- those that ask for a name that must be defined: a name in an expression, a name as initial
+-- those that use what assigns their name: a name in an expression, an input
+abbrev pub isUse : ℕ → Bool
+isUse k = eqb k kindFetch || eqb k kindInput
+
+-- those that ask for a name that must be defined: these, and a name as initial
 abbrev pub asks : ℕ → Bool
-asks k = eqb k kindFetch || eqb k kindFrom
+asks k = isUse k || eqb k kindFrom
 
 -- those whose argument is a name's key
 abbrev pub isNamed : ℕ → Bool
-isNamed k = defines k || (eqb k kindFetch || (eqb k kindRate || eqb k kindFrom))
+isNamed k =
+    defines k
+    || (asks k || (eqb k kindRate || (eqb k kindAgain || (eqb k kindRead || eqb k kindOutput))))
 
--- those that close an equation: store, rate
+-- those that close a unit of the order: store, rate, a block's end
 abbrev pub closes : ℕ → Bool
-closes k = eqb k kindStore || eqb k kindRate
+closes k = eqb k kindStore || (eqb k kindRate || eqb k kindEnding)
 
--- those of an expression's operations, and of what is done with its value: a record has their kind and their argument
--- as its slot
+-- those of an expression's operations, and of what is done with its value: a record has their argument as its slot
 abbrev pub isStep : ℕ → Bool
-isStep k = leb kindFetch k && leb k kindRate
+isStep k = (leb kindFetch k && leb k kindAgain) || (leb kindGiven k && leb k kindRead)
 
--- those that write a record: all but a value behind a constant or an initial
+-- the kind of that record: their own, but for the first settings in a block and for what is read there
+abbrev pub stepKind : ℕ → ℕ
+stepKind k = cond (eqb k kindGiven || eqb k kindOwn) kindStore (cond (eqb k kindRead) kindFetch k)
+
+-- those that write a record: all but a value behind a constant or an initial, a header's names and an end
 abbrev pub writes : ℕ → Bool
-writes k = leb kindConstant k && (leb k kindRate || eqb k kindClock)
+writes k = (leb kindConstant k && leb k kindAgain) || (leb kindClock k && leb k kindRead)

@@ -1,4 +1,4 @@
--- Expressions as trees, and the three statement forms.
+-- Expressions as trees, and the five statement forms.
 use Prim.Native.Nat.{ℕ}
 use mathlib.Core.List.{List, [], _∷_, _++_}
 use lib.Ieee.{Float}
@@ -42,8 +42,11 @@ pub data Initial : Type 0 where
   plain : Float → Initial
   from : ℕ → Initial
 
--- what a statement says: constants; name = expression; name = INTGRL(initial, expression)
+-- what a statement says: constants; name = expression; name = INTGRL(initial, expression); PROCED outputs = the block's
+-- name (inputs); ENDPRO
 pub data Says : Type 0 where
   constants : List Constant → Says
   assignment : ℕ → Tree → Says
   state : ℕ → Initial → Tree → Says
+  header : List ℕ → List ℕ → Says
+  ending : Says

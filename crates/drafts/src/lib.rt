@@ -1,10 +1,10 @@
 // The middle language between grammar and program: drafts, each a kind and an argument. A draft is a record to be, with
 // a name's key in the place of its slot.
-ghost use Rattle.drafts.specs.Contract.{WhetherDefining, WhetherAsking, WhetherNamed, WhetherClosing};
+ghost use Rattle.drafts.specs.Contract.{WhetherDefining, WhetherUse, WhetherAsking, WhetherNamed, WhetherClosing};
 ghost use Rattle.drafts.specs.Contract.{CountsDraft, FindsHome};
 use bits::reads::short_at;
 
-// ---- the kinds; 1 to 14 are those of the records that are written
+// ---- the kinds; 1 to 15 are those of the records that are written
 
 // A constant's name, and an initial's state.
 pub const CONSTANT: u8 = 1;
@@ -44,71 +44,104 @@ pub const STORE: u8 = 13;
 
 pub const RATE: u8 = 14;
 
+// Inside a block: stored to a name that is set above; the first time to an output, or to a name of the block's own;
+// push what a name holds, where it is not asked for.
+pub const AGAIN: u8 = 15;
+
+pub const GIVEN: u8 = 18;
+
+pub const OWN: u8 = 19;
+
+pub const READ: u8 = 20;
+
+// A header's outputs and inputs, and a block's end.
+pub const OUTPUT: u8 = 21;
+
+pub const INPUT: u8 = 22;
+
+pub const ENDING: u8 = 23;
+
 // ---- what a kind is for
 
 // Whether a draft of this kind defines its name.
 pub fn is_defining(kind: u8) -> bool
     ensures { λ r. ⌜ WhetherDefining kind r ⌝ }
 {
-    if kind == CONSTANT {
-        return true;
+    match kind {
+        CONSTANT => true,
+        INITIAL => true,
+        STORE => true,
+        GIVEN => true,
+        OWN => true,
+        _ => false,
     }
-    if kind == INITIAL {
-        return true;
+}
+
+// Whether it uses what assigns its name.
+pub fn is_use(kind: u8) -> bool
+    ensures { λ r. ⌜ WhetherUse kind r ⌝ }
+{
+    match kind {
+        FETCH => true,
+        INPUT => true,
+        _ => false,
     }
-    kind == STORE
 }
 
 // Whether it asks for a name that must be defined.
 pub fn is_asking(kind: u8) -> bool
     ensures { λ r. ⌜ WhetherAsking kind r ⌝ }
 {
-    if kind == FETCH {
-        return true;
+    match kind {
+        FETCH => true,
+        INPUT => true,
+        FROM => true,
+        _ => false,
     }
-    kind == FROM
 }
 
 // Whether its argument is a name's key.
 pub fn is_named(kind: u8) -> bool
     ensures { λ r. ⌜ WhetherNamed kind r ⌝ }
 {
-    if is_defining(kind) {
-        return true;
+    match kind {
+        CONSTANT => true,
+        INITIAL => true,
+        FETCH => true,
+        STORE => true,
+        RATE => true,
+        AGAIN => true,
+        FROM => true,
+        GIVEN => true,
+        OWN => true,
+        READ => true,
+        OUTPUT => true,
+        INPUT => true,
+        _ => false,
     }
-    if kind == FETCH {
-        return true;
-    }
-    if kind == RATE {
-        return true;
-    }
-    kind == FROM
 }
 
-// Whether it closes an equation.
+// Whether it closes a unit of the order.
 pub fn is_closing(kind: u8) -> bool
     ensures { λ r. ⌜ WhetherClosing kind r ⌝ }
 {
-    if kind == STORE {
-        return true;
+    match kind {
+        STORE => true,
+        RATE => true,
+        ENDING => true,
+        _ => false,
     }
-    kind == RATE
 }
 
 // How many records it writes: one or none.
 pub fn records_of(kind: u8) -> usize
     ensures { λ r. ⌜ CountsDraft kind r ⌝ }
 {
-    if kind < CONSTANT {
-        return 0;
+    match kind {
+        CONSTANT..=AGAIN => 1,
+        CLOCK..=READ => 1,
+        _ => 0,
     }
-    if kind <= RATE {
-        return 1;
-    }
-    if kind == CLOCK {
-        return 1;
-    }
-    0
 }
 
 // ---- drafts by place

@@ -9,17 +9,20 @@ use borrow.Author.Tests.{ne-eqb}
 use lib.ListN.{length, length-append}
 use lib.Ieee.{Float}
 use Rattle.limits.specs.Limits.{levels}
-use Rattle.tokens.specs.Symbol.{Symbol, mark, number}
+use Rattle.tokens.specs.Symbol.{Symbol, mark, number, name}
 use Rattle.drafts.specs.Tree.{Tree, Constant, Initial, Says}
+use Rattle.drafts.specs.Kinds.{kindOutput, kindInput}
 use Rattle.drafts.specs.Drafts.{Draft, draftsOf}
-use Rattle.grammar.specs.Look.{next, rest, byteOf, factorStart, Start, Constants, Integral, Named, Valued, Other}
-use Rattle.grammar.specs.Look.{startOf}
+use Rattle.grammar.specs.Look.{next, rest, byteOf, factorStart, Start, Constants, Integral, Named, Valued}
+use Rattle.grammar.specs.Look.{Header, Ending, Other, startOf}
 use Rattle.grammar.specs.Grammar.{expr, Der, unsigned, sign, Signed, unsigned-number, signed-number, Many, one}
 use Rattle.grammar.specs.Grammar.{more}
-use Rattle.grammar.specs.Grammar.{Initially, of-number, of-name, Derives, of-constants, of-assignment, of-state}
+use Rattle.grammar.specs.Grammar.{Initially, of-number, of-name, Names, one-name, more-names}
+use Rattle.grammar.specs.Grammar.{Derives, of-constants, of-assignment, of-state, of-header, of-ending}
 use Rattle.grammar.specs.Parser.{End, got, bad, Res, onward, bind, byIntegral, signedNumber, many, initially}
 use Rattle.grammar.specs.Parser.{parse, calls}
-use Rattle.grammar.specs.Parser.{assigned, integrated, statement, atEnd, entire, read, rowAnswer, readRow}
+use Rattle.grammar.specs.Parser.{assigned, integrated, manyNames, headed, statement, atEnd, entire, read}
+use Rattle.grammar.specs.Parser.{rowAnswer, readRow}
 use Rattle.grammar.proofs.Endings.{clash, OutEnd}
 use Rattle.grammar.proofs.Looks.{add-other, as-known}
 use Rattle.grammar.proofs.StatementsSound.{Stated, StatedVia, entire-out}
@@ -56,6 +59,16 @@ many-complete (more {k} {w} {s} {x} {cs} a b) r n (suc f) le =
     bind-end (signedNumber ((w ++ mark 44 ∷ s) ++ r)) _ p
     ∙ bind-end (many f (s ++ r)) _ (many-complete b r n f (omega arith))
 
+-- names are read, up to a token that is no comma
+names-complete : (n : ℕ) {w : List Symbol} {ks : List ℕ} → Names w ks → (r : List Symbol) → (byteOf (next r) ≡ 44 → ⊥)
+    → (f : ℕ) → length w < f
+    → manyNames n f (w ++ r) .end ≡ got ks r
+unfolding manyNames startOf next rest byteOf
+names-complete n m r c zero le = absurd (omega arith)
+names-complete n one-name r c (suc f) le = rw (ne-eqb _ _ c)
+names-complete n (more-names {k} {w} {ks} a) r c (suc f) le =
+    bind-end (manyNames n f (w ++ r)) _ (names-complete n a r c f (omega arith))
+
 -- no expression begins with INTGRL
 no-integral : {d : ℕ} {w : List Symbol} {e : Tree} → Der expr d w e → startOf (next w) ≡ Integral → ⊥
 unfolding next factorStart
@@ -68,12 +81,14 @@ not-integral Constants x y n = refl
 not-integral Integral x y n = absurd (n refl)
 not-integral (Named k) x y n = refl
 not-integral (Valued k) x y n = refl
+not-integral Header x y n = refl
+not-integral Ending x y n = refl
 not-integral Other x y n = refl
 
 -- a statement that is derived is read, at every count of calls that suffices
 statement-complete : {d : ℕ} {w : List Symbol} {x : Says} → Derives d w x → (f : ℕ) → 3 + 5 * length w < f
     → statement f d w .end ≡ got x []
-unfolding statement assigned integrated startOf next rest byteOf
+unfolding statement assigned integrated headed startOf next rest byteOf
 statement-complete {d} (of-constants {t} {w} {cs} h a) f le =
     let m : many f w .end ≡ got cs [] = rw append-nil at (many-complete a [] (λ z. omega arith) f (omega arith)) in
     rw h (bind-end (many f w) _ m)
@@ -86,6 +101,14 @@ statement-complete {d} (of-state {k} {w} {v} {i} {e} a b) f le =
     let p = length-append v (mark 41 ∷ []) in
     bind-end (initially (w ++ mark 44 ∷ (v ++ mark 41 ∷ []))) _ (initially-complete a (mark 44 ∷ (v ++ mark 41 ∷ [])))
     ∙ bind-end (parse f expr d (v ++ mark 41 ∷ [])) _ (complete b (mark 41 ∷ []) (refl, refl) f (omega arith))
+statement-complete (of-header k {w} {v} a b) f le =
+    let t = mark 61 ∷ name k ∷ mark 40 ∷ (v ++ mark 41 ∷ []) in
+    let q = length-append w t in
+    let p = length-append v (mark 41 ∷ []) in
+    bind-end (manyNames kindOutput f (w ++ t)) _ (names-complete kindOutput a t (λ z. omega arith) f (omega arith))
+    ∙ bind-end (manyNames kindInput f (v ++ mark 41 ∷ [])) _
+    (names-complete kindInput b (mark 41 ∷ []) (λ z. omega arith) f (omega arith))
+statement-complete of-ending f le = refl
 
 -- and nothing is left of it
 pub entire-complete : {d : ℕ} {w : List Symbol} {x : Says} → Derives d w x → (f : ℕ) → 3 + 5 * length w < f

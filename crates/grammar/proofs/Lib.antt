@@ -13,6 +13,7 @@ pub mod Ways
 pub mod Openings
 pub mod Values
 pub mod Statements
+pub mod Headers
 pub mod Entry
 pub mod Local
 pub mod StatementsEnough

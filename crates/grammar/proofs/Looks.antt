@@ -8,14 +8,15 @@ use borrow.Author.Tests.{eqb-true}
 use lib.Dec.{eqb}
 use lib.Ieee.{Float}
 use Rattle.laws.proofs.Tests.{cond-ind}
-use Rattle.tokens.specs.Symbol.{CONSTANTS, INTGRL, TIME, INSW, LIMIT, COMPAR, Symbol, mark, number, name, word}
+use Rattle.tokens.specs.Symbol.{CONSTANTS, INTGRL, TIME, INSW, LIMIT, COMPAR, PROCED, ENDPRO, Symbol, mark, number}
+use Rattle.tokens.specs.Symbol.{name, word}
 use Rattle.drafts.specs.Tree.{Two, plus, minus, times, over, compar, Three, Tree, value, named, time}
 use Rattle.drafts.specs.Drafts.{Draft, drafted}
 use Rattle.grammar.specs.Look.{next, rest, byteOf, Op, none, op, addOp, mulOp, signed}
 use Rattle.grammar.specs.Look.{Opening, group, pair, pair-of, triple, triple-of, triple-of-two, Given, full}
 use Rattle.grammar.specs.Look.{wants, give-to}
 use Rattle.grammar.specs.Look.{FactorStart, Leaf, Paren, Call, NoFactor, factorStart}
-use Rattle.grammar.specs.Look.{Start, Constants, Integral, Named, Valued, Other, startOf}
+use Rattle.grammar.specs.Look.{Start, Constants, Integral, Named, Valued, Header, Ending, Other, startOf}
 use Rattle.grammar.specs.Parser.{signDrafts, openDrafts}
 use Rattle.grammar.proofs.Endings.{clash, here, is-mark}
 
@@ -107,6 +108,8 @@ starting (word TIME) = bare-time
 starting (word INSW) = new-triple
 starting (word LIMIT) = new-triple
 starting (word COMPAR) = new-pair
+starting (word PROCED) = tt
+starting (word ENDPRO) = tt
 
 -- so it does where that is known
 pub as-starting : (t : Symbol) {h : FactorStart} → factorStart t ≡ h → Starting h t
@@ -120,6 +123,8 @@ Known Constants t = Unit {0}
 Known Integral t = t ≡ word INTGRL
 Known (Named k) t = t ≡ name k
 Known (Valued x) t = t ≡ number x
+Known Header t = t ≡ word PROCED
+Known Ending t = t ≡ word ENDPRO
 Known Other t = Unit {0}
 
 -- it tells this of each token
@@ -134,6 +139,8 @@ known (word TIME) = tt
 known (word INSW) = tt
 known (word LIMIT) = tt
 known (word COMPAR) = tt
+known (word PROCED) = refl
+known (word ENDPRO) = refl
 
 -- so it does where the start is known
 pub as-known : (t : Symbol) {k : Start} → startOf t ≡ k → Known k t
@@ -145,9 +152,11 @@ pub start-cases : (s : List Symbol) (P : Start → Type 0)
     → (s ≡ word INTGRL ∷ rest s → P Integral)
     → ((k : ℕ) → s ≡ name k ∷ rest s → P (Named k))
     → ((x : Float) → s ≡ number x ∷ rest s → P (Valued x))
+    → (s ≡ word PROCED ∷ rest s → P Header)
+    → (s ≡ word ENDPRO ∷ rest s → P Ending)
     → P Other → P (startOf (next s))
 unfolding startOf
-start-cases s P c i k v z = go (startOf (next s)) refl
+start-cases s P c i k v h d z = go (startOf (next s)) refl
   where
     stands : {t : Symbol} → (startOf (next s) ≡ Other → ⊥) → next s ≡ t → s ≡ t ∷ rest s
     stands {t} n h = here-by startOf s n ∙ ap (λ (t : Symbol). t ∷ rest s) h
@@ -157,6 +166,8 @@ start-cases s P c i k v z = go (startOf (next s)) refl
     go Integral e = i (stands (λ z. clash (cc)) (as-known (next s) e))
     go (Named n) e = k n (stands (λ z. clash (cc)) (as-known (next s) e))
     go (Valued x) e = v x (stands (λ z. clash (cc)) (as-known (next s) e))
+    go Header e = h (stands (λ z. clash (cc)) (as-known (next s) e))
+    go Ending e = d (stands (λ z. clash (cc)) (as-known (next s) e))
     go Other e = z
 
 -- ---- signs and openings

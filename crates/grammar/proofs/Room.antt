@@ -9,10 +9,10 @@ use lib.Dec.{eqb}
 use lib.Ieee.{Float}
 use lib.ListN.{length, length-append}
 use Rattle.tokens.specs.Symbol.{Symbol, mark}
-use Rattle.drafts.specs.Tree.{Two, plus, minus, times, over, compar, Tree, two, Constant, constantOf, plain, from, Says}
-use Rattle.drafts.specs.Tree.{constants, assignment, state}
+use Rattle.drafts.specs.Tree.{Two, plus, minus, times, over, compar, Tree, two, constantOf, plain, from, Says}
+use Rattle.drafts.specs.Tree.{constants, assignment, state, header, ending}
 use Rattle.drafts.specs.Kinds.{kindTwo}
-use Rattle.drafts.specs.Kinds.{kindInitial, kindStore, kindRate}
+use Rattle.drafts.specs.Kinds.{kindInitial, kindStore, kindRate, kindOutput, kindInput, kindEnding}
 use Rattle.drafts.specs.Drafts.{Draft, draft, drafted, constantDrafts, initialDraft}
 use Rattle.grammar.specs.Look.{next, rest, byteOf, Op, none, op, addOp, mulOp, signed}
 use Rattle.grammar.specs.Look.{Opening, group, pair, pair-of, triple, triple-of, triple-of-two, Given, full}
@@ -21,10 +21,11 @@ use Rattle.grammar.specs.Look.{FactorStart, Leaf, Paren, Call, NoFactor,
 use Rattle.grammar.specs.Grammar.{Mode, expr, term, factor, terms, factors, opened, list}
 use Rattle.grammar.specs.Parser.{End, got, bad, Res, give, stop, tell, onward, bind, when, byOp, byFactor}
 use Rattle.grammar.specs.Parser.{byGiven, need}
-use Rattle.grammar.specs.Parser.{behindSign, signDrafts, openDrafts, parse, rank, reads, byStart, byName}
+use Rattle.grammar.specs.Parser.{behindSign, signDrafts, openDrafts, parse, rank, reads, byName}
 use Rattle.grammar.specs.Parser.{byNumber, byIntegral}
 use Rattle.grammar.specs.Parser.{signedValue, aNumber, signedNumber, onMore, valued, many, initially}
-use Rattle.grammar.specs.Parser.{assigned, rated, begunState, integrated, equated, statement, atEnd, entire}
+use Rattle.grammar.specs.Parser.{assigned, rated, begunState, integrated, equated, manyNames, withInputs}
+use Rattle.grammar.specs.Parser.{blockNamed, headed, formOf, statement, atEnd, entire}
 use Rattle.grammar.proofs.Endings.{here-mark, is-mark}
 use Rattle.grammar.proofs.Looks.{add-here, mul-here, leaf-here, call-here, Bare, bare-value, bare-name}
 use Rattle.grammar.proofs.Looks.{bare-time, as-starting, start-cases}
@@ -247,7 +248,7 @@ module _ {A : Type 0} where
       → Fits s b a (byName (startOf (next s)) x y)
   name-fits s b a x y g h =
       start-cases s (λ p. Fits s b a (byName p x y)) (λ _ _. h) (λ _. h) (λ k q. fits-rest s b a (x k) q (g k))
-      (λ _ _. h) h
+      (λ _ _. h) (λ _. h) (λ _. h) h
 
 -- a number behind its sign
 number-fits : (o : Op) (s : List Symbol) → Fits s 0 0 (aNumber o s)
@@ -255,7 +256,8 @@ number-fits o s =
     let no : Fits {A = Float} s 0 0 (stop 18 s) = fits-stop s 0 0 in
     start-cases s (λ p. Fits s 0 0 (byNumber p (λ x. give (signedValue o x) (rest s)) (λ _. stop 18 s))) (λ _ _. no)
     (λ _. no) (λ _ _. no)
-    (λ x q. fits-rest s 0 0 _ q (fits-mono 0 1 (fits-give (rest s) _) (omega arith) (omega arith))) no
+    (λ x q. fits-rest s 0 0 _ q (fits-mono 0 1 (fits-give (rest s) _) (omega arith) (omega arith)))
+    (λ _. no) (λ _. no) no
 
 -- with a sign or without
 signed-fits : (s : List Symbol) → Fits s 0 0 (signedNumber s)
@@ -267,8 +269,8 @@ signed-fits s = go (addOp (next s)) refl
     go (op o) h =
         fits-rest s 0 0 _ (add-here s o h) (fits-mono 0 1 (number-fits (op o) (rest s)) (omega arith) (omega arith))
 
--- constants: a name and = pay for the two drafts of each
-more-fits : (go : List Symbol → Res (List Constant)) (c : Constant) → ((s : List Symbol) → Fits s 0 0 (go s))
+-- behind one of several, whose drafts are paid for
+more-fits : {A : Type 0} (go : List Symbol → Res (List A)) (c : A) → ((s : List Symbol) → Fits s 0 0 (go s))
     → (t : List Symbol) → Fits t 0 0 (onMore go c t)
 more-fits go c ih t =
     fits-mark 43 _ _
@@ -277,6 +279,7 @@ more-fits go c ih t =
     fits-give u (c ∷ cs)))
     (fits-give t (c ∷ []))
 
+-- constants: a name and = pay for the two drafts of each
 many-fits : (f : ℕ) (s : List Symbol) → Fits s 0 0 (many f s)
 unfolding many
 many-fits zero s = fits-stop s 0 0
@@ -322,18 +325,38 @@ module _ (f d k : ℕ) where
       start-cases s (λ p. Fits s 0 1 (byIntegral p (λ _. integrated f d k (rest s)) (λ _. assigned f d k s)))
       (λ _ _. plainly)
       (λ q. fits-rest s 0 1 _ q (fits-mono 0 2 (integrated-fits (rest s)) (omega arith) (omega arith))) (λ _ _. plainly)
-      (λ _ _. plainly) plainly
+      (λ _ _. plainly) (λ _. plainly) (λ _. plainly) plainly
+
+-- names: each pays for its draft
+pub names-fits : (n f : ℕ) (s : List Symbol) → Fits s 0 0 (manyNames n f s)
+unfolding manyNames
+names-fits n zero s = fits-stop s 0 0
+names-fits n (suc f) s =
+    name-fits s 0 0 _ _
+    (λ k. fits-tell (draft n k ∷ []) (rest s) 0 0 _ (more-fits (manyNames n f) k (names-fits n f) (rest s)))
+    (fits-stop s 0 0)
+
+-- behind PROCED
+headed-fits : (f : ℕ) (s : List Symbol) → Fits s 0 0 (headed f s)
+unfolding headed
+headed-fits f s =
+    fits-bind s 0 0 0 (manyNames kindOutput f s) _ (names-fits kindOutput f s) λ os t.
+    fits-need 60 t 0 0 (blockNamed f os)
+    (name-fits (rest t) 0 1 _ _
+    (λ k. fits-need 39 (rest (rest t)) 0 2 (withInputs f os)
+    (let v = rest (rest (rest t)) in
+    fits-bind v 0 0 3 (manyNames kindInput f v) _
+    (fits-mono 0 3 (names-fits kindInput f v) (omega arith) (omega arith)) λ is u.
+    fits-need 40 u 0 0 (give (header os is))
+    (fits-mono 0 1 (fits-give (rest u) (header os is)) (omega arith) (omega arith))))
+    (fits-stop (rest t) 0 1))
 
 -- a statement at the front
 pub statement-fits : (f d : ℕ) (s : List Symbol) → Fits s 0 0 (statement f d s)
 unfolding statement
 statement-fits f d s =
     let no : Fits {A = Says} s 0 0 (stop 18 s) = fits-stop s 0 0 in
-    start-cases s
-    (λ p. Fits s 0 0
-    (byStart p (λ _. bind (many f (rest s)) λ cs t. give (constants cs) t) (λ _. stop 18 s)
-    (λ k. need 61 (rest s) (equated f d k)) (λ _. stop 18 s)
-    (λ _. stop 18 s)))
+    start-cases s (λ p. Fits s 0 0 (formOf f d p s))
     (λ e q. fits-rest s 0 0 _ q
     (fits-bind (rest s) 0 0 1 (many f (rest s)) _
     (fits-mono 0 1 (many-fits f (rest s)) (omega arith) (omega arith)) λ cs t. fits-give t (constants cs)))
@@ -341,7 +364,10 @@ statement-fits f d s =
     (λ k q. fits-rest s 0 0 _ q
     (fits-need 60 (rest s) 0 1 (equated f d k)
     (fits-mono 0 2 (equated-fits f d k (rest (rest s))) (omega arith) (omega arith))))
-    (λ _ _. no) no
+    (λ _ _. no)
+    (λ q. fits-rest s 0 0 _ q (fits-mono 0 1 (headed-fits f (rest s)) (omega arith) (omega arith)))
+    (λ q. fits-rest s 0 0 _ q (fits-tell (draft kindEnding 0 ∷ []) (rest s) 0 0 _ (fits-give (rest s) ending)))
+    no
 
 -- and no token more
 entire-fits : (f d : ℕ) (s : List Symbol) → Fits s 0 0 (entire f d s)

@@ -10,7 +10,7 @@ use lib.Dec.{eqb}
 use lib.Ieee.{Float, binary64, ofBits}
 use lib.ListN.{length, getD, drop, List·getD-eq-default}
 use Rattle.laws.proofs.Tests.{lt-or-ge}
-use Rattle.tokens.specs.Symbol.{CONSTANTS, INTGRL, TIME, INSW, LIMIT, COMPAR, mark}
+use Rattle.tokens.specs.Symbol.{CONSTANTS, INTGRL, TIME, INSW, LIMIT, COMPAR, PROCED, ENDPRO, mark}
 use Rattle.tokens.specs.Kinds.{numberKind, nameKind, wordKind, lastWordKind}
 use Rattle.tokens.specs.Held.{symbolOf, heldRow}
 use Rattle.tokens.proofs.Holding.{held-at}
@@ -19,7 +19,7 @@ use Rattle.grammar.specs.declared.faces.Face.the-variants.{One, Group, F
 use Rattle.drafts.specs.Tree.{Tree}
 use Rattle.drafts.specs.Drafts.{draft, drafted}
 use Rattle.grammar.specs.Look.{next, byteOf, addOp, mulOp, FactorStart, Leaf, Paren, Call, NoFactor, factorStart}
-use Rattle.grammar.specs.Look.{Start, Constants, Integral, Named, Valued, Other, startOf}
+use Rattle.grammar.specs.Look.{Start, Constants, Integral, Named, Valued, Header, Ending, Other, startOf}
 use Rattle.grammar.specs.Parser.{Res, byStart, byName, byNumber, byIntegral}
 use Rattle.grammar.specs.Codes.{leafKind, leafArg, faceOf}
 use Rattle.grammar.proofs.Clauses.{next-at}
@@ -35,18 +35,21 @@ stands ks i h = ⊎-elim (λ l. l) (λ g. absurd (h (List·getD-eq-default ks 0 
 
 -- what holds of 0, of each kind up to the last word's, and of those above, holds of each
 by-kind : (P : ℕ → Type 0) → P 0 → P numberKind → P nameKind → P (wordKind CONSTANTS) → P (wordKind INTGRL)
-    → P (wordKind TIME) → P (wordKind INSW) → P (wordKind LIMIT) → P (wordKind COMPAR)
-    → ((k : ℕ) → lastWordKind < k → P k) → (k : ℕ) → P k
-by-kind P a b c d e f g h i j zero = a
-by-kind P a b c d e f g h i j (suc zero) = b
-by-kind P a b c d e f g h i j (suc (suc zero)) = c
-by-kind P a b c d e f g h i j (suc (suc (suc zero))) = d
-by-kind P a b c d e f g h i j (suc (suc (suc (suc zero)))) = e
-by-kind P a b c d e f g h i j (suc (suc (suc (suc (suc zero))))) = f
-by-kind P a b c d e f g h i j (suc (suc (suc (suc (suc (suc zero)))))) = g
-by-kind P a b c d e f g h i j (suc (suc (suc (suc (suc (suc (suc zero))))))) = h
-by-kind P a b c d e f g h i j (suc (suc (suc (suc (suc (suc (suc (suc zero)))))))) = i
-by-kind P a b c d e f g h i j (suc (suc (suc (suc (suc (suc (suc (suc (suc k))))))))) = j _ (omega arith)
+    → P (wordKind TIME) → P (wordKind INSW) → P (wordKind LIMIT) → P (wordKind COMPAR) → P (wordKind PROCED)
+    → P (wordKind ENDPRO) → ((k : ℕ) → lastWordKind < k → P k) → (k : ℕ) → P k
+by-kind P a b c d e f g h i j m n zero = a
+by-kind P a b c d e f g h i j m n (suc zero) = b
+by-kind P a b c d e f g h i j m n (suc (suc zero)) = c
+by-kind P a b c d e f g h i j m n (suc (suc (suc zero))) = d
+by-kind P a b c d e f g h i j m n (suc (suc (suc (suc zero)))) = e
+by-kind P a b c d e f g h i j m n (suc (suc (suc (suc (suc zero))))) = f
+by-kind P a b c d e f g h i j m n (suc (suc (suc (suc (suc (suc zero)))))) = g
+by-kind P a b c d e f g h i j m n (suc (suc (suc (suc (suc (suc (suc zero))))))) = h
+by-kind P a b c d e f g h i j m n (suc (suc (suc (suc (suc (suc (suc (suc zero)))))))) = i
+by-kind P a b c d e f g h i j m n (suc (suc (suc (suc (suc (suc (suc (suc (suc zero))))))))) = j
+by-kind P a b c d e f g h i j m n (suc (suc (suc (suc (suc (suc (suc (suc (suc (suc zero)))))))))) = m
+by-kind P a b c d e f g h i j m n (suc (suc (suc (suc (suc (suc (suc (suc (suc (suc (suc k))))))))))) =
+    n _ (omega arith)
 
 -- above them stands the mark
 high : (k a : ℕ) → lastWordKind < k → symbolOf k a ≡ mark k
@@ -59,7 +62,7 @@ mark-test k a b lt =
     by-kind (λ k. eqb (byteOf (symbolOf k a)) b ≡ eqb k b) refl (low numberKind (omega arith))
     (low nameKind (omega arith)) (low (wordKind CONSTANTS) (omega arith)) (low (wordKind INTGRL) (omega arith))
     (low (wordKind TIME) (omega arith)) (low (wordKind INSW) (omega arith)) (low (wordKind LIMIT) (omega arith))
-    (low (wordKind COMPAR) (omega arith))
+    (low (wordKind COMPAR) (omega arith)) (low (wordKind PROCED) (omega arith)) (low (wordKind ENDPRO) (omega arith))
     (λ k h. rw (high k a h)) k
   where
     low : (n : ℕ) → n ≤ lastWordKind → eqb 0 b ≡ eqb n b
@@ -83,7 +86,7 @@ Noted a NoFactor = Unit {0}
 
 noted : (k a : ℕ) → Noted a (factorStart (symbolOf k a))
 unfolding factorStart drafted
-noted k a = by-kind (λ k. Noted a (factorStart (symbolOf k a))) tt refl refl tt tt refl tt tt tt
+noted k a = by-kind (λ k. Noted a (factorStart (symbolOf k a))) tt refl refl tt tt refl tt tt tt tt tt
     (λ k h. rw (high k a h) (go (eqb k 40))) k
   where
     go : (t : Bool) → Noted a (cond t Paren NoFactor)
@@ -107,7 +110,7 @@ unfolding factorStart
 faced k a =
     by-kind (λ k. Faced k (faceOf (factorStart (symbolOf k a)))) tt (some numberKind (omega arith))
     (some nameKind (omega arith)) tt tt (some (wordKind TIME) (omega arith)) (some (wordKind INSW) (omega arith))
-    (some (wordKind LIMIT) (omega arith)) (some (wordKind COMPAR) (omega arith))
+    (some (wordKind LIMIT) (omega arith)) (some (wordKind COMPAR) (omega arith)) tt tt
     (λ k h. rw (high k a h) (go k (eqb k 40) refl)) k
   where
     some : (n : ℕ) → 0 < n → n ≡ 0 → ⊥
@@ -134,6 +137,7 @@ no-face k a =
     (λ m₁ m₂ m₅ m₀ m₆ m₇ m₈. refl) (λ m₁ m₂ m₅ m₀ m₆ m₇ m₈. refl)
     (λ m₁ m₂ m₅ m₀ m₆ m₇ m₈. absurd (m₅ refl)) (λ m₁ m₂ m₅ m₀ m₆ m₇ m₈. absurd (m₆ refl))
     (λ m₁ m₂ m₅ m₀ m₆ m₇ m₈. absurd (m₇ refl)) (λ m₁ m₂ m₅ m₀ m₆ m₇ m₈. absurd (m₈ refl))
+    (λ m₁ m₂ m₅ m₀ m₆ m₇ m₈. refl) (λ m₁ m₂ m₅ m₀ m₆ m₇ m₈. refl)
     (λ k h m₁ m₂ m₅ m₀ m₆ m₇ m₈. rw (high k a h, ne-eqb k 40 m₀)) k
 
 -- what a start tells of the two numbers
@@ -142,12 +146,14 @@ Started k a Constants = k ≡ wordKind CONSTANTS
 Started k a Integral = k ≡ wordKind INTGRL
 Started k a (Named n) = (k ≡ nameKind) × (n ≡ a)
 Started k a (Valued x) = (k ≡ numberKind) × (x ≡ ofBits binary64 a)
+Started k a Header = k ≡ wordKind PROCED
+Started k a Ending = k ≡ wordKind ENDPRO
 Started k a Other = Unit {0}
 
 started : (k a : ℕ) → Started k a (startOf (symbolOf k a))
 unfolding startOf
 started k a =
-    by-kind (λ k. Started k a (startOf (symbolOf k a))) tt (refl, refl) (refl, refl) refl refl tt tt tt tt
+    by-kind (λ k. Started k a (startOf (symbolOf k a))) tt (refl, refl) (refl, refl) refl refl tt tt tt tt refl refl
     (λ k h. rw (high k a h) tt) k
 
 -- a name, a number and INTGRL are known by their kinds
@@ -164,6 +170,8 @@ module _ {A : Type 0} (k a : ℕ) where
       go Integral h = refl
       go (Named c) h = absurd (n (h .0))
       go (Valued v) h = refl
+      go Header h = refl
+      go Ending h = refl
       go Other h = refl
 
   pub is-number : (x : Float → Res A) (y : Unit {0} → Res A) → k ≡ numberKind
@@ -180,6 +188,8 @@ module _ {A : Type 0} (k a : ℕ) where
       go Integral h = refl
       go (Named c) h = refl
       go (Valued v) h = absurd (n (h .0))
+      go Header h = refl
+      go Ending h = refl
       go Other h = refl
 
   pub is-integral : (x y : Unit {0} → Res A) → k ≡ wordKind INTGRL → byIntegral (startOf (symbolOf k a)) x y ≡ x tt
@@ -195,9 +205,11 @@ module _ {A : Type 0} (k a : ℕ) where
       go Integral h = absurd (n h)
       go (Named c) h = refl
       go (Valued v) h = refl
+      go Header h = refl
+      go Ending h = refl
       go Other h = refl
 
--- what begins a statement: a name, a word before constants, or nothing
+-- what begins a statement: a name, a word before constants, PROCED, ENDPRO, or nothing
 pub start-name : (k a : ℕ) → k ≡ nameKind → startOf (symbolOf k a) ≡ Named a
 unfolding startOf
 start-name k a e = rw e
@@ -206,14 +218,24 @@ pub start-words : (k a : ℕ) → k ≡ wordKind CONSTANTS → startOf (symbolOf
 unfolding startOf
 start-words k a e = rw e
 
-pub start-none : {A : Type 0} (k a : ℕ) (c : Unit {0} → Res A) (n : ℕ → Res A) (z : Res A) → (k ≡ nameKind → ⊥)
-    → (k ≡ wordKind CONSTANTS → ⊥)
-    → byStart (startOf (symbolOf k a)) c (λ _. z) n (λ _. z) (λ _. z) ≡ z
-start-none k a c n z p q = go (startOf (symbolOf k a)) (started k a)
+pub start-header : (k a : ℕ) → k ≡ wordKind PROCED → startOf (symbolOf k a) ≡ Header
+unfolding startOf
+start-header k a e = rw e
+
+pub start-ending : (k a : ℕ) → k ≡ wordKind ENDPRO → startOf (symbolOf k a) ≡ Ending
+unfolding startOf
+start-ending k a e = rw e
+
+pub start-none : {A : Type 0} (k a : ℕ) (c : Unit {0} → Res A) (n : ℕ → Res A) (b d : Unit {0} → Res A) (z : Res A)
+    → (k ≡ nameKind → ⊥) → (k ≡ wordKind CONSTANTS → ⊥) → (k ≡ wordKind PROCED → ⊥) → (k ≡ wordKind ENDPRO → ⊥)
+    → byStart (startOf (symbolOf k a)) c (λ _. z) n (λ _. z) b d (λ _. z) ≡ z
+start-none k a c n b d z no-name no-words no-header no-ending = go (startOf (symbolOf k a)) (started k a)
   where
-    go : (s : Start) → Started k a s → byStart s c (λ _. z) n (λ _. z) (λ _. z) ≡ z
-    go Constants h = absurd (q h)
+    go : (s : Start) → Started k a s → byStart s c (λ _. z) n (λ _. z) b d (λ _. z) ≡ z
+    go Constants h = absurd (no-words h)
     go Integral h = refl
-    go (Named m) h = absurd (p (h .0))
+    go (Named m) h = absurd (no-name (h .0))
     go (Valued v) h = refl
+    go Header h = absurd (no-header h)
+    go Ending h = absurd (no-ending h)
     go Other h = refl

@@ -14,7 +14,7 @@ use Rattle.grammar.specs.Look.{wants, give-to}
 use Rattle.grammar.specs.Grammar.{Mode, expr, term, factor, terms, factors, opened, list}
 use Rattle.grammar.specs.Grammar.{Der, unsigned, sign, no-terms, add, a-term, no-factors, mul, a-leaf, grouped}
 use Rattle.grammar.specs.Grammar.{called, opening, last, comma}
-use Rattle.grammar.specs.Grammar.{Derives, of-constants, of-assignment, of-state}
+use Rattle.grammar.specs.Grammar.{Derives, of-constants, of-assignment, of-state, of-header, of-ending}
 use Rattle.grammar.proofs.Looks.{Bare, bare-value, bare-name, bare-time, New, new-pair, new-triple, as-starting}
 
 -- ---- openings
@@ -112,6 +112,8 @@ pub stack-of : {d : ℕ} {w : List Symbol} {x : Says} → Derives d w x → peak
 stack-of (of-constants h a) = omega arith
 stack-of (of-assignment a) = stack a tt
 stack-of (of-state i a) = stack a tt
+stack-of (of-header k a b) = omega arith
+stack-of of-ending = omega arith
 
 -- the places of the stack suffice
 pub suffices : {w : List Symbol} {x : Says} → Derives levels w x → peakOf x ≤ stackPlaces

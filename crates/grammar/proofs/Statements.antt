@@ -1,4 +1,4 @@
--- A rule for each way through the functions of statements: constants, an assignment, a state, and the three by their
+-- A rule for each way through the functions of statements: constants, an assignment, a state, and all forms by their
 -- first tokens.
 use Prim.Native.Nat.{ℕ, suc, _+_, _-_, _≤_, _<_}
 use mathlib.Core.Path.{_≡_, sym, ap, _∙_}
@@ -8,25 +8,25 @@ use lib.Ieee.{binary64, toBits}
 use lib.ListN.{length, getD, set, length-set, drop, length-drop}
 use Rattle.laws.proofs.Tests.{for-suc}
 use Rattle.limits.specs.Limits.{levels}
-use Rattle.tokens.specs.Symbol.{CONSTANTS, INTGRL, Symbol}
+use Rattle.tokens.specs.Symbol.{CONSTANTS, INTGRL, PROCED, ENDPRO, Symbol}
 use Rattle.tokens.specs.Kinds.{nameKind, wordKind}
 use Rattle.tokens.specs.Held.{heldRow}
 use Rattle.tokens.proofs.Holding.{held-length}
 use Rattle.grammar.specs.declared.expressions.Part.{Part}
 use Rattle.grammar.specs.declared.forms.Value.the-variants.{Found, Missing}
-use Rattle.drafts.specs.Tree.{Tree, Constant, constantOf, Initial, Says, constants, assignment, state}
-use Rattle.drafts.specs.Kinds.{kindConstant, kindInitial, kindNumber, kindStore, kindRate}
+use Rattle.drafts.specs.Tree.{Tree, Constant, constantOf, Initial, Says, constants, assignment, state, ending}
+use Rattle.drafts.specs.Kinds.{kindConstant, kindInitial, kindNumber, kindStore, kindRate, kindEnding}
 use Rattle.drafts.specs.Drafts.{draft, constantDrafts, initialDraft}
 use Rattle.grammar.specs.Look.{rest}
 use Rattle.grammar.specs.Grammar.{expr}
 use Rattle.grammar.specs.Parser.{Res, give, tell, bind, need, parse, reads}
 use Rattle.grammar.specs.Parser.{signedNumber, onMore, valued, many, initially, assigned, rated, begunState}
-use Rattle.grammar.specs.Parser.{integrated, equated, statement, calls}
+use Rattle.grammar.specs.Parser.{integrated, equated, headed, statement, calls}
 use Rattle.grammar.specs.Contract.{Ready, Within, partDone, partStopped, Meets, Parses, ParsesMany, numberAt}
 use Rattle.grammar.specs.Contract.{initialAt}
 use Rattle.grammar.proofs.Clauses.{to-reads}
 use Rattle.grammar.proofs.Seen.{token-at, stands, is-name, no-name, is-integral, no-integral, start-name}
-use Rattle.grammar.proofs.Seen.{start-words, start-none}
+use Rattle.grammar.proofs.Seen.{start-words, start-header, start-ending, start-none}
 use Rattle.grammar.proofs.Meets.{meets-by, meets-rest, meets-give, meets-stop, meets-tell, meets-map, meets-mark}
 use Rattle.grammar.proofs.Meets.{meets-else, meets-need, meets-shut}
 use Rattle.grammar.proofs.Ways.{after, stops, goes-on}
@@ -51,7 +51,7 @@ pub record Two-on (ks us : List ℕ) (p j : ℕ) (l u : List ℕ) : Type 0 where
   pub ready : {l₁ u₁ l₂ u₂ : List ℕ} (k a k′ a′ : ℕ) → l₁ ≡ set l p k → u₁ ≡ set u p a → l₂ ≡ set l₁ (p + 1) k′
       → u₂ ≡ set u₁ (p + 1) a′ → j < length ks → Ready ks us (j + 1) (p + 2) l₂ u₂
 
-set-length : {l₁ : List ℕ} (l : List ℕ) (p k : ℕ) → l₁ ≡ set l p k → length l₁ ≡ length l
+pub set-length : {l₁ : List ℕ} (l : List ℕ) (p k : ℕ) → l₁ ≡ set l p k → length l₁ ≡ length l
 set-length l p k e = ap length e ∙ simp length-set
 
 two-on : {ks us : List ℕ} {i p : ℕ} {l u : List ℕ} → Ready ks us i p l u → (j : ℕ) → i + 2 ≤ j → j ≤ length ks
@@ -358,26 +358,32 @@ module _ {ks us : List ℕ} {i p m : ℕ} {l u : List ℕ} (key : ℕ) (w : Read
 -- ---- a statement, by its first tokens
 
 module _ {ks us : List ℕ} {p k : ℕ} {l u : List ℕ} (w : Ready ks us 0 p l u) (ek : k ≡ getD ks 0 0) where
-  -- neither a name nor a word before constants
-  pub begins-none : (k ≡ nameKind → ⊥) → (k ≡ wordKind CONSTANTS → ⊥)
+  -- neither a name nor one of the words that begin a statement
+  pub begins-none : (k ≡ nameKind → ⊥) → (k ≡ wordKind PROCED → ⊥) → (k ≡ wordKind ENDPRO → ⊥)
+      → (k ≡ wordKind CONSTANTS → ⊥)
       → Meets ks us (statement (calls (heldRow ks us)) levels) 0 p l u (partStopped 18 0) l u
   unfolding statement
-  begins-none n m =
+  begins-none n h e m =
       meets-by (statement (calls (heldRow ks us)) levels)
       (rw (token-at ks us 0 (w .even))
-      (start-none (getD ks 0 0) (getD us 0 0) _ _ _ (λ z. n (ek ∙ z)) λ z. m (ek ∙ z)))
+      (start-none (getD ks 0 0) (getD us 0 0) _ _ _ _ _ (λ z. n (ek ∙ z)) (λ z. m (ek ∙ z)) (λ z. h (ek ∙ z)) λ z. e
+      (ek ∙ z)))
       (meets-stop (w .even) (w .within) 18)
 
-  -- constants
-  pub words-enter : k ≡ wordKind CONSTANTS → Ready ks us 1 p l u
-  words-enter h =
-      let a = stands ks 0 (λ z. let y : k ≡ 0 = ek ∙ z in omega arith) in
+  -- behind a word
+  enter : (k ≡ 0 → ⊥) → Ready ks us 1 p l u
+  enter h =
+      let a = stands ks 0 (λ z. h (ek ∙ z)) in
       record {
         even = w .even;
         within = omega arith;
         room-kinds = omega (arith, w .room-kinds);
         room-args = omega (arith, w .room-args);
       }
+
+  -- constants
+  pub words-enter : k ≡ wordKind CONSTANTS → Ready ks us 1 p l u
+  words-enter h = enter λ z. omega arith
 
   pub begins-words : {r : Part} {l₁ u₁ : List ℕ} → k ≡ wordKind CONSTANTS → ParsesMany ks us 1 p l u r l₁ u₁
       → Meets ks us (statement (calls (heldRow ks us)) levels) 0 p l u r l₁ u₁
@@ -388,6 +394,33 @@ module _ {ks us : List ℕ} {p k : ℕ} {l u : List ℕ} (w : Ready ks us 0 p l 
       meets-by {i = 0} (statement f levels)
       (rw (token-at ks us 0 (w .even), start-words (getD ks 0 0) (getD us 0 0) (sym ek ∙ h)))
       (meets-rest (meets-map constants (g .meets f (omega arith))))
+
+  -- a block's header
+  pub header-enter : k ≡ wordKind PROCED → Ready ks us 1 p l u
+  header-enter h = enter λ z. omega arith
+
+  pub begins-header : {r : Part} {l₁ u₁ : List ℕ} → k ≡ wordKind PROCED
+      → Meets ks us (headed (calls (heldRow ks us))) 1 p l u r l₁ u₁
+      → Meets ks us (statement (calls (heldRow ks us)) levels) 0 p l u r l₁ u₁
+  unfolding statement
+  begins-header h g =
+      meets-by {i = 0} (statement (calls (heldRow ks us)) levels)
+      (rw (token-at ks us 0 (w .even), start-header (getD ks 0 0) (getD us 0 0) (sym ek ∙ h))) (meets-rest g)
+
+  -- a block's end
+  pub ending-room : k ≡ wordKind ENDPRO → (p < length l) × (p < length u)
+  ending-room h =
+      let a = stands ks 0 (λ z. let y : k ≡ 0 = ek ∙ z in omega arith) in
+      (omega (arith, w .room-kinds), omega (arith, w .room-args))
+
+  pub begins-ending : {l₁ u₁ : List ℕ} → k ≡ wordKind ENDPRO → l₁ ≡ set l p kindEnding → u₁ ≡ set u p 0
+      → Meets ks us (statement (calls (heldRow ks us)) levels) 0 p l u (partDone 1 (p + 1)) l₁ u₁
+  unfolding statement
+  begins-ending h x y =
+      let a = enter (λ z. omega arith) in
+      meets-by {i = 0} (statement (calls (heldRow ks us)) levels)
+      (rw (token-at ks us 0 (w .even), start-ending (getD ks 0 0) (getD us 0 0) (sym ek ∙ h)))
+      (meets-tell kindEnding 0 x y (meets-rest (meets-give (w .even) (a .within) ending)))
 
   module _ (named : k ≡ nameKind) where
     pub first-inside : 0 < length ks

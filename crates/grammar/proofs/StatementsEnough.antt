@@ -7,14 +7,16 @@ use lib.Ieee.{Float}
 use lib.ListN.{length, length-append}
 use Rattle.tokens.specs.Symbol.{Symbol}
 use Rattle.drafts.specs.Tree.{constantOf}
-use Rattle.drafts.specs.Kinds.{kindInitial}
+use Rattle.drafts.specs.Kinds.{kindInitial, kindOutput, kindInput}
 use Rattle.drafts.specs.Drafts.{draft, constantDrafts, initialDraft}
-use Rattle.grammar.specs.Look.{next, rest, Start, Constants, Integral, Named, Valued, Other, startOf}
+use Rattle.grammar.specs.Look.{next, rest, Start, Constants, Integral, Named, Valued, Header, Ending, Other}
+use Rattle.grammar.specs.Look.{startOf}
 use Rattle.grammar.specs.Grammar.{expr}
 use Rattle.grammar.specs.Parser.{got, Res, tell, byStart, parse, signedNumber, valued, many, initially}
-use Rattle.grammar.specs.Parser.{assigned, rated, begunState, integrated, equated, statement, atEnd, entire}
+use Rattle.grammar.specs.Parser.{assigned, rated, begunState, integrated, equated, manyNames, withInputs}
+use Rattle.grammar.specs.Parser.{blockNamed, headed, statement, atEnd, entire}
 use Rattle.grammar.proofs.Endings.{Asked, Before, Out, OutEnd, here-mark}
-use Rattle.grammar.proofs.StatementsSound.{signed-out, initially-out}
+use Rattle.grammar.proofs.StatementsSound.{signed-out, initially-out, names-out}
 use Rattle.grammar.proofs.Enough.{bind-cong, mark-cong, need-cong, shorter, rest-le, enough}
 
 -- what is left is no longer
@@ -30,14 +32,17 @@ out-left {A} {L} {F} s x o e t h =
 module _ {A : Type 0} where
   -- by what stands next
   start-cong : (p : Start) (c c′ i i′ : Unit {0} → Res A) (k k′ : ℕ → Res A) (v v′ : Float → Res A)
-      (z z′ : Unit {0} → Res A)
-      → c tt ≡ c′ tt → i tt ≡ i′ tt → ((n : ℕ) → k n ≡ k′ n) → ((x : Float) → v x ≡ v′ x) → z tt ≡ z′ tt
-      → byStart p c i k v z ≡ byStart p c′ i′ k′ v′ z′
-  start-cong Constants c c′ i i′ k k′ v v′ z z′ p q r s t = p
-  start-cong Integral c c′ i i′ k k′ v v′ z z′ p q r s t = q
-  start-cong (Named n) c c′ i i′ k k′ v v′ z z′ p q r s t = r n
-  start-cong (Valued x) c c′ i i′ k k′ v v′ z z′ p q r s t = s x
-  start-cong Other c c′ i i′ k k′ v v′ z z′ p q r s t = t
+      (h h′ e e′ z z′ : Unit {0} → Res A)
+      → c tt ≡ c′ tt → i tt ≡ i′ tt → ((n : ℕ) → k n ≡ k′ n) → ((x : Float) → v x ≡ v′ x) → h tt ≡ h′ tt
+      → e tt ≡ e′ tt → z tt ≡ z′ tt
+      → byStart p c i k v h e z ≡ byStart p c′ i′ k′ v′ h′ e′ z′
+  start-cong Constants c c′ i i′ k k′ v v′ h h′ e e′ z z′ p q r s t u w = p
+  start-cong Integral c c′ i i′ k k′ v v′ h h′ e e′ z z′ p q r s t u w = q
+  start-cong (Named n) c c′ i i′ k k′ v v′ h h′ e e′ z z′ p q r s t u w = r n
+  start-cong (Valued x) c c′ i i′ k k′ v v′ h h′ e e′ z z′ p q r s t u w = s x
+  start-cong Header c c′ i i′ k k′ v v′ h h′ e e′ z z′ p q r s t u w = t
+  start-cong Ending c c′ i i′ k k′ v v′ h h′ e e′ z z′ p q r s t u w = u
+  start-cong Other c c′ i i′ k k′ v v′ h h′ e e′ z z′ p q r s t u w = w
 
 -- constants
 many-enough : (f f′ : ℕ) (s : List Symbol) → length s < f → length s < f′ → many f s ≡ many f′ s
@@ -46,14 +51,14 @@ many-enough zero f′ s b b′ = absurd (omega arith)
 many-enough (suc f) zero s b b′ = absurd (omega arith)
 many-enough (suc f) (suc f′) s b b′ =
     let r = rest-le s in
-    start-cong (startOf (next s)) _ _ _ _ _ _ _ _ _ _ refl refl
+    start-cong (startOf (next s)) _ _ _ _ _ _ _ _ _ _ _ _ _ _ refl refl
     (λ k. need-cong 60 (rest s) (valued (many f) k) (valued (many f′) k) λ l.
     bind-cong (signedNumber (rest (rest s))) _ _ _ refl λ x t h.
     let n = out-left (rest (rest s)) _ (signed-out 0 (rest (rest s))) x t h in
     ap (tell (constantDrafts (constantOf k x))) (mark-cong 43 t _ _ _ λ m.
     let z = shorter t (here-mark t 43 m) in
     bind-cong (many f (rest t)) _ _ _ (many-enough f f′ (rest t) (omega arith) (omega arith)) λ e t h. refl))
-    (λ x. refl) refl
+    (λ x. refl) refl refl refl
 
 module _ (f f′ d k : ℕ) where
   -- an expression behind name =
@@ -79,8 +84,38 @@ module _ (f f′ d k : ℕ) where
   equated-enough s b b′ =
       let r = rest-le s in
       let plainly = assigned-enough s b b′ in
-      start-cong (startOf (next s)) _ _ _ _ _ _ _ _ _ _
-      plainly (integrated-enough (rest s) (omega arith) (omega arith)) (λ _. plainly) (λ _. plainly) plainly
+      start-cong (startOf (next s)) _ _ _ _ _ _ _ _ _ _ _ _ _ _
+      plainly (integrated-enough (rest s) (omega arith) (omega arith)) (λ _. plainly) (λ _. plainly)
+      plainly plainly plainly
+
+-- names
+names-enough : (n f f′ : ℕ) (s : List Symbol) → length s < f → length s < f′ → manyNames n f s ≡ manyNames n f′ s
+unfolding manyNames
+names-enough n zero f′ s b b′ = absurd (omega arith)
+names-enough n (suc f) zero s b b′ = absurd (omega arith)
+names-enough n (suc f) (suc f′) s b b′ =
+    start-cong (startOf (next s)) _ _ _ _ _ _ _ _ _ _ _ _ _ _ refl refl
+    (λ k. ap (tell (draft n k ∷ [])) (mark-cong 43 (rest s) _ _ _ λ m.
+    let z = shorter (rest s) (here-mark (rest s) 43 m) in
+    let r = rest-le s in
+    bind-cong (manyNames n f (rest (rest s))) _ _ _
+    (names-enough n f f′ (rest (rest s)) (omega arith) (omega arith)) λ e t h. refl))
+    (λ x. refl) refl refl refl
+
+-- behind PROCED
+headed-enough : (f f′ : ℕ) (s : List Symbol) → length s < f → length s < f′ → headed f s ≡ headed f′ s
+unfolding headed
+headed-enough f f′ s b b′ =
+    bind-cong (manyNames kindOutput f s) _ _ _ (names-enough kindOutput f f′ s b b′) λ os t h.
+    let n = out-left s _ (names-out kindOutput f 0 s) os t h in
+    need-cong 60 t (blockNamed f os) (blockNamed f′ os) λ l.
+    start-cong (startOf (next (rest t))) _ _ _ _ _ _ _ _ _ _ _ _ _ _ refl refl
+    (λ k. need-cong 39 (rest (rest t)) (withInputs f os) (withInputs f′ os) λ m.
+    let r = rest-le (rest t) in
+    let v = rest (rest (rest t)) in
+    bind-cong (manyNames kindInput f v) _ _ _ (names-enough kindInput f f′ v (omega arith) (omega arith)) λ is u h.
+    refl)
+    (λ x. refl) refl refl refl
 
 -- a statement at the front
 statement-enough : (f f′ d : ℕ) (s : List Symbol) → 3 + 5 * length s < f → 3 + 5 * length s < f′
@@ -88,12 +123,12 @@ statement-enough : (f f′ d : ℕ) (s : List Symbol) → 3 + 5 * length s < f �
 unfolding statement
 statement-enough f f′ d s b b′ =
     let r = rest-le s in
-    start-cong (startOf (next s)) _ _ _ _ _ _ _ _ _ _
+    start-cong (startOf (next s)) _ _ _ _ _ _ _ _ _ _ _ _ _ _
     (bind-cong (many f (rest s)) _ _ _ (many-enough f f′ (rest s) (omega arith) (omega arith)) λ e t h. refl)
     refl
     (λ k. need-cong 60 (rest s) (equated f d k) (equated f′ d k) λ l. equated-enough f f′ d k (rest (rest s))
     (omega arith) (omega arith))
-    (λ x. refl) refl
+    (λ x. refl) (headed-enough f f′ (rest s) (omega arith) (omega arith)) refl refl
 
 -- any two counts of calls that suffice read a row alike
 pub entire-enough : (f f′ d : ℕ) (s : List Symbol) → 3 + 5 * length s < f → 3 + 5 * length s < f′

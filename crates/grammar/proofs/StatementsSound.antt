@@ -2,21 +2,23 @@
 -- the front of a statement.
 use Prim.Native.Nat.{ℕ, zero, suc, _≤_}
 use mathlib.Core.Path.{_≡_, refl}
-use mathlib.Core.List.{List, [], _∷_, _++_, append-assoc, append-nil}
+use mathlib.Core.List.{List, [], _∷_, _++_, append-assoc, append-nil, map}
 use lib.Ieee.{Float}
 use Rattle.laws.specs.Lists.{concat-map}
-use Rattle.tokens.specs.Symbol.{INTGRL, Symbol, mark, number, name, word}
+use Rattle.tokens.specs.Symbol.{INTGRL, PROCED, Symbol, mark, number, name, word}
 use Rattle.drafts.specs.Tree.{value, Constant, constantOf, Initial, plain, from, Says, constants, assignment, state}
-use Rattle.drafts.specs.Kinds.{kindInitial, kindStore, kindRate}
+use Rattle.drafts.specs.Tree.{header, ending}
+use Rattle.drafts.specs.Kinds.{kindInitial, kindStore, kindRate, kindOutput, kindInput, kindEnding}
 use Rattle.drafts.specs.Drafts.{Draft, draft, constantDrafts, initialDraft, draftsOf}
 use Rattle.grammar.specs.Look.{next, rest, Op, none, op, addOp, startOf}
 use Rattle.grammar.specs.Grammar.{expr, Signed, unsigned-number, signed-number, Many, one, more, Initially}
-use Rattle.grammar.specs.Grammar.{of-number, of-name}
-use Rattle.grammar.specs.Grammar.{Derives, of-constants, of-assignment, of-state}
-use Rattle.grammar.specs.Parser.{Res, give, stop, tell, bind, byStart, byName, byNumber, byIntegral, need}
+use Rattle.grammar.specs.Grammar.{of-number, of-name, Names, one-name, more-names}
+use Rattle.grammar.specs.Grammar.{Derives, of-constants, of-assignment, of-state, of-header, of-ending}
+use Rattle.grammar.specs.Parser.{Res, give, stop, tell, byName, byNumber, byIntegral}
 use Rattle.grammar.specs.Parser.{behindSign, parse}
 use Rattle.grammar.specs.Parser.{signedValue, aNumber, signedNumber, onMore, valued, many, initially}
-use Rattle.grammar.specs.Parser.{assigned, rated, begunState, integrated, equated, statement, atEnd, entire}
+use Rattle.grammar.specs.Parser.{assigned, rated, begunState, integrated, equated, manyNames, withInputs}
+use Rattle.grammar.specs.Parser.{blockNamed, headed, formOf, statement, atEnd, entire}
 use Rattle.grammar.proofs.Endings.{Asked, Before, Out, out-mark, out-tell, out-give, out-stop, out-rest}
 use Rattle.grammar.proofs.Endings.{out-bind, out-map, out-need}
 use Rattle.grammar.proofs.Endings.{here-mark, Fronts, extend, behind, fresh}
@@ -29,13 +31,15 @@ module _ {A : Type 0} (L : Asked A) (F : Before) where
   out-name : (s : List Symbol) (x : ℕ → Res A) (y : Unit {0} → Res A)
       → ((k : ℕ) → s ≡ name k ∷ rest s → Out L F s (x k)) → Out L F s (y tt)
       → Out L F s (byName (startOf (next s)) x y)
-  out-name s x y g h = start-cases s (λ p. Out L F s (byName p x y)) (λ _ _. h) (λ _. h) g (λ _ _. h) h
+  out-name s x y g h = start-cases s (λ p. Out L F s (byName p x y)) (λ _ _. h) (λ _. h) g (λ _ _. h) (λ _. h)
+      (λ _. h) h
 
   -- a number, or else
   out-number : (s : List Symbol) (x : Float → Res A) (y : Unit {0} → Res A)
       → ((v : Float) → s ≡ number v ∷ rest s → Out L F s (x v)) → Out L F s (y tt)
       → Out L F s (byNumber (startOf (next s)) x y)
-  out-number s x y g h = start-cases s (λ p. Out L F s (byNumber p x y)) (λ _ _. h) (λ _. h) (λ _ _. h) g h
+  out-number s x y g h = start-cases s (λ p. Out L F s (byNumber p x y)) (λ _ _. h) (λ _. h) (λ _ _. h) g (λ _. h)
+      (λ _. h) h
 
 -- ---- [sign] number
 
@@ -201,7 +205,88 @@ module _ (f d k : ℕ) where
       start-cases s
       (λ p. Out (λ o w. Stated d o (assigns k w)) (λ c w. StatedVia d c (assigns k w)) s
       (byIntegral p (λ _. integrated f d k (rest s)) (λ _. assigned f d k s)))
-      (λ _ _. plainly) (λ q. out-rest _ _ s _ q (integrated-out (rest s))) (λ _ _. plainly) (λ _ _. plainly) plainly
+      (λ _ _. plainly) (λ q. out-rest _ _ s _ q (integrated-out (rest s))) (λ _ _. plainly) (λ _ _. plainly)
+      (λ _. plainly) (λ _. plainly) plainly
+
+-- ---- a block's header
+
+-- what is asked of names: a draft of the kind n for each is written
+abbrev pub Listed : ℕ → Asked (List ℕ)
+Listed n o w ks = Names w ks × (o ≡ map (draft n) ks)
+
+-- and at a fault
+abbrev pub ListedVia : ℕ → Before
+ListedVia d c w = Fronts (λ D. Names) d c w
+
+-- before anything is read, a name can follow
+zero-names : (d : ℕ) → ListedVia d 18 []
+zero-names d = fresh [] λ D le. (_, _, one-name {k = 0})
+
+-- names, whatever the count of calls
+pub names-out : (n f d : ℕ) (s : List Symbol) → Out (Listed n) (ListedVia d) s (manyNames n f s)
+unfolding manyNames
+names-out n zero d s = out-stop _ _ s (zero-names d)
+names-out n (suc f) d s =
+    out-name _ _ s _ _
+    (λ k q. out-rest _ _ s _ q
+    (out-tell _ _ (draft n k ∷ []) (rest s) _
+    (out-mark _ _ 43 (rest s) _ _
+    (λ m. out-rest _ _ (rest s) _ (here-mark (rest s) 43 m)
+    (out-map _ _ (rest (rest s)) (manyNames n f (rest (rest s))) (λ ks. k ∷ ks) (names-out n f d (rest (rest s)))
+    (λ o w ks z. (more-names (z .0), rw (z .1)))
+    λ c. behind (name k ∷ mark 44 ∷ []) λ D w ks le a. (k ∷ ks, more-names a)))
+    (out-give _ _ (rest s) (k ∷ []) (one-name, refl)))))
+    (out-stop _ _ s (zero-names d))
+
+-- the tokens v behind PROCED, the outputs w and =; and behind the block's name with its opening parenthesis
+abbrev heading : List Symbol → List Symbol → List Symbol
+heading w v = word PROCED ∷ (w ++ mark 61 ∷ v)
+
+abbrev block : List Symbol → ℕ → List Symbol → List Symbol
+block w k v = heading w (name k ∷ mark 40 ∷ v)
+
+-- with a block's name and an input, each front of a header can be completed
+zero-header : {d : ℕ} (k : ℕ) {w : List Symbol} {os : List ℕ} → Names w os
+    → Derives d (block w k (name 0 ∷ mark 41 ∷ [])) (header os (0 ∷ []))
+zero-header k a = of-header k a one-name
+
+module _ (f d : ℕ) where
+  -- behind the outputs w and =, whose drafts are written
+  module _ (w : List Symbol) (o : List Draft) (os : List ℕ) (r : Listed kindOutput o w os) where
+    -- the inputs
+    inputs-out : (k : ℕ) (s : List Symbol)
+        → Out (λ o′ v. Stated d (o ++ o′) (block w k v)) (λ c v. StatedVia d c (block w k v)) s (withInputs f os s)
+    inputs-out k s =
+        out-bind _ _ s (manyNames kindInput f s) _ (names-out kindInput f d s)
+        (λ o′ v is t z. out-need _ _ 40 t (give (header os is))
+        (λ m. out-give _ _ (rest t) (header os is) (of-header k (r .0) (z .0), rw (r .1, z .1, append-nil)))
+        (rw (append-nil v)
+        (fresh (block w k v) λ D le. (mark 41 ∷ [], header os is, rw append-assoc (of-header k (r .0) (z .0))))))
+        λ c v z. rw append-assoc at (extend {H = Derives} (block w k [])
+        (λ D v is le a. (mark 41 ∷ [], header os is, rw append-assoc (of-header k (r .0) a))) v z)
+
+    -- the block's name
+    block-out : (s : List Symbol)
+        → Out (λ o′ v. Stated d (o ++ o′) (heading w v)) (λ c v. StatedVia d c (heading w v)) s (blockNamed f os s)
+    block-out s =
+        out-name _ _ s _ _
+        (λ k q. out-rest _ _ s _ q
+        (out-need _ _ 39 (rest s) (withInputs f os) (λ m. inputs-out k (rest (rest s)))
+        (fresh (heading w (name k ∷ [])) λ D le.
+        (mark 40 ∷ name 0 ∷ mark 41 ∷ [], header os (0 ∷ []), rw append-assoc (zero-header k (r .0))))))
+        (out-stop _ _ s
+        (fresh (heading w []) λ D le.
+        (name 0 ∷ mark 40 ∷ name 0 ∷ mark 41 ∷ [], header os (0 ∷ []), rw append-assoc (zero-header 0 (r .0)))))
+
+  -- behind PROCED
+  headed-out : (s : List Symbol)
+      → Out (λ o w. Stated d o (word PROCED ∷ w)) (λ c w. StatedVia d c (word PROCED ∷ w)) s (headed f s)
+  unfolding headed
+  headed-out s =
+      out-bind _ _ s (manyNames kindOutput f s) _ (names-out kindOutput f d s)
+      (λ o w os t r. out-need _ _ 60 t (blockNamed f os) (λ m. block-out w o os r (rest t))
+      (rw (append-nil w) (fresh (word PROCED ∷ w) λ D le. (_, _, zero-header 0 (r .0)))))
+      λ c. extend (word PROCED ∷ []) λ D w os le r. (_, _, zero-header 0 r)
 
 -- a statement at the front
 statement-out : (f d : ℕ) (s : List Symbol) → Out (Stated d) (StatedVia d) s (statement f d s)
@@ -209,11 +294,7 @@ unfolding statement
 statement-out f d s =
     let nothing : Out (Stated d) (StatedVia d) s (stop 18 s) =
     out-stop _ _ s (fresh [] λ D le. (_, _, of-assignment {k = 0} zero-expr)) in
-    start-cases s
-    (λ p. Out (Stated d) (StatedVia d) s
-    (byStart p (λ _. bind (many f (rest s)) λ cs t. give (constants cs) t) (λ _. stop 18 s)
-    (λ k. need 61 (rest s) (equated f d k)) (λ _. stop 18 s)
-    (λ _. stop 18 s)))
+    start-cases s (λ p. Out (Stated d) (StatedVia d) s (formOf f d p s))
     (λ e q. out-rest _ _ s _ q
     (out-map _ _ (rest s) (many f (rest s)) constants (many-out f d (rest s))
     (λ o w cs r. (of-constants e (r .0), r .1))
@@ -222,13 +303,19 @@ statement-out f d s =
     (λ k q. out-rest _ _ s _ q
     (out-need _ _ 60 (rest s) (equated f d k) (λ m. equated-out f d k (rest (rest s)))
     (fresh (name k ∷ []) λ D le. (mark 61 ∷ number nought ∷ [], _, of-assignment zero-expr))))
-    (λ _ _. nothing) nothing
+    (λ _ _. nothing)
+    (λ q. out-rest _ _ s _ q (headed-out f d (rest s)))
+    (λ q. out-rest _ _ s _ q
+    (out-tell _ _ (draft kindEnding 0 ∷ []) (rest s) _ (out-give _ _ (rest s) ending (of-ending, refl))))
+    nothing
 
 -- what is derived with d levels is derived with more
 pub stated-le : {d : ℕ} {w : List Symbol} {x : Says} → Derives d w x → (D : ℕ) → d ≤ D → Derives D w x
 stated-le (of-constants h a) D le = of-constants h a
 stated-le (of-assignment a) D le = of-assignment (der-le a D le)
 stated-le (of-state i a) D le = of-state i (der-le a D le)
+stated-le (of-header k a b) D le = of-header k a b
+stated-le of-ending D le = of-ending
 
 -- and no token more
 pub entire-out : (f d : ℕ) (s : List Symbol) → Out (Stated d) (StatedVia d) s (entire f d s)

@@ -7,12 +7,12 @@ use mathlib.Core.List.{List, [], _∷_, _++_, append-assoc, append-nil}
 use native.Mathlib.Omega.{arith}
 use lib.Dec.{eqb}
 use lib.ListN.{length}
-use Rattle.tokens.specs.Symbol.{INTGRL, INSW, Symbol, mark, name, word}
+use Rattle.tokens.specs.Symbol.{INTGRL, INSW, PROCED, ENDPRO, Symbol, mark, name, word}
 use Rattle.drafts.specs.Tree.{Tree, insw, Says, assignment}
 use Rattle.grammar.specs.Look.{next, rest, byteOf, group, triple, give-to, factorStart, Integral, startOf}
 use Rattle.grammar.specs.Grammar.{expr, term, factor, Der, unsigned, no-terms, a-term, no-factors, grouped}
 use Rattle.grammar.specs.Grammar.{called, opening, last}
-use Rattle.grammar.specs.Grammar.{Derives, of-constants, of-assignment, of-state}
+use Rattle.grammar.specs.Grammar.{Derives, of-constants, of-assignment, of-state, of-header, of-ending}
 use Rattle.grammar.specs.Parser.{bad, bind, parse}
 use Rattle.grammar.specs.Meaning.{Front, inside, deepest}
 use Rattle.grammar.proofs.Endings.{clash, Begins}
@@ -76,6 +76,8 @@ equation {k = k} (of-constants {t = t} h a) s q n = let z : t ≡ name k = cc in
 equation {d} (of-assignment {w = w} {e = e} a) s q n = let z : w ≡ s = cc in (e, rw (← z) a)
 equation (of-state {w = w} {v = v} i a) s q n =
     let z : word INTGRL ∷ mark 40 ∷ (w ++ mark 44 ∷ (v ++ mark 41 ∷ [])) ≡ s = cc in absurd (n (rw (← z)))
+equation {k = k} (of-header j a b) s q n = let z : word PROCED ≡ name k = cc in clash (cc)
+equation {k = k} of-ending s q n = let z : word ENDPRO ≡ name k = cc in clash (cc)
 
 -- it does not begin with INTGRL
 not-integral : (n : ℕ) (r : List Symbol) → startOf (next (inside n r)) ≡ Integral → ⊥

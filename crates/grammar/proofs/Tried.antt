@@ -7,12 +7,13 @@ use lib.Ieee.{Float, fin, neg}
 use lib.IntN.{pos}
 use lib.ListN.{replicate}
 use Rattle.limits.specs.Limits.{levels}
-use Rattle.tokens.specs.Symbol.{CONSTANTS, INTGRL, TIME, INSW, COMPAR, Symbol, mark, number, name, word}
+use Rattle.tokens.specs.Symbol.{CONSTANTS, INTGRL, TIME, INSW, COMPAR, PROCED, ENDPRO, Symbol, mark, number}
+use Rattle.tokens.specs.Symbol.{name, word}
 use Rattle.drafts.specs.Tree.{times, insw, value, named, time, negated, two, three, constantOf, from, constants}
-use Rattle.drafts.specs.Tree.{assignment, state}
+use Rattle.drafts.specs.Tree.{assignment, state, header, ending}
 use Rattle.grammar.specs.Look.{next, rest, byteOf, give-to, factorStart, startOf}
 use Rattle.grammar.specs.Parser.{Read, read, fault, bind, parse, many, initially, signedNumber}
-use Rattle.grammar.specs.Parser.{assigned, integrated, statement, entire, readRow}
+use Rattle.grammar.specs.Parser.{assigned, integrated, manyNames, headed, statement, entire, readRow}
 
 -- the number 7
 abbrev seven : Float
@@ -50,6 +51,23 @@ rows =
     ∷ (name 1 ∷ mark 61 ∷ word COMPAR ∷ mark 40 ∷ name 2 ∷ mark 41 ∷ [])
     -- A=INTGRL(-B
     ∷ (name 1 ∷ mark 61 ∷ word INTGRL ∷ mark 40 ∷ mark 45 ∷ name 2 ∷ [])
+    -- PROCED A,B=C(D,A)
+    ∷
+    (word PROCED ∷ name 1 ∷ mark 44 ∷ name 2 ∷ mark 61 ∷ name 3 ∷ mark 40 ∷ name 4 ∷ mark 44 ∷ name 1 ∷ mark 41 ∷ [])
+    -- PROCED A=C()
+    ∷ (word PROCED ∷ name 1 ∷ mark 61 ∷ name 3 ∷ mark 40 ∷ mark 41 ∷ [])
+    -- PROCED A=C(TIME)
+    ∷ (word PROCED ∷ name 1 ∷ mark 61 ∷ name 3 ∷ mark 40 ∷ word TIME ∷ mark 41 ∷ [])
+    -- PROCED A,=C(D)
+    ∷ (word PROCED ∷ name 1 ∷ mark 44 ∷ mark 61 ∷ name 3 ∷ mark 40 ∷ name 4 ∷ mark 41 ∷ [])
+    -- PROCED A=C
+    ∷ (word PROCED ∷ name 1 ∷ mark 61 ∷ name 3 ∷ [])
+    -- ENDPRO
+    ∷ (word ENDPRO ∷ [])
+    -- ENDPRO A
+    ∷ (word ENDPRO ∷ name 1 ∷ [])
+    -- A=ENDPRO
+    ∷ (name 1 ∷ mark 61 ∷ word ENDPRO ∷ [])
     ∷ []
 
 -- what they say, or the fault with its code and place
@@ -69,10 +87,18 @@ wanted =
     ∷ fault 18 3
     ∷ fault 18 5
     ∷ fault 18 5
+    ∷ read (header (1 ∷ 2 ∷ []) (4 ∷ 1 ∷ []))
+    ∷ fault 18 5
+    ∷ fault 18 5
+    ∷ fault 18 3
+    ∷ fault 18 4
+    ∷ read ending
+    ∷ fault 18 1
+    ∷ fault 18 2
     ∷ []
 
 -- each row is answered as wanted
 tried : map readRow rows ≡ wanted
-unfolding readRow entire statement integrated assigned many initially signedNumber parse bind byteOf factorStart startOf
-    give-to next rest rows wanted neg
+unfolding readRow entire statement integrated assigned headed manyNames many initially signedNumber parse bind byteOf
+    factorStart startOf give-to next rest rows wanted neg
 tried = refl

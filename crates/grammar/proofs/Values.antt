@@ -20,7 +20,7 @@ use Rattle.drafts.specs.Tree.{plus, Initial, plain, from}
 use Rattle.drafts.specs.Kinds.{kindNumber, kindFrom}
 use Rattle.drafts.specs.Drafts.{Draft, draft, initialDraft}
 use Rattle.grammar.specs.Look.{next, rest, byteOf, Op, none, op, addOp, startOf, Start, Constants, Integral}
-use Rattle.grammar.specs.Look.{Named, Valued, Other}
+use Rattle.grammar.specs.Look.{Named, Valued, Header, Ending, Other}
 use Rattle.grammar.specs.Grammar.{Signed, unsigned-number, signed-number, Initially, of-number, of-name}
 use Rattle.grammar.specs.Parser.{End, got, bad, Res, give, stop, bind, onward, byName, byNumber, behindSign}
 use Rattle.grammar.specs.Parser.{signedValue, aNumber, signedNumber, initially}
@@ -148,6 +148,8 @@ quiet-signed s = go (addOp (next s)) (behindSign (addOp (next s)) s) (startOf (n
     go o s Integral = record { silent = refl; faults = refl }
     go o s (Named k) = record { silent = refl; faults = refl }
     go o s (Valued x) = record { silent = refl; faults = tt }
+    go o s Header = record { silent = refl; faults = refl }
+    go o s Ending = record { silent = refl; faults = refl }
     go o s Other = record { silent = refl; faults = refl }
 
 quiet-plain : (x : Res Float) → Quiet x → Quiet (bind x λ v t. give (plain v) t)
@@ -171,6 +173,8 @@ quiet-initially s = go (startOf (next s))
     go Integral = given
     go (Named k) = record { silent = refl; faults = tt }
     go (Valued x) = given
+    go Header = given
+    go Ending = given
     go Other = given
 
 -- a value, with its draft and the place behind it

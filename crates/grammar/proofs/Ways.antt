@@ -26,7 +26,7 @@ use Rattle.grammar.specs.Codes.{kindOp, skipOf}
 use Rattle.grammar.specs.Contract.{opDrafts, PutsOp, Ready, partDone, Meets, Parses}
 use Rattle.grammar.proofs.Endings.{clash}
 use Rattle.grammar.proofs.Clauses.{rest-at, reads-expr, reads-terms, reads-term, reads-factors}
-use Rattle.grammar.proofs.Room.{reads-fits}
+use Rattle.grammar.proofs.Room.{Fits, reads-fits}
 use Rattle.grammar.proofs.Seen.{token-at, stands, add-seen, mul-seen}
 use Rattle.grammar.proofs.Meets.{went, meets-by, meets-rest, meets-give, meets-op, meets-bad, meets-bind}
 
@@ -40,15 +40,16 @@ pub record After (n i p : ℕ) (l u : List ℕ) (j q : ℕ) (l₁ u₁ : List �
   pub long-kinds : length l₁ ≡ length l
   pub long-args : length u₁ ≡ length u
 
-module _ {ks us : List ℕ} {m : Mode} {d i p j q : ℕ} {l u : List ℕ} {r : Part} {l₁ u₁ : List ℕ} where
-  pub after : Ready ks us i p l u → r ≡ partDone j q → Parses ks us m d i p l u r l₁ u₁
+module _ {ks us : List ℕ} {i p j q : ℕ} {l u : List ℕ} {r : Part} {l₁ u₁ : List ℕ} where
+  -- of each reader that fits
+  pub after-fits : {A : Type 0} {x : List Symbol → Res A} → Ready ks us i p l u → r ≡ partDone j q
+      → Fits (drop i (heldRow ks us)) 0 0 (x (drop i (heldRow ks us))) → Meets ks us x i p l u r l₁ u₁
       → After (length ks) i p l u j q l₁ u₁
-  after w e h =
+  after-fits {x = x} w e f h =
       let row = heldRow ks us in
       let n = held-length ks us (w .even) in
       let a = w .within in
-      let z = went row (reads m d (drop i row)) i p l u j q l₁ u₁ (omega arith) (reads-fits m d (drop i row))
-      (rw (e, ← n) at (h .meets .same)) in
+      let z = went row (x (drop i row)) i p l u j q l₁ u₁ (omega arith) f (rw (e, ← n) at (h .same)) in
       let b = z .inside in
       record {
         on = z .on;
@@ -57,6 +58,11 @@ module _ {ks us : List ℕ} {m : Mode} {d i p j q : ℕ} {l u : List ℕ} {r : P
         long-kinds = ap length (z .kinds) ∙ simp length-sets;
         long-args = ap length (z .args) ∙ simp length-sets;
       }
+
+  -- of a member of the cycle
+  pub after : {m : Mode} {d : ℕ} → Ready ks us i p l u → r ≡ partDone j q → Parses ks us m d i p l u r l₁ u₁
+      → After (length ks) i p l u j q l₁ u₁
+  after {m} {d} w e h = after-fits w e (reads-fits m d (drop i (heldRow ks us))) (h .meets)
 
 module _ {B : Type 0} {ks us : List ℕ} {m : Mode} {d i p : ℕ} {l u : List ℕ} (k : Tree → List Symbol → Res B) where
   -- a part that stops stops the whole

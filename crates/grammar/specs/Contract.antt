@@ -18,8 +18,8 @@ use Rattle.grammar.specs.declared.Parsed.the-variants.{Done, Fault, NoRo
 use Rattle.drafts.specs.Kinds.{kindNumber}
 use Rattle.drafts.specs.Drafts.{Draft, draft, initialDraft}
 use Rattle.grammar.specs.Grammar.{Mode}
-use Rattle.grammar.specs.Parser.{End, got, bad, Res, reads, signedNumber, many, initially, entire, calls, Read}
-use Rattle.grammar.specs.Parser.{read, fault, readRow}
+use Rattle.grammar.specs.Parser.{End, got, bad, Res, reads, signedNumber, many, initially, manyNames, entire}
+use Rattle.grammar.specs.Parser.{calls, Read, read, fault, readRow}
 
 -- an answer and the two buffers
 pub record ParseOutcome (R : Type 0) : Type 0 where
@@ -111,6 +111,10 @@ pub record Parses (ks us : List ℕ) (m : Mode) (d i p : ℕ) (l u : List ℕ) (
 -- what the constants from place i on give, at every count of calls that suffices
 pub record ParsesMany (ks us : List ℕ) (i p : ℕ) (l u : List ℕ) (r : Part) (l′ u′ : List ℕ) : Type 0 where
   pub meets : (f : ℕ) → length ks - i < f → Meets ks us (many f) i p l u r l′ u′
+
+-- what the names from place i on give, each with a draft of the kind k, at every count of calls that suffices
+pub record ParsesNames (ks us : List ℕ) (k i p : ℕ) (l u : List ℕ) (r : Part) (l′ u′ : List ℕ) : Type 0 where
+  pub meets : (f : ℕ) → length ks - i < f → Meets ks us (manyNames k f) i p l u r l′ u′
 
 -- what writes nothing itself: the draft of what was read, or the place where it is missing
 abbrev pub valueRead : {A : Type 0} → (A → Draft) → ℕ → End A → Value

@@ -7,9 +7,9 @@ use mathlib.Core.Path.{_≡_}
 use mathlib.Core.Bool.{cond}
 use mathlib.Core.List.{List, [], _∷_, _++_}
 use lib.Ieee.{Float, neg}
-use Rattle.tokens.specs.Symbol.{INTGRL, Symbol, mark, number, name, word}
+use Rattle.tokens.specs.Symbol.{INTGRL, PROCED, ENDPRO, Symbol, mark, number, name, word}
 use Rattle.drafts.specs.Tree.{Two, Tree, two, Constant, constantOf, Initial, plain, from, Says, constants, assignment}
-use Rattle.drafts.specs.Tree.{state}
+use Rattle.drafts.specs.Tree.{state, header, ending}
 use Rattle.grammar.specs.Look.{op, addOp, mulOp, isMinus, signed, Opening, group, full, wants, give-to}
 use Rattle.grammar.specs.Look.{Leaf, Call, factorStart, Constants, startOf}
 
@@ -63,7 +63,13 @@ pub data Initially : List Symbol → Initial → Type 0 where
   of-number : {w : List Symbol} {x : Float} → Signed w x → Initially w (plain x)
   of-name : {k : ℕ} → Initially (name k ∷ []) (from k)
 
--- the tokens w are a statement in which at most d levels are opened; the parentheses of INTGRL are no level
+-- one or more names, with commas between
+pub data Names : List Symbol → List ℕ → Type 0 where
+  one-name : {k : ℕ} → Names (name k ∷ []) (k ∷ [])
+  more-names : {k : ℕ} {w : List Symbol} {ks : List ℕ} → Names w ks → Names (name k ∷ mark 44 ∷ w) (k ∷ ks)
+
+-- the tokens w are a statement in which at most d levels are opened; the parentheses of INTGRL and of a block's header
+-- are no level. A block's name defines nothing
 pub data Derives (d : ℕ) : List Symbol → Says → Type 0 where
   of-constants : {t : Symbol} {w : List Symbol} {cs : List Constant} → startOf t ≡ Constants → Many w cs
       → Derives d (t ∷ w) (constants cs)
@@ -71,3 +77,6 @@ pub data Derives (d : ℕ) : List Symbol → Says → Type 0 where
       → Derives d (name k ∷ mark 61 ∷ w) (assignment k e)
   of-state : {k : ℕ} {w v : List Symbol} {i : Initial} {e : Tree} → Initially w i → Der expr d v e
       → Derives d (name k ∷ mark 61 ∷ word INTGRL ∷ mark 40 ∷ (w ++ mark 44 ∷ (v ++ mark 41 ∷ []))) (state k i e)
+  of-header : (k : ℕ) {w v : List Symbol} {os is : List ℕ} → Names w os → Names v is
+      → Derives d (word PROCED ∷ (w ++ mark 61 ∷ name k ∷ mark 40 ∷ (v ++ mark 41 ∷ []))) (header os is)
+  of-ending : Derives d (word ENDPRO ∷ []) ending

@@ -5,7 +5,8 @@ use mathlib.Core.Bool.{Bool, true, false, cond}
 use mathlib.Core.List.{List, [], _∷_}
 use lib.Dec.{eqb}
 use lib.Ieee.{Float}
-use Rattle.tokens.specs.Symbol.{CONSTANTS, INTGRL, TIME, INSW, LIMIT, COMPAR, Symbol, mark, number, name, word}
+use Rattle.tokens.specs.Symbol.{CONSTANTS, INTGRL, TIME, INSW, LIMIT, COMPAR, PROCED, ENDPRO, Symbol, mark, number}
+use Rattle.tokens.specs.Symbol.{name, word}
 use Rattle.drafts.specs.Tree.{Two, plus, minus, times, over, compar, Three, insw, limit, Tree, value, named, time}
 use Rattle.drafts.specs.Tree.{negated, two, three}
 
@@ -93,6 +94,8 @@ factorStart (word TIME) = Leaf time
 factorStart (word INSW) = Call (triple insw)
 factorStart (word LIMIT) = Call (triple limit)
 factorStart (word COMPAR) = Call pair
+factorStart (word PROCED) = NoFactor
+factorStart (word ENDPRO) = NoFactor
 
 -- ---- what a token begins as a statement or in one
 
@@ -101,6 +104,8 @@ pub data Start : Type 0 where
   Integral : Start
   Named : ℕ → Start
   Valued : Float → Start
+  Header : Start
+  Ending : Start
   Other : Start
 
 unfoldable pub startOf : Symbol → Start
@@ -113,3 +118,5 @@ startOf (word TIME) = Other
 startOf (word INSW) = Other
 startOf (word LIMIT) = Other
 startOf (word COMPAR) = Other
+startOf (word PROCED) = Header
+startOf (word ENDPRO) = Ending

@@ -8,14 +8,15 @@ use lib.Ieee.{Float, neg}
 use Rattle.limits.specs.Limits.{levels}
 use Rattle.tokens.specs.Symbol.{Symbol}
 use Rattle.drafts.specs.Tree.{Two, Tree, two, Constant, constantOf, Initial, plain, from, Says, constants, assignment}
-use Rattle.drafts.specs.Tree.{state, compar}
-use Rattle.drafts.specs.Kinds.{kindInitial, kindTwo, kindNegate, kindThree, kindStore, kindRate}
+use Rattle.drafts.specs.Tree.{state, header, ending, compar}
+use Rattle.drafts.specs.Kinds.{kindInitial, kindTwo, kindNegate, kindThree, kindStore, kindRate, kindOutput, kindInput}
+use Rattle.drafts.specs.Kinds.{kindEnding}
 use Rattle.drafts.specs.Drafts.{Draft, draft, drafted, constantDrafts, initialDraft}
 use Rattle.grammar.specs.Look.{next, rest, byteOf, Op, none, op, addOp, mulOp, isMinus, signed, Given, full}
 use Rattle.grammar.specs.Look.{wants, give-to}
 use Rattle.grammar.specs.Look.{Opening, group, pair, pair-of, triple, triple-of, triple-of-two}
 use Rattle.grammar.specs.Look.{FactorStart, Leaf, Paren, Call, NoFactor, factorStart}
-use Rattle.grammar.specs.Look.{Start, Constants, Integral, Named, Valued, Other, startOf}
+use Rattle.grammar.specs.Look.{Start, Constants, Integral, Named, Valued, Header, Ending, Other, startOf}
 use Rattle.grammar.specs.Grammar.{Mode, expr, term, factor, terms, factors, opened, list}
 
 -- how reading ends: with what was read and the tokens left; or with a fault's code and the tokens left, the fault's
@@ -136,22 +137,24 @@ unfoldable pub reads : Mode → ℕ → List Symbol → Res Tree
 reads m d s = parse (suc (rank m + 5 * length s)) m d s
 
 abbrev pub byStart : {A : Type 0} → Start → (Unit {0} → Res A) → (Unit {0} → Res A) → (ℕ → Res A) → (Float → Res A)
-    → (Unit {0} → Res A) → Res A
-byStart Constants c i k v z = c tt
-byStart Integral c i k v z = i tt
-byStart (Named n) c i k v z = k n
-byStart (Valued x) c i k v z = v x
-byStart Other c i k v z = z tt
+    → (Unit {0} → Res A) → (Unit {0} → Res A) → (Unit {0} → Res A) → Res A
+byStart Constants c i k v h e z = c tt
+byStart Integral c i k v h e z = i tt
+byStart (Named n) c i k v h e z = k n
+byStart (Valued x) c i k v h e z = v x
+byStart Header c i k v h e z = h tt
+byStart Ending c i k v h e z = e tt
+byStart Other c i k v h e z = z tt
 
 -- a name, a number, INTGRL, or else
 abbrev pub byName : {A : Type 0} → Start → (ℕ → Res A) → (Unit {0} → Res A) → Res A
-byName p x y = byStart p y y x (λ _. y tt) y
+byName p x y = byStart p y y x (λ _. y tt) y y y
 
 abbrev pub byNumber : {A : Type 0} → Start → (Float → Res A) → (Unit {0} → Res A) → Res A
-byNumber p x y = byStart p y y (λ _. y tt) x y
+byNumber p x y = byStart p y y (λ _. y tt) x y y y
 
 abbrev pub byIntegral : {A : Type 0} → Start → (Unit {0} → Res A) → (Unit {0} → Res A) → Res A
-byIntegral p x y = byStart p y x (λ _. y tt) (λ _. y tt) y
+byIntegral p x y = byStart p y x (λ _. y tt) (λ _. y tt) y y y
 
 -- [sign] number: a minus negates the value
 abbrev pub signedValue : Op → Float → Float
@@ -164,10 +167,11 @@ aNumber o s = byNumber (startOf (next s)) (λ x. give (signedValue o x) (rest s)
 unfoldable pub signedNumber : List Symbol → Res Float
 signedNumber s = aNumber (addOp (next s)) (behindSign (addOp (next s)) s)
 
--- constants, one or more
-abbrev pub onMore : (List Symbol → Res (List Constant)) → Constant → List Symbol → Res (List Constant)
+-- behind one of several: a comma and more of them, or nothing
+abbrev pub onMore : {A : Type 0} → (List Symbol → Res (List A)) → A → List Symbol → Res (List A)
 onMore go c s = when (eqb (byteOf (next s)) 44) (λ _. bind (go (rest s)) λ cs t. give (c ∷ cs) t) (λ _. give (c ∷ []) s)
 
+-- constants, one or more
 abbrev pub valued : (List Symbol → Res (List Constant)) → ℕ → List Symbol → Res (List Constant)
 valued go k s = bind (signedNumber s) λ x t. tell (constantDrafts (constantOf k x)) (onMore go (constantOf k x) t)
 
@@ -197,15 +201,36 @@ integrated f d k s = need 40 s (begunState f d k)
 abbrev pub equated : ℕ → ℕ → ℕ → List Symbol → Res Says
 equated f d k s = byIntegral (startOf (next s)) (λ _. integrated f d k (rest s)) (λ _. assigned f d k s)
 
--- a statement at the front, with at most d levels
-unfoldable pub statement : ℕ → ℕ → List Symbol → Res Says
-statement f d s =
-    byStart (startOf (next s))
+-- names, one or more, each with a draft of the kind n
+unfoldable pub manyNames : ℕ → ℕ → List Symbol → Res (List ℕ)
+manyNames n zero s = stop 18 s
+manyNames n (suc f) s =
+    byName (startOf (next s)) (λ k. tell (draft n k ∷ []) (onMore (manyNames n f) k (rest s))) (λ _. stop 18 s)
+
+-- behind PROCED: the outputs, =, the block's name, and the inputs in parentheses
+abbrev pub withInputs : ℕ → List ℕ → List Symbol → Res Says
+withInputs f os s = bind (manyNames kindInput f s) λ is t. need 41 t (give (header os is))
+
+abbrev pub blockNamed : ℕ → List ℕ → List Symbol → Res Says
+blockNamed f os s = byName (startOf (next s)) (λ _. need 40 (rest s) (withInputs f os)) (λ _. stop 18 s)
+
+unfoldable pub headed : ℕ → List Symbol → Res Says
+headed f s = bind (manyNames kindOutput f s) λ os t. need 61 t (blockNamed f os)
+
+-- a statement at the front, with at most d levels, by what its first token begins
+abbrev pub formOf : ℕ → ℕ → Start → List Symbol → Res Says
+formOf f d p s =
+    byStart p
     (λ _. bind (many f (rest s)) λ cs t. give (constants cs) t)
     (λ _. stop 18 s)
     (λ k. need 61 (rest s) (equated f d k))
     (λ _. stop 18 s)
+    (λ _. headed f (rest s))
+    (λ _. tell (draft kindEnding 0 ∷ []) (give ending (rest s)))
     (λ _. stop 18 s)
+
+unfoldable pub statement : ℕ → ℕ → List Symbol → Res Says
+statement f d s = formOf f d (startOf (next s)) s
 
 -- and no token more
 abbrev pub atEnd : {A : Type 0} → A → List Symbol → Res A

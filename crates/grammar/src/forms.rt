@@ -1,11 +1,12 @@
-// Statements: constants, assignments and states, by their first tokens.
+// Statements: constants, assignments, states, and the header and the end of a block, by their first tokens.
 ghost use mathlib.Core.Path.{_≡_};
-ghost use Prim.Native.Nat.{_+_};
+ghost use Prim.Native.Nat.{ℕ, _+_};
+ghost use mathlib.Core.List.{List};
 ghost use Rattle.limits.specs.Limits.{levels};
 ghost use Rattle.tokens.specs.Held.{heldRow};
 ghost use Rattle.drafts.specs.Tree.{Initial};
-ghost use Rattle.grammar.specs.Parser.{assigned, rated, integrated, statement, calls};
-ghost use Rattle.grammar.specs.Contract.{Ready, Within, Meets, ParsesMany, numberAt, initialAt};
+ghost use Rattle.grammar.specs.Parser.{assigned, rated, integrated, withInputs, headed, statement, calls};
+ghost use Rattle.grammar.specs.Contract.{Ready, Within, Meets, ParsesMany, ParsesNames, numberAt, initialAt};
 use super::expressions::Part;
 use super::expressions::emit;
 use super::expressions::expression;
@@ -216,6 +217,118 @@ pub(crate) fn state(
     }
 }
 
+// Names with commas between, each with a draft of this kind.
+pub(crate) fn names(
+    kinds: &[u8],
+    args: &[u64],
+    at: usize,
+    kind: u8,
+    drafts: &mut [u8],
+    values: &mut [u64],
+    place: usize,
+) -> Part
+    requires { ⌜ Ready (now kinds) (now args) at place (now drafts) (now values) ⌝ }
+    ensures { λ r. ⌜ ParsesNames (now (kinds .entry)) (now (args .entry)) kind at place
+        (now (drafts .entry)) (now (values .entry)) r (now (drafts .exit)) (now (values .exit)) ⌝ }
+{
+    let mut i = at;
+    let mut w = place;
+    while byte_at(kinds, i) == tokens::NAME {
+        emit(&mut *drafts, &mut *values, w, kind, args[i]);
+        if byte_at(kinds, i + 1) != b',' {
+            return Part {
+                code: 0,
+                next: i + 1,
+                place: w + 1,
+            };
+        }
+        i += 2;
+        w += 1;
+    }
+    Part {
+        code: 18,
+        next: i,
+        place: 0,
+    }
+}
+
+// Behind the opening parenthesis of a header: the inputs, and a closing parenthesis.
+pub(crate) fn inputs(
+    kinds: &[u8],
+    args: &[u64],
+    at: usize,
+    drafts: &mut [u8],
+    values: &mut [u64],
+    place: usize,
+) -> Part
+    requires { ⌜ Ready (now kinds) (now args) at place (now drafts) (now values) ⌝ }
+    ensures { λ r. ⌜ ((os : List ℕ) → Meets (now (kinds .entry)) (now (args .entry))
+        (withInputs (calls (heldRow (now (kinds .entry)) (now (args .entry)))) os) at place
+        (now (drafts .entry)) (now (values .entry)) r (now (drafts .exit)) (now (values .exit))) ⌝ }
+{
+    let r = names(kinds, args, at, drafts::INPUT, drafts, values, place);
+    if r.code != 0 {
+        return r;
+    }
+    let next = r.next;
+    if byte_at(kinds, next) != b')' {
+        return Part {
+            code: 18,
+            next,
+            place: 0,
+        };
+    }
+    Part {
+        code: 0,
+        next: next + 1,
+        place: r.place,
+    }
+}
+
+// Behind PROCED: the outputs, =, the block's name, and the inputs in parentheses.
+pub(crate) fn header(
+    kinds: &[u8],
+    args: &[u64],
+    at: usize,
+    drafts: &mut [u8],
+    values: &mut [u64],
+    place: usize,
+) -> Part
+    requires { ⌜ Ready (now kinds) (now args) at place (now drafts) (now values) ⌝ }
+    ensures { λ r. ⌜ Meets (now (kinds .entry)) (now (args .entry))
+        (headed (calls (heldRow (now (kinds .entry)) (now (args .entry))))) at place
+        (now (drafts .entry)) (now (values .entry)) r (now (drafts .exit)) (now (values .exit)) ⌝ }
+{
+    let r = names(kinds, args, at, drafts::OUTPUT, drafts, values, place);
+    if r.code != 0 {
+        return r;
+    }
+    let next = r.next;
+    let p = r.place;
+    if byte_at(kinds, next) != b'=' {
+        return Part {
+            code: 18,
+            next,
+            place: 0,
+        };
+    }
+    if byte_at(kinds, next + 1) != tokens::NAME {
+        return Part {
+            code: 18,
+            next: next + 1,
+            place: 0,
+        };
+    }
+    if byte_at(kinds, next + 2) != b'(' {
+        return Part {
+            code: 18,
+            next: next + 2,
+            place: 0,
+        };
+    }
+    inputs(kinds, args, next + 3, drafts, values, p)
+}
+
 // A statement, by its first token.
 pub(crate) fn any_statement(
     kinds: &[u8],
@@ -242,6 +355,17 @@ pub(crate) fn any_statement(
             return state(kinds, args, 3, args[0], drafts, values, place);
         }
         return assignment(kinds, args, 2, args[0], drafts, values, place);
+    }
+    if k == tokens::PROCED {
+        return header(kinds, args, 1, drafts, values, place);
+    }
+    if k == tokens::ENDPRO {
+        emit(drafts, values, place, drafts::ENDING, 0);
+        return Part {
+            code: 0,
+            next: 1,
+            place: place + 1,
+        };
     }
     if k != tokens::CONSTANTS {
         return Part {

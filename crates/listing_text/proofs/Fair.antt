@@ -13,14 +13,15 @@ use Rattle.laws.proofs.Tests.{cond-ind}
 use Rattle.deck.specs.Lines.{linesOf}
 use Rattle.sheet.specs.Sheet.{Sheet, Numbered, Fault, said, statementFaults}
 use Rattle.sheet.specs.Reader.{sheetOf}
-use Rattle.model.specs.Definitions.{definitions}
-use Rattle.model.specs.Faults.{modelFaults, orderOf}
+use Rattle.blocks.specs.Members.{settings, unitsOf}
+use Rattle.model.specs.Faults.{orderOf}
+use Rattle.model.specs.Text.{modelFaultsIn}
 use Rattle.records.specs.Record.{Rec}
 use Rattle.program.specs.Program.{program}
 use Rattle.translator.specs.Verdict.{Decision, refused, faulty, translated, ifFaults, fitted, programmed, modelled}
 use Rattle.translator.specs.Verdict.{decided, verdictOf}
 use Rattle.model.proofs.NumbersBelow.{ReportBelow, SaidBelow, FaultBelow, sheet-below, faults-below}
-use Rattle.model.proofs.NumbersBelow.{said-below, model-below}
+use Rattle.model.proofs.NumbersBelow.{said-below, all-below}
 
 -- a number that is not 0, and small lines; of a program nothing is asked
 abbrev pub Fair : Decision → Type 0
@@ -43,11 +44,12 @@ fair-fitted room rs ls =
 -- by the model
 fair-model : (room : ℕ) (ss : List Numbered) → Every (SaidBelow 65536) ss → Fair (modelled room ss)
 fair-model room ss p =
-    let ds = definitions ss in
-    let next = programmed room ds in
-    cond-ind Fair (ltb mostDefinitions (length ds)) (refused 6) (ifFaults 7 (modelFaults ss) next) (λ _. lit< tt)
-    (λ _. fair-faults 7 (modelFaults ss) next (lit< tt) (model-below 65536 (lit< tt) ss p)
-    (fair-fitted room (program ds (orderOf ds)) _))
+    let us = unitsOf ss in
+    let next = programmed room us in
+    let faults = modelFaultsIn ss in
+    cond-ind Fair (ltb mostDefinitions (length (settings ss))) (refused 6) (ifFaults 7 faults next) (λ _. lit< tt)
+    (λ _. fair-faults 7 faults next (lit< tt) (all-below 65536 (lit< tt) ss p)
+    (fair-fitted room (program us (orderOf us)) _))
 
 -- by the sheet
 fair-sheet : (room : ℕ) (ss : Sheet) → Every (ReportBelow 65536) ss → Fair (decided room ss)

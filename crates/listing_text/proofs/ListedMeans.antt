@@ -50,24 +50,24 @@ module _ (text f p o : List ℕ) (room-faults : faultRoom ≤ length f) (room-or
   -- where translating it answers r and leaves f′, p′ and o′
   module _ (r : Ordered) {f′ p′ o′ : List ℕ} (e : TranslatesInOrder text f p o r f′ p′ o′) where
     -- both counts are small
-    counts-of : (countIn (r .verdict) ≤ mostRecords) × (r .statements ≤ mostRecords)
+    counts-of : (countIn (r .verdict) ≤ mostRecords) × (r .units ≤ mostRecords)
     unfolding translation
     counts-of =
         let t = by-number text f p (without-order text f p o e) in
         let all = few text (length f) (length p) in (
           rw (ap (λ (x : Translation). x .count) t) (count-few verdict all),
-          omega (arith, ap (λ (x : OrderedReply). x .answer .statements) e, lines-few verdict all),
+          omega (arith, ap (λ (x : OrderedReply). x .answer .units) e, lines-few verdict all),
         )
 
     -- and what is written of that is what is listed
-    listed-of : written (numberIn (r .verdict)) (countIn (r .verdict)) (r .statements) f′ o′ ≡ listingOf verdict
+    listed-of : written (numberIn (r .verdict)) (countIn (r .verdict)) (r .units) f′ o′ ≡ listingOf verdict
     unfolding translation
     listed-of =
         let t = by-number text f p (without-order text f p o e) in
         rw (
           ap (λ (x : Translation). x .number) t,
           ap (λ (x : Translation). x .count) t,
-          ap (λ (x : OrderedReply). x .answer .statements) e,
+          ap (λ (x : OrderedReply). x .answer .units) e,
           ap (λ (x : Translation). x .faults) t,
           ap (λ (x : OrderedReply). x .order) e,
         )
@@ -89,14 +89,14 @@ lent-room n = omega (arith, lent-length n)
 module _ (text : List ℕ) (r : Ordered) {f p o : List ℕ}
     (e : TranslatesInOrder text (lent faultRoom) (lent programRoom) (lent mostStatements) r f p o) where
   -- both counts are small
-  pub counts-small : {count : ℕ} → count ≡ countIn (r .verdict) → (count ≤ mostRecords) × (r .statements ≤ mostRecords)
+  pub counts-small : {count : ℕ} → count ≡ countIn (r .verdict) → (count ≤ mostRecords) × (r .units ≤ mostRecords)
   counts-small a =
       rw a
       (counts-of text (lent faultRoom) (lent programRoom) (lent mostStatements) (lent-room faultRoom)
       (lent-room mostStatements) r e)
 
   -- THE LISTING: what is written is the text's
-  listing-is : written (numberIn (r .verdict)) (countIn (r .verdict)) (r .statements) f o ≡ listing text
+  listing-is : written (numberIn (r .verdict)) (countIn (r .verdict)) (r .units) f o ≡ listing text
   unfolding listing
   listing-is =
       listed-of text (lent faultRoom) (lent programRoom) (lent mostStatements) (lent-room faultRoom)
@@ -105,8 +105,8 @@ module _ (text : List ℕ) (r : Ordered) {f p o : List ℕ}
 
   -- so it is what is promised
   pub lists : {number count n : ℕ} {out out′ : List ℕ} → number ≡ numberIn (r .verdict) → count ≡ countIn (r .verdict)
-      → Put (written number count (r .statements) f o) 0 n out out′
+      → Put (written number count (r .units) f o) 0 n out out′
       → Lists text out n out′
   lists {number} {count} a b w =
-      let same : written number count (r .statements) f o ≡ listing text = rw (a, b) listing-is in
+      let same : written number count (r .units) f o ≡ listing text = rw (a, b) listing-is in
       record { needed = w .behind ∙ rw same (omega arith); held = w .written ∙ rw same }

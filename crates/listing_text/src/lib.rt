@@ -212,7 +212,7 @@ pub fn list(text: &[u8], out: &mut [u8]) -> usize
     put_listing(
         number_of(verdict),
         count_of(verdict),
-        r.statements,
+        r.units,
         &faults,
         &ordered,
         out,

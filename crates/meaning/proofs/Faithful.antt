@@ -1,41 +1,44 @@
--- Of a text with verdict 0: the program is accepted, evaluates, starts and steps by the text's statements; there is one
+-- Of a text with verdict 0: the program is accepted, evaluates, starts and steps by the text's units; there is one
 -- solution; and nothing is lost.
 use Prim.Native.Nat.{ℕ}
 use mathlib.Core.Path.{_≡_, refl, sym, ap, subst, _∙_}
 use mathlib.Core.List.{List}
 use lib.ListN.{length}
 use lib.Ieee.{Float}
-use Rattle.sheet.specs.Sheet.{Numbered}
 use Rattle.sheet.specs.Reader.{sheetOf}
-use Rattle.model.specs.Definitions.{Def}
+use Rattle.blocks.specs.Units.{TextUnit}
 use Rattle.model.specs.Faults.{orderOf}
-use Rattle.model.specs.Text.{textDefinitions}
+use Rattle.model.specs.Text.{textUnits}
 use Rattle.records.specs.declared.Instr.{Instr}
 use Rattle.records.specs.Record.{Rec, programBytes, instrs, decoded}
 use Rattle.program.specs.Program.{program}
 use Rattle.translator.specs.Verdict.{Translation, translation}
 use Rattle.evaluator.specs.Machine.{Machine, run, begun}
 use Rattle.evaluator.specs.Evaluate.{ran, evaluated, started, moveAll, advanced, stepped}
-use Rattle.meaning.specs.Statements.{slotAmong, Resolves, Solution, Stepping}
-use Rattle.meaning.specs.Recorded.{ConstantRecorded, AssignmentRecorded, StateRecorded, NothingLost}
-use Rattle.meaning.specs.Faithful.{saidIn, handedOn, Evaluates, Starts, Steps, HasSlots, Faithful}
+use Rattle.meaning.specs.Statements.{slotAmong, Resolves, EachAsked, Solution, Stepping}
+use Rattle.meaning.specs.Recorded.{ConstantRecorded, AssignmentRecorded, StateRecorded, BlockRecorded}
+use Rattle.meaning.specs.Recorded.{NothingLost}
+use Rattle.meaning.specs.Faithful.{handedOn, Evaluates, Starts, Steps, HasSlots, Faithful}
 use Rattle.translator.proofs.Zero.{Clear, clear, zero-translated}
 use Rattle.meaning.proofs.Runs.{run-program}
 use Rattle.meaning.proofs.RunSolves.{solves}
-use Rattle.meaning.proofs.Statements.{by-places, resolves}
-use Rattle.meaning.proofs.Solutions.{solution-of, solved-of, beginning, stepping}
+use Rattle.meaning.proofs.Asked.{names-same}
+use Rattle.meaning.proofs.Beginnings.{beginning, stepping}
 use Rattle.meaning.proofs.Unique.{only-one}
-use Rattle.meaning.proofs.Lost.{all-taken, records-at}
+use Rattle.meaning.proofs.Lost.{all-taken, each-recorded}
 use Rattle.meaning.proofs.Made.{made-of}
-use Rattle.meaning.proofs.Acceptance.{once, ordered, initials, read-back, not-refused, cut-back}
+use Rattle.meaning.proofs.Acceptance.{sound, once, known, ordered, initials, read-back, not-refused, cut-back}
 
 -- ---- a text that is clear, with the records of its program
 module _ {text : List ℕ} {room : ℕ} {rs : List Rec} (c : Clear text room rs) where
-  abbrev ss : List Numbered
-  ss = saidIn text
+  abbrev us : List TextUnit
+  us = textUnits text
 
-  abbrev ds : List Def
-  ds = textDefinitions text
+  -- what is asked of the records, with slots by these names
+  abbrev EachRecorded : List ℕ → Type 0
+  EachRecorded ns =
+      EachAsked (ConstantRecorded (slotAmong ns) rs) (AssignmentRecorded (slotAmong ns) rs)
+      (StateRecorded (slotAmong ns) (Resolves us) rs) (BlockRecorded (slotAmong ns) rs) us
 
   -- nothing of it is lost
   lost-nothing : NothingLost text rs
@@ -44,20 +47,14 @@ module _ {text : List ℕ} {room : ℕ} {rs : List Rec} (c : Clear text room rs)
       record {
         taken = all-taken (sheetOf text) (c .sound);
         recorded =
-            by-places ss (λ ns. ConstantRecorded (slotAmong ns) rs) (λ ns. AssignmentRecorded (slotAmong ns) rs)
-            (λ ns. StateRecorded (slotAmong ns) (Resolves ss) rs)
-            (λ i h.
-            rw (c .written)
-            (records-at ds (once c) (orderOf ds) (ordered c) i h (Resolves ss)
-            (λ n t e. resolves ss n _ (initials c i h n t e))));
-        made-of = rw (c .written) (made-of ss (orderOf ds) (ordered c) (initials c));
+            subst EachRecorded (names-same us)
+            (rw (c .written) (each-recorded us (sound c) (once c) (orderOf us) (ordered c) (initials c)));
+        made-of = rw (c .written) (made-of us (orderOf us) (ordered c) (initials c));
       }
 
-  -- its statements have one solution
-  one : (v d v₁ d₁ v₂ d₂ : List Float) → Solution ss v d v₁ d₁ → Solution ss v d v₂ d₂ → (v₁ ≡ v₂) × (d₁ ≡ d₂)
-  one v d v₁ d₁ v₂ d₂ a b =
-      only-one ds (once c) (orderOf ds) (ordered c) (programBytes rs) (read-back c ∙ ap instrs (c .written))
-      (not-refused c) v d v₁ d₁ v₂ d₂ (solved-of ss (once c) v d v₁ d₁ a) (solved-of ss (once c) v d v₂ d₂ b)
+  -- its units have one solution
+  one : (v d v₁ d₁ v₂ d₂ : List Float) → Solution us v d v₁ d₁ → Solution us v d v₂ d₂ → (v₁ ≡ v₂) × (d₁ ≡ d₂)
+  one = only-one us (sound c) (once c) (known c) (orderOf us) (ordered c)
 
   -- ---- with two buffers that are long enough
   module _ (v d : List Float) (roomy : HasSlots v d) where
@@ -66,13 +63,12 @@ module _ {text : List ℕ} {room : ℕ} {rs : List Rec} (c : Clear text room rs)
     end = ran (programBytes rs) v d
 
     -- is the solution
-    ran-solves : Solution ss v d (end .values) (end .derivs)
+    ran-solves : Solution us v d (end .values) (end .derivs)
     ran-solves =
         let e : run (begun v d) (instrs rs) ≡ _ =
-        ap (λ (x : List Rec). run (begun v d) (instrs x)) (c .written) ∙ run-program ds (orderOf ds) v d in
-        solution-of ss (once c) v d (end .values) (end .derivs)
-        (rw (read-back c, e)
-        (solves ds (once c) (orderOf ds) (ordered c) v d (c .few) (roomy .values) (roomy .derivs)))
+        ap (λ (x : List Rec). run (begun v d) (instrs x)) (c .written) ∙ run-program us (orderOf us) v d in
+        rw (read-back c, e)
+        (solves us (sound c) (once c) (known c) (orderOf us) (ordered c) v d (c .few) (roomy .values) (roomy .derivs))
 
     -- so evaluating leaves it
     evaluates : Evaluates text v d (evaluated (programBytes rs) v d)
@@ -86,7 +82,7 @@ module _ {text : List ℕ} {room : ℕ} {rs : List Rec} (c : Clear text room rs)
         rw (not-refused c v d (roomy .values) (roomy .derivs), read-back c, c .written)
         (record {
           accepted = refl;
-          begun = beginning ss (once c) (c .few) (orderOf ds) (initials c) v (roomy .values);
+          begun = beginning us (sound c) (once c) (c .few) (orderOf us) (initials c) v (roomy .values);
           kept = refl;
         })
 
@@ -96,7 +92,7 @@ module _ {text : List ℕ} {room : ℕ} {rs : List Rec} (c : Clear text room rs)
     steps h =
         let moving : List Instr → List Float = λ (xs : List Instr). advanced h
         (moveAll h (end .derivs) (end .values) xs) in
-        let same : moving (decoded (programBytes rs)) ≡ moving (instrs (program ds (orderOf ds))) =
+        let same : moving (decoded (programBytes rs)) ≡ moving (instrs (program us (orderOf us))) =
         ap moving (read-back c ∙ ap instrs (c .written)) in
         rw (not-refused c v d (roomy .values) (roomy .derivs))
         (record {
@@ -104,8 +100,8 @@ module _ {text : List ℕ} {room : ℕ} {rs : List Rec} (c : Clear text room rs)
           u = end .values;
           solved = ran-solves;
           moved =
-              subst (Stepping ss h (end .values) (end .derivs)) (sym same)
-              (stepping ss (once c) (c .few) (orderOf ds) h (end .values) (end .derivs)
+              subst (Stepping us h (end .values) (end .derivs)) (sym same)
+              (stepping us (sound c) (once c) (c .few) (orderOf us) h (end .values) (end .derivs)
               (rw (ran-solves .long .0) (roomy .values)));
         })
 

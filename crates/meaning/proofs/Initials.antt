@@ -1,70 +1,112 @@
--- The initial of a state is a number or the name of a constant, which has a value.
-use Prim.Native.Nat.{ℕ, zero, suc, _<_}
-use mathlib.Core.Path.{_≡_, refl, sym}
+-- The initial of a state is a number, or the name of a constant with the value that a constants statement gives it.
+use Prim.Native.Nat.{ℕ}
+use mathlib.Core.Path.{_≡_, refl, sym, ap, subst}
 use mathlib.Core.Logic.{⊎-elim}
-use mathlib.Core.List.{List, [], _∷_, _++_}
+use mathlib.Core.List.{List, [], _∷_, _++_, List·Memᴰ}
 use native.Mathlib.Omega.{arith}
 use borrow.Author.Tests.{eq-eqb, ne-eqb}
-use lib.ListN.{length}
 use lib.Ieee.{Float}
 use Rattle.laws.specs.Lists.{concat-map}
+use Rattle.laws.specs.Every.{Every}
 use Rattle.laws.specs.Counts.{count, _∈_}
 use Rattle.laws.proofs.Tests.{eq-or-ne}
+use Rattle.laws.proofs.Every.{every-all, every-map, every-concat, every-part}
 use Rattle.laws.proofs.Counts.{once-same, once-other}
-use Rattle.laws.proofs.Concats.{none-left}
-use Rattle.drafts.specs.Tree.{Tree, Initial, plain, from}
-use Rattle.model.specs.Definitions.{What, constant, assigned, integral, Def, keys}
-use Rattle.model.specs.Faults.{namedBy, initialOf, constantKey, constantKeys, within, nameFault, nameFaults}
+use Rattle.drafts.specs.Tree.{Constant, constantOf, Initial, plain, from}
+use Rattle.blocks.specs.Units.{constants, assignment, state, Sets, given, own, anew, Inner, UnitBody, single}
+use Rattle.blocks.specs.Units.{block, TextUnit}
+use Rattle.model.specs.Definitions.{What, constant, assigned, hidden, integral, Def, definedAlone, definedInside}
+use Rattle.model.specs.Definitions.{definitions}
+use Rattle.model.specs.Faults.{initialNames, constantKey, constantKeys, nameFaults}
+use Rattle.model.proofs.NoModelFault.{Known, all-known}
 use Rattle.program.specs.Program.{constantValue, valueIn, initialValue}
-use Rattle.model.proofs.NoModelFault.{no-name-fault}
-use Rattle.meaning.specs.Slots.{definitionAt, InitialIs}
-use Rattle.meaning.proofs.Owned.{within-in}
+use Rattle.meaning.specs.Statements.{Resolves, Asked, EachAsked}
+use Rattle.meaning.proofs.Rows.{every-member}
+use Rattle.meaning.proofs.Owned.{definedFrom, definedIn, definitions-parts, block-defined}
 
--- ---- a constant's name is that of a definition with its value
-abbrev Valued : List Def → ℕ → Float → Type 0
-Valued ds k y = (j : ℕ) × (j < length ds) × (definitionAt ds j .key ≡ k) × (definitionAt ds j .what ≡ constant y)
+module _ (us : List TextUnit) where
+  -- ---- a constant is one of the pairs of a statement
+  abbrev Source : Def → Type 0
+  Source d = (y : Float) → d .what ≡ constant y → Resolves us (from (d .key)) y
 
--- one definition more in front
-valued-later : (d : Def) (ds : List Def) (k : ℕ) (y : Float) → Valued ds k y → Valued (d ∷ ds) k y
-valued-later d ds k y r = (suc (r .0), omega (arith, r .1), r .2, r .3)
+  -- what is defined inside a block is none
+  inside-source : (l k : ℕ) (s : Sets) → Every Source (definedInside l k s)
+  inside-source l k given = (λ y q. absurd (let z : _≡_ {A = ℕ} 0 1 = cc in omega arith), tt)
+  inside-source l k own = (λ y q. absurd (let z : _≡_ {A = ℕ} 0 1 = cc in omega arith), tt)
+  inside-source l k anew = tt
 
--- by what its name is
-valued-first : (d : Def) (w : What) (ds : List Def) (k : ℕ) → d .what ≡ w
-    → k ∈ constantKey (d .key) w ++ constantKeys ds
-    → (k ∈ constantKeys ds → Valued ds k (valueIn ds k)) → Valued (d ∷ ds) k (constantValue k (d .key) w (valueIn ds k))
-unfolding count
-valued-first d (constant x) ds k e h f =
-    ⊎-elim (λ (q : k ≡ d .key). rw (eq-eqb k (d .key) q) (0, omega arith, sym q, e))
-    (λ q. rw (ne-eqb k (d .key) q) (valued-later d ds k (valueIn ds k) (f (omega (arith, once-other k (d .key) q)))))
-    (eq-or-ne k (d .key))
-valued-first d (assigned t) ds k e h f = valued-later d ds k (valueIn ds k) (f h)
-valued-first d (integral n t) ds k e h f = valued-later d ds k (valueIn ds k) (f h)
+  -- of what a unit defines
+  sources : (u : TextUnit) → List·Memᴰ u us → (x : UnitBody) → u .body ≡ x → Every Source (definedFrom (u .line) x)
+  unfolding concat-map
+  sources u m (single (constants cs)) e = mapped cs (every-member (λ (c : Constant). List·Memᴰ c cs) cs (λ c h. h))
+    where
+      pair : (c : Constant) (y : Float) → constant (c .worth) ≡ constant y → c ≡ constantOf (c .key) y
+      pair c y q =
+          let w : c .worth ≡ y = cc in
+          ap (constantOf (c .key)) w
 
--- of each of them
-valued : (ds : List Def) (k : ℕ) → k ∈ constantKeys ds → Valued ds k (valueIn ds k)
-unfolding concat-map count valueIn
-valued [] k h = absurd (omega arith)
-valued (d ∷ ds) k h = valued-first d (d .what) ds k refl h (valued ds k)
+      mapped : (bs : List Constant) → Every (λ (c : Constant). List·Memᴰ c cs) bs
+          → Every Source (definedAlone (u .line) (constants bs) ++ [])
+      mapped [] a = tt
+      mapped (c ∷ bs) a = (
+        λ y q. (u, cs, m, e, subst (λ (z : Constant). List·Memᴰ z cs) (pair c y q) (a .0)),
+        mapped bs (a .1),
+      )
+  sources u m (single (assignment k t)) e = (λ y q. absurd (let z : _≡_ {A = ℕ} 0 1 = cc in omega arith), tt)
+  sources u m (single (state k i t)) e = (λ y q. absurd (let z : _≡_ {A = ℕ} 0 1 = cc in omega arith), tt)
+  sources u m (block os is ns z) e =
+      rw (block-defined (u .line) os is ns z)
+      (every-part Source (λ (n : Inner). definedInside (n .line) (n .key) (n .sets))
+      (λ n. inside-source (n .line) (n .key) (n .sets)) ns)
 
--- ---- 23: the names of initials are those of constants
-initials-known : (ds es : List Def) → nameFaults ds es ≡ [] → (i : ℕ) → i < length es
-    → (k : ℕ) → k ∈ initialOf (definitionAt es i .what) → k ∈ constantKeys ds
-unfolding concat-map
-initials-known ds [] e i h = absurd (omega arith)
-initials-known ds (d ∷ es) e zero h =
-    let a = within (namedBy (d .what)) (keys ds) in
-    let b = within (initialOf (d .what)) (constantKeys ds) in
-    let p = none-left (nameFault a b (d .line)) (nameFaults ds es) e in
-    within-in (initialOf (d .what)) (constantKeys ds) (no-name-fault a b (d .line) (p .0) .1)
-initials-known ds (d ∷ es) e (suc i) h =
-    let a = within (namedBy (d .what)) (keys ds) in
-    let b = within (initialOf (d .what)) (constantKeys ds) in
-    initials-known ds es (none-left (nameFault a b (d .line)) (nameFaults ds es) e .1) i (omega arith)
+  -- of all
+  all-sources : Every Source (definitions us)
+  all-sources =
+      subst (Every Source) (sym (definitions-parts us))
+      (every-concat (λ (u : TextUnit). List·Memᴰ u us) Source definedIn (λ u m. sources u m (u .body) refl) us
+      (every-member (λ (u : TextUnit). List·Memᴰ u us) us (λ u m. m)))
 
--- EACH INITIAL is resolved
-pub resolved : (ds : List Def) → nameFaults ds ds ≡ [] → (i : ℕ) → i < length ds → (n : Initial) (t : Tree)
-    → definitionAt ds i .what ≡ integral n t → InitialIs ds n (initialValue ds n)
-unfolding count
-resolved ds e i h (plain x) t w = refl
-resolved ds e i h (from k) t w =
-    valued ds k (initials-known ds ds e i h k (rw w (omega (arith, once-same k))))
+  -- ---- so a constant's name is resolved to its value
+  resolved-first : (d : Def) (w : What) (es : List Def) (k : ℕ)
+      → ((y : Float) → w ≡ constant y → Resolves us (from (d .key)) y)
+      → k ∈ constantKey (d .key) w ++ constantKeys es
+      → (k ∈ constantKeys es → Resolves us (from k) (valueIn es k))
+      → Resolves us (from k) (constantValue k (d .key) w (valueIn es k))
+  unfolding count
+  resolved-first d (constant x) es k s h f =
+      ⊎-elim (λ (q : k ≡ d .key). rw (eq-eqb k (d .key) q, q) (s x refl))
+      (λ q. rw (ne-eqb k (d .key) q) (f (omega (arith, once-other k (d .key) q)))) (eq-or-ne k (d .key))
+  resolved-first d assigned es k s h f = f h
+  resolved-first d hidden es k s h f = f h
+  resolved-first d (integral i) es k s h f = f h
+
+  resolved-among : (es : List Def) → Every Source es → (k : ℕ) → k ∈ constantKeys es
+      → Resolves us (from k) (valueIn es k)
+  unfolding concat-map count valueIn
+  resolved-among [] a k h = absurd (omega arith)
+  resolved-among (d ∷ es) a k h = resolved-first d (d .what) es k (a .0) h (resolved-among es (a .1) k)
+
+  -- EACH INITIAL is resolved: 23 stands nowhere, so its name is a constant's
+  abbrev pub EachResolved : Type 0
+  EachResolved =
+      EachAsked (λ l c. Unit {0}) (λ l k e. Unit {0}) (λ l k i e. Resolves us i (initialValue (definitions us) i))
+      (λ ns. Unit {0}) us
+
+  pub each-resolved : nameFaults (definitions us) us ≡ [] → EachResolved
+  unfolding count
+  each-resolved e =
+      every-map (λ (u : TextUnit). Known (definitions us) (u .body)) _ us (λ u h. by (u .line) (u .body) h)
+      (all-known (definitions us) us e)
+    where
+      initial : (i : Initial) → ((k : ℕ) → k ∈ initialNames i → k ∈ constantKeys (definitions us))
+          → Resolves us i (initialValue (definitions us) i)
+      initial (plain x) f = refl
+      initial (from k) f = resolved-among (definitions us) all-sources k (f k (omega (arith, once-same k)))
+
+      by : (l : ℕ) (x : UnitBody) → Known (definitions us) x
+          → Asked (λ l c. Unit {0}) (λ l k e. Unit {0}) (λ l k i e. Resolves us i (initialValue (definitions us) i))
+          (λ ns. Unit {0}) l x
+      by l (single (constants cs)) h = every-all (λ (c : Constant). Unit {0}) (λ c. tt) cs
+      by l (single (assignment k t)) h = tt
+      by l (single (state k i t)) h = initial i (h .initial)
+      by l (block os is ns z) h = tt

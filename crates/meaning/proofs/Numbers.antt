@@ -8,10 +8,11 @@ use lib.Ieee.Fits.{cond-fits, neg-fits}
 use Rattle.laws.specs.Every.{Every}
 use Rattle.laws.proofs.Every.{every-left, every-right}
 use Rattle.laws.proofs.Tests.{cond-ind}
-use Rattle.tokens.specs.Symbol.{CONSTANTS, INTGRL, TIME, INSW, LIMIT, COMPAR, Symbol, mark, number, name, word}
+use Rattle.tokens.specs.Symbol.{CONSTANTS, INTGRL, TIME, INSW, LIMIT, COMPAR, PROCED, ENDPRO, Symbol, mark, number}
+use Rattle.tokens.specs.Symbol.{name, word}
 use Rattle.drafts.specs.Tree.{Two, plus, minus, times, over, compar, Tree, value, named, time, negated, two, three}
 use Rattle.drafts.specs.Tree.{Constant, Initial, plain, from}
-use Rattle.drafts.specs.Tree.{Says, constants, assignment, state}
+use Rattle.drafts.specs.Tree.{Says, constants, assignment, state, header, ending}
 use Rattle.grammar.specs.Look.{op, isMinus, signed, Opening, group, pair, pair-of, triple, triple-of, triple-of-two}
 use Rattle.grammar.specs.Look.{Given, full, wants, give-to}
 use Rattle.grammar.specs.Look.{FactorStart, Leaf, Paren, Call, NoFactor, factorStart}
@@ -20,7 +21,7 @@ use Rattle.grammar.specs.Grammar.{Der, unsigned, sign, no-terms, add, a-term, n
 use Rattle.grammar.specs.Grammar.{opening, last, comma}
 use Rattle.grammar.specs.Grammar.{Signed, unsigned-number, signed-number, Many, one, more, Initially, of-number}
 use Rattle.grammar.specs.Grammar.{of-name}
-use Rattle.grammar.specs.Grammar.{Derives, of-constants, of-assignment, of-state}
+use Rattle.grammar.specs.Grammar.{Derives, of-constants, of-assignment, of-state, of-header, of-ending}
 use Rattle.records.specs.Proper.{Double}
 
 -- ---- of tokens, trees, openings, statements: each number is a double
@@ -80,6 +81,8 @@ abbrev pub DoubleSays : Says → Type 0
 DoubleSays (constants cs) = Every (λ (c : Constant). Double (c .worth)) cs
 DoubleSays (assignment k e) = Doubles e
 DoubleSays (state k i e) = DoubleInitial i × Doubles e
+DoubleSays (header os is) = Unit {0}
+DoubleSays ending = Unit {0}
 
 -- ---- expressions
 
@@ -117,6 +120,8 @@ double-shape (word TIME) h = tt
 double-shape (word INSW) h = tt
 double-shape (word LIMIT) h = tt
 double-shape (word COMPAR) h = tt
+double-shape (word PROCED) h = tt
+double-shape (word ENDPRO) h = tt
 
 -- so it is where the shape is known
 as-shape : (t : Symbol) {h : FactorStart} → factorStart t ≡ h → DoubleToken t → DoubleShape h
@@ -178,3 +183,5 @@ double-says (of-state {w = w} {v = v} a b) r =
       double-initially a (every-left DoubleToken w t q),
       double-tree b (every-left DoubleToken v (mark 41 ∷ []) (every-right DoubleToken w t q .1)) tt,
     )
+double-says (of-header k os is) r = tt
+double-says of-ending r = tt

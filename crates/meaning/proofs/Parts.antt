@@ -2,7 +2,7 @@
 use Prim.Native.Nat.{ℕ, zero, suc, _≤_, _<_}
 use mathlib.Core.Path.{_≡_, refl, ap, ap₂, _∙_}
 use mathlib.Core.Bool.{Bool, true, false, cond, _&&_}
-use mathlib.Core.Logic.{_⊎_, ⊎-elim}
+use mathlib.Core.Logic.{_⊎_, inl, inr, ⊎-elim}
 use mathlib.Core.List.{List, [], _∷_, _++_, map, append-nil}
 use native.Mathlib.Omega.{arith}
 use borrow.Author.Tests.{eq-eqb, ne-eqb}
@@ -10,11 +10,13 @@ use lib.Dec.{eqb}
 use lib.ListN.{length, getD}
 use Rattle.laws.specs.Lists.{concat-map}
 use Rattle.laws.proofs.Concats.{map-append}
+use Rattle.drafts.specs.Kinds.{kindConstant, kindInitial, kindStore, kindRate, kindAgain}
 use Rattle.drafts.specs.Tree.{Two, plus, minus, times, over, compar, Three, insw, limit}
 use Rattle.drafts.specs.Items.{Item, push, fetch, clock, negate, apply-two, apply-three, postfix}
-use Rattle.model.specs.Definitions.{What, constant, assigned, integral, Def, slotIn, Equation}
+use Rattle.blocks.specs.Units.{Target, stores, restores, rates, Equation}
+use Rattle.model.specs.Definitions.{What, constant, assigned, hidden, integral, Def, slotIn}
 use Rattle.records.specs.declared.Instr.{Instr}
-use Rattle.records.specs.declared.Instr.the-variants.{Constant, Initial, Store, Deriv}
+use Rattle.records.specs.declared.Instr.the-variants.{Constant, Initial, Store, Deriv, StoreAgain}
 use Rattle.records.specs.Fields.{kindOf, operandOf}
 use Rattle.records.specs.Record.{Rec, rec}
 use Rattle.program.specs.Program.{instrItem, instrTwo, instrThree, initialValue, constantRecs, initialRecs, lastInstr}
@@ -71,9 +73,24 @@ middle slot (apply-three o) = middle-three o
 abbrev pub Setting : ℕ → Type 0
 Setting k = (k ≤ 2) ⊎ (13 ≤ k)
 
+pub sets-constant : Setting kindConstant
+sets-constant = inl (omega arith)
+
+pub sets-initial : Setting kindInitial
+sets-initial = inl (omega arith)
+
+pub sets-store : Setting kindStore
+sets-store = inr (omega arith)
+
+pub sets-rate : Setting kindRate
+sets-rate = inr (omega arith)
+
+pub sets-again : Setting kindAgain
+sets-again = inr (omega arith)
+
 -- the last record of an equation
 abbrev pub lastRec : List Def → Equation → Rec
-lastRec ds e = rec (e .line) (lastInstr ds (e .held) (slotIn ds (e .key)))
+lastRec ds e = rec (e .line) (lastInstr ds (e .target) (slotIn ds (e .key)))
 
 -- ---- records of a kind and a slot
 
@@ -103,12 +120,12 @@ module _ (k s : ℕ) where
   for-concat f (a ∷ l) = for-append (f a) (concat-map f l) ∙ ap (λ r. recordsFor k s (f a) ++ r) (for-concat f l)
 
   -- a record of another kind, or of another slot, is none
-  other-kind : (r : Rec) → (kindOf (r .instr) ≡ k → ⊥) → recordsFor k s (r ∷ []) ≡ []
+  pub other-kind : (r : Rec) → (kindOf (r .instr) ≡ k → ⊥) → recordsFor k s (r ∷ []) ≡ []
   unfolding recordsFor
   other-kind r h = rw (ne-eqb (kindOf (r .instr)) k h)
 
   -- nor is one of another slot
-  other-slot : (r : Rec) → (operandOf (r .instr) ≡ s → ⊥) → recordsFor k s (r ∷ []) ≡ []
+  pub other-slot : (r : Rec) → (operandOf (r .instr) ≡ s → ⊥) → recordsFor k s (r ∷ []) ≡ []
   unfolding recordsFor
   other-slot r h = rw (ne-eqb (operandOf (r .instr)) s h) (go (eqb (kindOf (r .instr)) k))
     where
@@ -134,7 +151,7 @@ module _ (k s : ℕ) where
       → recordsFor k s (equationRecs ds e) ≡ recordsFor k s (lastRec ds e ∷ [])
   for-equation ds e c =
       let items = map (instrItem (slotIn ds)) (postfix (e .tree)) in
-      let last = lastInstr ds (e .held) (slotIn ds (e .key)) in
+      let last = lastInstr ds (e .target) (slotIn ds (e .key)) in
       ap (recordsFor k s) (map-append (rec (e .line)) items (last ∷ []))
       ∙ for-append (map (rec (e .line)) items) (lastRec ds e ∷ [])
       ∙ ap (λ r. r ++ recordsFor k s (lastRec ds e ∷ [])) (for-items (slotIn ds) (e .line) c (postfix (e .tree)))
@@ -144,22 +161,25 @@ module _ (k s : ℕ) where
       → recordsFor k s (constantRecs ds d w) ≡ []
   unfolding recordsFor
   other-constant ds d (constant x) h = other-slot (rec (d .line) (Constant (slotIn ds (d .key)) x)) h
-  other-constant ds d (assigned e) h = refl
-  other-constant ds d (integral i e) h = refl
+  other-constant ds d assigned h = refl
+  other-constant ds d hidden h = refl
+  other-constant ds d (integral i) h = refl
 
   -- nor does its initial
   pub other-initial : (ds : List Def) (d : Def) (w : What) → (slotIn ds (d .key) ≡ s → ⊥)
       → recordsFor k s (initialRecs ds d w) ≡ []
   unfolding recordsFor
   other-initial ds d (constant x) h = refl
-  other-initial ds d (assigned e) h = refl
-  other-initial ds d (integral i e) h = other-slot (rec (d .line) (Initial (slotIn ds (d .key)) (initialValue ds i))) h
+  other-initial ds d assigned h = refl
+  other-initial ds d hidden h = refl
+  other-initial ds d (integral i) h = other-slot (rec (d .line) (Initial (slotIn ds (d .key)) (initialValue ds i))) h
 
   -- nor does an equation's last record
   pub other-last : (ds : List Def) (e : Equation) → (slotIn ds (e .key) ≡ s → ⊥)
       → recordsFor k s (lastRec ds e ∷ []) ≡ []
-  other-last ds e h = go (e .held)
+  other-last ds e h = go (e .target)
     where
-      go : (b : Bool) → recordsFor k s (rec (e .line) (lastInstr ds b (slotIn ds (e .key))) ∷ []) ≡ []
-      go false = other-slot (rec (e .line) (Store (slotIn ds (e .key)))) h
-      go true = other-slot (rec (e .line) (Deriv (slotIn ds (e .key)))) h
+      go : (t : Target) → recordsFor k s (rec (e .line) (lastInstr ds t (slotIn ds (e .key))) ∷ []) ≡ []
+      go stores = other-slot (rec (e .line) (Store (slotIn ds (e .key)))) h
+      go restores = other-slot (rec (e .line) (StoreAgain (slotIn ds (e .key)))) h
+      go rates = other-slot (rec (e .line) (Deriv (slotIn ds (e .key)))) h

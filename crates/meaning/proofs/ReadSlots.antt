@@ -113,12 +113,12 @@ begun-marked q u =
 
 module _ (p : List ℕ) (v d : List Float) (accepted : refusal p v d ≡ answer 0 0) where
   -- evaluating is the run
-  pub evaluated-ran : evaluated p v d ≡ runOutcome (answer 0 0) (ran p v d .values) (ran p v d .derivs)
+  evaluated-ran : evaluated p v d ≡ runOutcome (answer 0 0) (ran p v d .values) (ran p v d .derivs)
   unfolding evaluated
   evaluated-ran = rw accepted
 
   -- what is read is not set
-  pub read-apart : (s : ℕ) → (s ≡ 0) ⊎ StateSlot (shapes p) s → SetSlot (shapes p) s → ⊥
+  read-apart : (s : ℕ) → (s ≡ 0) ⊎ StateSlot (shapes p) s → SetSlot (shapes p) s → ⊥
   read-apart s r z =
       let a = refusal-judge p v d (ap (λ (x : Answer). x .number) accepted) in
       let g = granted {r = answer 0 0} (sym accepted) refl in
@@ -133,7 +133,7 @@ module _ (p : List ℕ) (v d : List Float) (accepted : refusal p v d ≡ answer 
       state-apart (decoded p) 0 judge₀ a s (rw long b) t z) r
 
   -- it writes constants, stored slots and derivatives alone
-  pub others-stay : OthersStay (shapes p) v d (evaluated p v d)
+  others-stay : OthersStay (shapes p) v d (evaluated p v d)
   others-stay =
       let stays = run-stays (decoded p) (begun v d) in
       rw evaluated-ran

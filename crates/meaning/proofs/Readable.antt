@@ -1,7 +1,7 @@
 -- Every instruction of a text's program can be held by a record: its slot is one of those that there are, and its value
 -- is a double.
 use Prim.Native.Nat.{ℕ, _≤_, _<_}
-use mathlib.Core.Bool.{Bool, true, false}
+use mathlib.Core.Logic.{inl, inr}
 use mathlib.Core.List.{List, [], _∷_, _++_}
 use native.Mathlib.Omega.{arith}
 use lib.Dec.{eqb, lit<}
@@ -9,7 +9,7 @@ use lib.ListN.{length}
 use lib.Ieee.{Float, binary64}
 use lib.Ieee.Fits.{cond-fits, nan-fits}
 use Rattle.laws.specs.Every.{Every}
-use Rattle.laws.proofs.Every.{every-append, every-at}
+use Rattle.laws.proofs.Every.{every-append, every-part}
 use Rattle.limits.specs.Limits.{slots, mostDefinitions}
 use Rattle.laws.specs.Lists.{concat-map}
 use Rattle.laws.specs.Counts.{count, _∈_}
@@ -18,20 +18,23 @@ use Rattle.drafts.specs.Tree.{Two, plus, minus, times, over, compar, Three, ins
 use Rattle.drafts.specs.Tree.{negated, two, three, names}
 use Rattle.drafts.specs.Tree.{Initial, plain, from}
 use Rattle.order.proofs.Sorting.{perm-below}
-use Rattle.model.specs.Definitions.{What, constant, assigned, integral, Def, keys, slotIn, equations, noEquation}
-use Rattle.model.specs.Definitions.{equationAt, equationCount}
-use Rattle.model.specs.Faults.{usesIn, GoodOrder}
+use Rattle.blocks.specs.Units.{Target, stores, restores, rates, Equation, TextUnit}
+use Rattle.blocks.specs.Sound.{UnitsSound}
+use Rattle.model.specs.Definitions.{What, constant, assigned, hidden, integral, Def, definitions, keys, slotIn, unitAt}
+use Rattle.model.specs.Definitions.{unitCount}
+use Rattle.model.specs.Faults.{outsideKeys, usesIn, GoodOrder}
 use Rattle.model.proofs.KeyPlaces.{Once}
 use Rattle.records.specs.Record.{instrs}
 use Rattle.program.specs.Program.{instrTwo, instrThree, constantValue, valueIn, initialValue, constantRecs, initialRecs}
 use Rattle.program.specs.Program.{lastInstr, program}
 use Rattle.records.specs.Proper.{Double, Proper}
 use Rattle.meaning.proofs.Numbers.{Doubles, DoubleInitial}
-use Rattle.meaning.proofs.Texts.{FitsTree, FitsWhat, FitsAll, equations-fit}
+use Rattle.meaning.proofs.Texts.{FitsUnits, FitsWhat, FitsAll, FitsRow, definitions-fit, rows-fit}
 use Rattle.meaning.proofs.Postfix.{steps}
-use Rattle.meaning.proofs.Owned.{eq-mine, slot-mine}
-use Rattle.meaning.proofs.Runs.{instrs-append, constantPart, initialPart, orderedPart, program-parts}
-use Rattle.meaning.proofs.Runs.{ordered-first}
+use Rattle.meaning.proofs.Owned.{count-names, at-most, runsAt, slot-mine}
+use Rattle.meaning.proofs.Runs.{instrs-append, orderedRuns, constantPart, initialPart, rowRecs, row-first}
+use Rattle.meaning.proofs.Runs.{program-parts}
+use Rattle.meaning.proofs.Ready.{IsSet, InTurn, Ready, order-ready}
 
 -- ---- expressions
 
@@ -78,8 +81,9 @@ module _ (slot : ℕ → ℕ) where
 -- ---- a constant's value is a double
 double-one : (j k : ℕ) (w : What) (y : Float) → FitsWhat w → Double y → Double (constantValue j k w y)
 double-one j k (constant x) y a b = cond-fits binary64 (eqb j k) x y a b
-double-one j k (assigned e) y a b = b
-double-one j k (integral i e) y a b = b
+double-one j k assigned y a b = b
+double-one j k hidden y a b = b
+double-one j k (integral i) y a b = b
 
 -- so is the value of a name
 double-value : (ds : List Def) (j : ℕ) → FitsAll ds → Double (valueIn ds j)
@@ -87,21 +91,25 @@ unfolding valueIn
 double-value [] j a = nan-fits binary64
 double-value (d ∷ ds) j a = double-one j (d .key) (d .what) (valueIn ds j) (a .0) (double-value ds j (a .1))
 
-module _ (ds : List Def) (one : Once (keys ds)) (few : length ds ≤ mostDefinitions) (fit : FitsAll ds)
-    (known : (j : ℕ) → j < equationCount ds → (k : ℕ) → k ∈ names (equationAt ds j .tree) → k ∈ keys ds) where
+module _ (us : List TextUnit) (one : Once (keys (definitions us))) (few : length (definitions us) ≤ mostDefinitions)
+    (fit : FitsUnits us) where
+  abbrev ds : List Def
+  ds = definitions us
+
   -- a defined name has a slot
   inside : (k : ℕ) → k ∈ keys ds → slotIn ds k < slots
-  inside k h = omega (arith, slot-mine ds one k h)
+  inside k h = omega (arith, slot-mine us one k h)
 
   -- an initial's value is a double
   double-initial : (i : Initial) → DoubleInitial i → Double (initialValue ds i)
   double-initial (plain x) a = a
-  double-initial (from k) a = double-value ds k fit
+  double-initial (from k) a = double-value ds k (definitions-fit us fit)
 
   -- the last record of an equation
-  proper-last : (b : Bool) (s : ℕ) → s < slots → Proper (lastInstr ds b s)
-  proper-last false s h = h
-  proper-last true s h = h
+  proper-last : (t : Target) (s : ℕ) → s < slots → Proper (lastInstr ds t s)
+  proper-last stores s h = h
+  proper-last restores s h = h
+  proper-last rates s h = h
 
   -- what is among the keys of es is defined
   abbrev Among : List Def → Type 0
@@ -119,8 +127,9 @@ module _ (ds : List Def) (one : Once (keys ds)) (few : length ds ≤ mostDefinit
     where
       by : (w : What) → FitsWhat w → slotIn ds (d .key) < slots → Every Proper (instrs (constantRecs ds d w))
       by (constant x) a h = ((h, a), tt)
-      by (assigned e) a h = tt
-      by (integral i e) a h = tt
+      by assigned a h = tt
+      by hidden a h = tt
+      by (integral i) a h = tt
 
   -- the initials
   proper-initials : (es : List Def) → FitsAll es → Among es → Every Proper (instrs (initialPart ds es))
@@ -134,28 +143,43 @@ module _ (ds : List Def) (one : Once (keys ds)) (few : length ds ≤ mostDefinit
     where
       by : (w : What) → FitsWhat w → slotIn ds (d .key) < slots → Every Proper (instrs (initialRecs ds d w))
       by (constant x) a h = tt
-      by (assigned e) a h = tt
-      by (integral i e) a h = ((h, double-initial i (a .0)), tt)
+      by assigned a h = tt
+      by hidden a h = tt
+      by (integral i) a h = ((h, double-initial i a), tt)
 
-  -- the equations
-  proper-order : (q : List ℕ) → ((i : ℕ) → i ∈ q → i < equationCount ds) → Every Proper (instrs (orderedPart ds q))
-  unfolding concat-map count
-  proper-order [] b = tt
-  proper-order (i ∷ q) b =
-      let e = equationAt ds i in
-      let hi = b i (omega (arith, once-same i)) in
-      let tree = every-at (λ e. FitsTree (e .tree)) (equations ds) noEquation (equations-fit ds fit) i hi .0 in
-      rw (ordered-first ds i q)
+  -- a name that is set, and one that is set in its turn, is defined
+  set-mine : (es : List Equation) (k : ℕ) → IsSet ds es k → k ∈ keys ds
+  set-mine es k (inl h) = omega (arith, count-names k ds)
+  set-mine es k (inr (inl h)) = omega (arith, count-names k ds)
+  set-mine es k (inr (inr h)) = omega (arith, h .0, count-names k ds)
+
+  turn-mine : (es : List Equation) (k : ℕ) (t : Target) → InTurn ds es k t → k ∈ keys ds
+  turn-mine es k stores h = omega (arith, h .0, count-names k ds)
+  turn-mine es k restores h = omega (arith, h .0, count-names k ds)
+  turn-mine es k rates h = omega (arith, h .0, count-names k ds)
+
+  -- the equations of a row that is ready
+  proper-row : (es r : List Equation) → Ready ds es r → FitsRow r → Every Proper (instrs (rowRecs ds r))
+  unfolding concat-map
+  proper-row es [] a f = tt
+  proper-row es (e ∷ r) a f =
+      rw (row-first ds e r)
       (every-append Proper (steps (slotIn ds) (e .tree)) _
-      (proper-tree (slotIn ds) (e .tree) tree (λ k h. inside k (known i hi k h))) (
-        proper-last (e .held) (slotIn ds (e .key)) (inside (e .key) (eq-mine ds one i hi)),
-        proper-order q (λ m h. b m (omega arith)),
+      (proper-tree (slotIn ds) (e .tree) (f .0 .0) (λ k h. inside k (set-mine es k (a .0 k h)))) (
+        proper-last (e .target) (slotIn ds (e .key)) (inside (e .key) (turn-mine es (e .key) (e .target) (a .1))),
+        proper-row (es ++ (e ∷ [])) r (a .2) (f .1),
       ))
 
   -- THE PROGRAM of a good order
-  pub readable : (q : List ℕ) → GoodOrder ds q → Every Proper (instrs (program ds q))
-  readable q g =
-      rw (program-parts ds q)
-      (every-append Proper (instrs (constantPart ds ds)) _ (proper-constants ds fit (λ k h. h))
-      (every-append Proper (instrs (initialPart ds ds)) _ (proper-initials ds fit (λ k h. h))
-      (proper-order q (perm-below (equationCount ds) (usesIn ds) q (g .perm)))))
+  pub readable : UnitsSound us
+      → ((i : ℕ) → i < unitCount us → (k : ℕ) → k ∈ unitAt us i .reads → k ∈ outsideKeys ds)
+      → (q : List ℕ) → GoodOrder us q → Every Proper (instrs (program us q))
+  unfolding concat-map
+  readable sound known q g =
+      let fits = definitions-fit us fit in
+      let ready = order-ready us sound one known [] q (g .after) (at-most us q g)
+      (perm-below (unitCount us) (usesIn us) q (g .perm)) in
+      rw (program-parts us q)
+      (every-append Proper (instrs (constantPart ds ds)) _ (proper-constants ds fits (λ k h. h))
+      (every-append Proper (instrs (initialPart ds ds)) _ (proper-initials ds fits (λ k h. h))
+      (proper-row [] (orderedRuns us q) ready (every-part _ (runsAt us) (rows-fit us fit) q))))

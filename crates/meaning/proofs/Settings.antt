@@ -11,17 +11,16 @@ use Rattle.laws.specs.Lists.{concat-map}
 use Rattle.laws.specs.Counts.{count, _∈_}
 use Rattle.laws.proofs.Tests.{eq-or-ne}
 use Rattle.laws.proofs.Counts.{once-same, once-other}
-use Rattle.model.specs.Definitions.{What, constant, assigned, integral, Def, keys, slotIn, Equation, equationOf}
-use Rattle.model.specs.Definitions.{equations}
+use Rattle.laws.specs.Places.{onlyIf}
+use Rattle.model.specs.Definitions.{What, constant, assigned, hidden, integral, Def, keys, slotIn}
 use Rattle.model.specs.Faults.{constantKey, constantKeys}
-use Rattle.model.proofs.KeyPlaces.{Once, place-same}
+use Rattle.model.proofs.KeyPlaces.{Once, place-same, isState}
 use Rattle.records.specs.declared.Instr.{Instr}
 use Rattle.records.specs.declared.Instr.the-variants.{Constant, Initial}
 use Rattle.records.specs.Record.{instrs}
 use Rattle.program.specs.Program.{initialValue, constantRecs, initialRecs}
-use Rattle.evaluator.specs.Judge.{unsetMark, givenMark, stateMark}
 use Rattle.evaluator.proofs.JudgedRows.{judgeAt, Leads, leads-append, leads-one}
-use Rattle.meaning.proofs.Settle.{heldKeys}
+use Rattle.meaning.proofs.Owned.{stateNames}
 use Rattle.meaning.proofs.Runs.{instrs-append, constantPart, initialPart}
 
 -- the judge takes xs with nothing on the stack, in a phase up to b, and is again in such a phase then
@@ -102,7 +101,7 @@ module _ (ds : List Def) where
   pub record Open (ks l : List ℕ) : Type 0 where
     pub once : Once ks
     pub mine : (k : ℕ) → k ∈ ks → k ∈ keys ds
-    pub none : (k : ℕ) → k ∈ ks → getD l (slot k) 0 ≡ unsetMark
+    pub none : (k : ℕ) → k ∈ ks → getD l (slot k) 0 ≡ 0
 
   -- the first is set, the others are open
   open-next : (k x : ℕ) (ks l : List ℕ) → Open (k ∷ ks) l → Open ks (set l (slot k) x)
@@ -121,28 +120,29 @@ module _ (ds : List Def) where
             ∙ o .none j (omega arith);
       }
 
-  -- the first is not set
-  open-first : (k : ℕ) (ks l : List ℕ) → Open (k ∷ ks) l → getD l (slot k) 0 ≡ unsetMark
+  -- the mark of the first is 0
+  open-first : (k : ℕ) (ks l : List ℕ) → Open (k ∷ ks) l → getD l (slot k) 0 ≡ 0
   unfolding count
   open-first k ks l o = o .none k (omega (arith, once-same k))
 
   -- one definition more in front
   pass-constant : (a : Def) (w : What) (R : List Instr) (ks l : List ℕ) → Open (constantKey (a .key) w ++ ks) l
-      → ((l : List ℕ) → Open ks l → Passes 1 l R (marksOn slot givenMark ks l))
-      → Passes 1 l (instrs (constantRecs ds a w) ++ R) (marksOn slot givenMark (constantKey (a .key) w ++ ks) l)
+      → ((l : List ℕ) → Open ks l → Passes 1 l R (marksOn slot 1 ks l))
+      → Passes 1 l (instrs (constantRecs ds a w) ++ R) (marksOn slot 1 (constantKey (a .key) w ++ ks) l)
   unfolding marksOn
   pass-constant a (constant x) R ks l o f =
       let s = slot (a .key) in
-      let fine = eq-eqb (getD l s 0) unsetMark (open-first (a .key) ks l o) in
-      passes-append 1 l (set l s givenMark) _ (Constant s x ∷ []) R
+      let fine = eq-eqb (getD l s 0) 0 (open-first (a .key) ks l o) in
+      passes-append 1 l (set l s 1) _ (Constant s x ∷ []) R
       (λ p h. (1, omega arith, leads-one (judgeAt p 0 l) (Constant s x) (omega arith) (omega arith) h fine))
-      (f (set l s givenMark) (open-next (a .key) givenMark ks l o))
-  pass-constant a (assigned e) R ks l o f = f l o
-  pass-constant a (integral i e) R ks l o f = f l o
+      (f (set l s 1) (open-next (a .key) 1 ks l o))
+  pass-constant a assigned R ks l o f = f l o
+  pass-constant a hidden R ks l o f = f l o
+  pass-constant a (integral i) R ks l o f = f l o
 
-  -- CONSTANTS: each marks its slot as given
+  -- CONSTANTS: each sets mark 1
   pub pass-constants : (es : List Def) (l : List ℕ) → Open (constantKeys es) l
-      → Passes 1 l (instrs (constantPart ds es)) (marksOn slot givenMark (constantKeys es) l)
+      → Passes 1 l (instrs (constantPart ds es)) (marksOn slot 1 (constantKeys es) l)
   unfolding concat-map marksOn
   pass-constants [] l o = passes-none 1 l
   pass-constants (a ∷ es) l o =
@@ -150,27 +150,26 @@ module _ (ds : List Def) where
       (pass-constant a (a .what) _ (constantKeys es) l o (pass-constants es))
 
   -- one definition more in front
-  pass-initial : (a : Def) (w : What) (R : List Instr) (es : List Equation) (l : List ℕ)
-      → Open (heldKeys (equationOf (a .line) (a .key) w ++ es)) l
-      → ((l : List ℕ) → Open (heldKeys es) l → Passes 2 l R (marksOn slot stateMark (heldKeys es) l))
-      → Passes 2 l (instrs (initialRecs ds a w) ++ R)
-      (marksOn slot stateMark (heldKeys (equationOf (a .line) (a .key) w ++ es)) l)
-  unfolding marksOn heldKeys
-  pass-initial a (constant x) R es l o f = f l o
-  pass-initial a (assigned e) R es l o f = f l o
-  pass-initial a (integral i e) R es l o f =
+  pass-initial : (a : Def) (w : What) (R : List Instr) (ks l : List ℕ) → Open (onlyIf (isState w) (a .key) ++ ks) l
+      → ((l : List ℕ) → Open ks l → Passes 2 l R (marksOn slot 2 ks l))
+      → Passes 2 l (instrs (initialRecs ds a w) ++ R) (marksOn slot 2 (onlyIf (isState w) (a .key) ++ ks) l)
+  unfolding marksOn
+  pass-initial a (constant x) R ks l o f = f l o
+  pass-initial a assigned R ks l o f = f l o
+  pass-initial a hidden R ks l o f = f l o
+  pass-initial a (integral i) R ks l o f =
       let s = slot (a .key) in
       let x = initialValue ds i in
-      let fine = eq-eqb (getD l s 0) unsetMark (open-first (a .key) (heldKeys es) l o) in
-      passes-append 2 l (set l s stateMark) _ (Initial s x ∷ []) R
+      let fine = eq-eqb (getD l s 0) 0 (open-first (a .key) ks l o) in
+      passes-append 2 l (set l s 2) _ (Initial s x ∷ []) R
       (λ p h. (2, omega arith, leads-one (judgeAt p 0 l) (Initial s x) (omega arith) (omega arith) h fine))
-      (f (set l s stateMark) (open-next (a .key) stateMark (heldKeys es) l o))
+      (f (set l s 2) (open-next (a .key) 2 ks l o))
 
-  -- INITIALS: each marks its slot as a state's
-  pub pass-initials : (es : List Def) (l : List ℕ) → Open (heldKeys (equations es)) l
-      → Passes 2 l (instrs (initialPart ds es)) (marksOn slot stateMark (heldKeys (equations es)) l)
-  unfolding concat-map marksOn heldKeys
+  -- INITIALS: each sets mark 2
+  pub pass-initials : (es : List Def) (l : List ℕ) → Open (stateNames es) l
+      → Passes 2 l (instrs (initialPart ds es)) (marksOn slot 2 (stateNames es) l)
+  unfolding concat-map marksOn
   pass-initials [] l o = passes-none 2 l
   pass-initials (a ∷ es) l o =
       rw (instrs-append (initialRecs ds a (a .what)) (initialPart ds es))
-      (pass-initial a (a .what) _ (equations es) l o (pass-initials es))
+      (pass-initial a (a .what) _ (stateNames es) l o (pass-initials es))

@@ -1,9 +1,9 @@
 -- What is done for each state of a program, one after the other: a slot is set from what it held and its initial value,
 -- and nothing else changes. So it is with starting and with a step.
 use Prim.Native.Nat.{ℕ, zero, suc, _≤_, _<_}
-use mathlib.Core.Path.{_≡_, refl, sym, ap, _∙_}
+use mathlib.Core.Path.{_≡_, refl, sym, ap, subst, _∙_}
+use mathlib.Core.Bool.{true}
 use mathlib.Core.Logic.{_⊎_, ⊎-elim}
-use mathlib.Core.Bool.{Bool, true, false}
 use mathlib.Core.List.{List, [], _∷_, _++_}
 use native.Mathlib.Omega.{arith}
 use lib.ListN.{length, getD, set, length-set}
@@ -11,20 +11,24 @@ use lib.Seq.{getD-set-same, getD-set-other}
 use lib.Ieee.{Float, nan}
 use Rattle.limits.specs.Limits.{slots, mostDefinitions}
 use Rattle.laws.specs.Lists.{concat-map}
+use Rattle.laws.specs.Every.{Every}
+use Rattle.laws.specs.Counts.{_∈_}
+use Rattle.laws.proofs.Tests.{not-both}
 use Rattle.drafts.specs.Tree.{Two, plus, minus, times, over, compar, Three, insw, limit, Tree, value, named, time}
 use Rattle.drafts.specs.Tree.{negated, two, three}
-use Rattle.model.specs.Definitions.{What, constant, assigned, integral, Def, keys, slotIn, equationAt}
-use Rattle.model.proofs.KeyPlaces.{Once}
+use Rattle.blocks.specs.Units.{Target, stores, restores, rates, Equation, TextUnit}
+use Rattle.model.specs.Definitions.{What, constant, assigned, hidden, integral, Def, definitions, keys, slotIn}
+use Rattle.model.proofs.KeyPlaces.{Once, noDef}
 use Rattle.records.specs.declared.Instr.{Instr}
 use Rattle.records.specs.Record.{instrs}
 use Rattle.program.specs.Program.{instrTwo, instrThree, initialValue, constantRecs, initialRecs, lastInstr, program}
 use Rattle.records.specs.Shape.{shapeOf}
 use Rattle.evaluator.specs.Evaluate.{ifInitial, eachState}
-use Rattle.meaning.specs.Slots.{definitionAt}
 use Rattle.meaning.proofs.Postfix.{steps}
-use Rattle.meaning.proofs.Owned.{slot-at}
-use Rattle.meaning.proofs.Runs.{instrs-append, constantPart, initialPart, orderedPart, program-parts}
-use Rattle.meaning.proofs.Runs.{ordered-first}
+use Rattle.meaning.proofs.Rows.{every-of, every-places}
+use Rattle.meaning.proofs.Owned.{isStored, storedNames, stored-def, slot-at}
+use Rattle.meaning.proofs.Runs.{instrs-append, orderedRuns, constantPart, initialPart, rowRecs, row-first}
+use Rattle.meaning.proofs.Runs.{program-parts}
 
 -- `to` gives what a slot gets, from what it holds, the slot and its initial value
 module _ (to : Float → ℕ → Float → Float) where
@@ -78,23 +82,23 @@ module _ (to : Float → ℕ → Float → Float) where
     slot = slotIn ds
 
     -- not the last record of an equation
-    all-last : (b : Bool) (s : ℕ) (v : List Float) → at-record v (lastInstr ds b s) ≡ v
-    all-last false s v = refl
-    all-last true s v = refl
+    all-last : (t : Target) (s : ℕ) (v : List Float) → at-record v (lastInstr ds t s) ≡ v
+    all-last stores s v = refl
+    all-last restores s v = refl
+    all-last rates s v = refl
 
     -- so no equation
-    all-ordered : (q : List ℕ) (v : List Float) → all v (instrs (orderedPart ds q)) ≡ v
+    all-row : (es : List Equation) (v : List Float) → all v (instrs (rowRecs ds es)) ≡ v
     unfolding concat-map eachState
-    all-ordered [] v = refl
-    all-ordered (i ∷ q) v =
-        let e = equationAt ds i in
-        let R = instrs (orderedPart ds q) in
-        let last = lastInstr ds (e .held) (slot (e .key)) in
-        ap (all v) (ordered-first ds i q)
+    all-row [] v = refl
+    all-row (e ∷ es) v =
+        let R = instrs (rowRecs ds es) in
+        let last = lastInstr ds (e .target) (slot (e .key)) in
+        ap (all v) (row-first ds e es)
         ∙ all-append v (steps slot (e .tree)) (last ∷ R)
         ∙ ap (λ (z : List Float). all z (last ∷ R)) (all-tree slot (e .tree) v)
-        ∙ ap (λ (z : List Float). all z R) (all-last (e .held) (slot (e .key)) v)
-        ∙ all-ordered q v
+        ∙ ap (λ (z : List Float). all z R) (all-last (e .target) (slot (e .key)) v)
+        ∙ all-row es v
 
     -- and no constant
     all-constants : (es : List Def) (v : List Float) → all v (instrs (constantPart ds es)) ≡ v
@@ -110,57 +114,54 @@ module _ (to : Float → ℕ → Float → Float) where
       where
         by : (w : What) → all v (instrs (constantRecs ds a w)) ≡ v
         by (constant x) = refl
-        by (assigned e) = refl
-        by (integral i e) = refl
-
-    -- the initials are all
-    all-program : (q : List ℕ) (v : List Float)
-        → all v (instrs (program ds q)) ≡ all v (instrs (initialPart ds ds))
-    all-program q v =
-        let C = instrs (constantPart ds ds) in
-        let I = instrs (initialPart ds ds) in
-        let Q = instrs (orderedPart ds q) in
-        rw (program-parts ds q, all-append v C (I ++ Q), all-constants ds v, all-append v I Q)
-        (all-ordered q (all v I))
+        by assigned = refl
+        by hidden = refl
+        by (integral i) = refl
 
     -- ---- the initials
 
     -- what one definition sets
     abbrev put : ℕ → What → List Float → List Float
     put s (constant x) v = v
-    put s (assigned e) v = v
-    put s (integral i e) v = one v s (initialValue ds i)
+    put s assigned v = v
+    put s hidden v = v
+    put s (integral i) v = one v s (initialValue ds i)
 
     -- what its slot holds then
-    abbrev pub held : ℕ → What → List Float → Float
+    abbrev held : ℕ → What → List Float → Float
     held s (constant x) v = getD v s nan
-    held s (assigned e) v = getD v s nan
-    held s (integral i e) v = to (getD v s nan) s (initialValue ds i)
+    held s assigned v = getD v s nan
+    held s hidden v = getD v s nan
+    held s (integral i) v = to (getD v s nan) s (initialValue ds i)
 
     -- it holds that
     put-own : (s : ℕ) (w : What) (v : List Float) → s < length v → getD (put s w v) s nan ≡ held s w v
     put-own s (constant x) v h = refl
-    put-own s (assigned e) v h = refl
-    put-own s (integral i e) v h = getD-set-same v s (to (getD v s nan) s (initialValue ds i)) nan h
+    put-own s assigned v h = refl
+    put-own s hidden v h = refl
+    put-own s (integral i) v h = getD-set-same v s (to (getD v s nan) s (initialValue ds i)) nan h
 
     -- another slot keeps its value
     put-other : (s p : ℕ) (w : What) (v : List Float) → (s ≡ p → ⊥) → getD (put s w v) p nan ≡ getD v p nan
     put-other s p (constant x) v h = refl
-    put-other s p (assigned e) v h = refl
-    put-other s p (integral i e) v h = getD-set-other v s p (to (getD v s nan) s (initialValue ds i)) nan
+    put-other s p assigned v h = refl
+    put-other s p hidden v h = refl
+    put-other s p (integral i) v h = getD-set-other v s p (to (getD v s nan) s (initialValue ds i)) nan
         (λ e. h (sym e))
 
     -- as many values as before
     put-long : (s : ℕ) (w : What) (v : List Float) → length (put s w v) ≡ length v
     put-long s (constant x) v = refl
-    put-long s (assigned e) v = refl
-    put-long s (integral i e) v = length-set v s (to (getD v s nan) s (initialValue ds i))
+    put-long s assigned v = refl
+    put-long s hidden v = refl
+    put-long s (integral i) v = length-set v s (to (getD v s nan) s (initialValue ds i))
 
     -- that does not depend on other places
     held-same : (s : ℕ) (w : What) (u v : List Float) → getD u s nan ≡ getD v s nan → held s w u ≡ held s w v
     held-same s (constant x) u v e = e
-    held-same s (assigned t) u v e = e
-    held-same s (integral i t) u v e = ap (λ (a : Float). to a s (initialValue ds i)) e
+    held-same s assigned u v e = e
+    held-same s hidden u v e = e
+    held-same s (integral i) u v e = ap (λ (a : Float). to a s (initialValue ds i)) e
 
     -- the values after the initials of these definitions
     abbrev after : List Def → List Float → List Float
@@ -175,8 +176,9 @@ module _ (to : Float → ℕ → Float → Float) where
         by : (w : What) → all v (instrs (initialRecs ds a w) ++ instrs (initialPart ds es))
             ≡ after es (put (slot (a .key)) w v)
         by (constant x) = refl
-        by (assigned e) = refl
-        by (integral i e) = refl
+        by assigned = refl
+        by hidden = refl
+        by (integral i) = refl
 
     -- as many values as before
     after-long : (es : List Def) (v : List Float) → length (after es v) ≡ length v
@@ -185,12 +187,15 @@ module _ (to : Float → ℕ → Float → Float) where
     after-long (a ∷ es) v = ap length (after-first a es v) ∙ after-long es (put (slot (a .key)) (a .what) v)
         ∙ put-long (slot (a .key)) (a .what) v
 
-    -- the slot of definition j
-    abbrev slotOf : List Def → ℕ → ℕ
-    slotOf es j = slot (definitionAt es j .key)
+    -- the definition at place j, and its slot
+    abbrev defAt : List Def → ℕ → Def
+    defAt es j = getD es j noDef
+
+    abbrev slotAt : List Def → ℕ → ℕ
+    slotAt es j = slot (defAt es j .key)
 
     -- a place that is none of their slots stays
-    after-other : (es : List Def) (v : List Float) (p : ℕ) → ((j : ℕ) → j < length es → slotOf es j ≡ p → ⊥)
+    after-other : (es : List Def) (v : List Float) (p : ℕ) → ((j : ℕ) → j < length es → slotAt es j ≡ p → ⊥)
         → getD (after es v) p nan ≡ getD v p nan
     unfolding concat-map eachState
     after-other [] v p h = refl
@@ -201,8 +206,8 @@ module _ (to : Float → ℕ → Float → Float) where
 
     -- the slot of definition i holds what it sets, if no other has it
     after-own : (es : List Def) (v : List Float) (i : ℕ) → i < length es
-        → ((j : ℕ) → j < length es → (j ≡ i → ⊥) → slotOf es j ≡ slotOf es i → ⊥) → slotOf es i < length v
-        → getD (after es v) (slotOf es i) nan ≡ held (slotOf es i) (definitionAt es i .what) v
+        → ((j : ℕ) → j < length es → (j ≡ i → ⊥) → slotAt es j ≡ slotAt es i → ⊥) → slotAt es i < length v
+        → getD (after es v) (slotAt es i) nan ≡ held (slotAt es i) (defAt es i .what) v
     after-own [] v i m h l = absurd (omega arith)
     after-own (a ∷ es) v zero m h l =
         let s = slot (a .key) in
@@ -210,33 +215,70 @@ module _ (to : Float → ℕ → Float → Float) where
         ∙ after-other es (put s (a .what) v) s (λ j n. h (suc j) (omega arith) (λ e. omega arith))
         ∙ put-own s (a .what) v l
     after-own (a ∷ es) v (suc i) m h l =
-        let s = slotOf es i in
+        let s = slotAt es i in
         let v′ = put (slot (a .key)) (a .what) v in
         ap (λ (z : List Float). getD z s nan) (after-first a es v)
         ∙ after-own es v′ i (omega arith) (λ j n e. h (suc j) (omega arith) (λ q. e (omega arith)))
         (rw (put-long (slot (a .key)) (a .what) v) l)
-        ∙ held-same s (definitionAt es i .what) v′ v
+        ∙ held-same s (defAt es i .what) v′ v
         (put-other (slot (a .key)) s (a .what) v (h 0 (omega arith) (λ e. omega arith)))
 
-    -- ---- a program in which each name is defined once, with a place for each
-    module _ (once : Once (keys ds)) (few : length ds ≤ mostDefinitions) (q : List ℕ) (v : List Float)
-        (lv : slots ≤ length v) where
-      -- as many values as before
-      pub states-long : length (all v (instrs (program ds q))) ≡ length v
-      states-long = ap length (all-program q v) ∙ after-long ds v
+  -- ---- a program in which each name is defined once, with a place for each
+  module _ (us : List TextUnit) (once : Once (keys (definitions us))) (few : length (definitions us) ≤ mostDefinitions)
+      (q : List ℕ) (v : List Float) (lv : slots ≤ length v) where
+    -- the values after it
+    abbrev allStates : List Float
+    allStates = all v (instrs (program us q))
 
-      -- TIME and the places behind the last definition stay
-      pub states-rest : (p : ℕ) → (p ≡ 0) ⊎ (length ds < p) → getD (all v (instrs (program ds q))) p nan ≡ getD v p nan
-      states-rest p h =
-          ap (λ (z : List Float). getD z p nan) (all-program q v)
-          ∙ after-other ds v p (λ j m e. ⊎-elim (λ z. omega arith) (λ z. omega (arith, slot-at ds once j m)) h)
+    -- the initials are all
+    all-program : allStates ≡ after (definitions us) (definitions us) v
+    all-program =
+        let ds = definitions us in
+        let C = instrs (constantPart ds ds) in
+        let I = instrs (initialPart ds ds) in
+        let Q = instrs (rowRecs ds (orderedRuns us q)) in
+        rw (program-parts us q, all-append v C (I ++ Q), all-constants ds ds v, all-append v I Q)
+        (all-row ds (orderedRuns us q) (all v I))
 
-      -- the slot of a definition gets what it must
-      pub states-own : (i : ℕ) → i < length ds → getD (all v (instrs (program ds q))) (slotOf ds i) nan
-          ≡ held (slotOf ds i) (definitionAt ds i .what) v
-      states-own i h =
-          let own = slot-at ds once i h in
-          let apart : (j : ℕ) → j < length ds → (j ≡ i → ⊥) → slotOf ds j ≡ slotOf ds i → ⊥ =
-          λ j m e z. e (omega (arith, slot-at ds once j m, own)) in
-          ap (λ (z : List Float). getD z (slotOf ds i) nan) (all-program q v)
-          ∙ after-own ds v i h apart (omega (arith, own))
+    -- as many values as before
+    pub states-long : length allStates ≡ length v
+    states-long = ap length all-program ∙ after-long (definitions us) (definitions us) v
+
+    -- TIME and the places behind the last definition stay
+    pub states-rest : (p : ℕ) → (p ≡ 0) ⊎ (length (definitions us) < p) → getD allStates p nan ≡ getD v p nan
+    states-rest p h =
+        let ds = definitions us in
+        ap (λ (z : List Float). getD z p nan) all-program
+        ∙ after-other ds ds v p (λ j m e. ⊎-elim (λ z. omega arith) (λ z. omega (arith, slot-at us once j m)) h)
+
+    -- the slot of a definition holds what it must
+    abbrev pub Holds : Def → Type 0
+    Holds a = getD allStates (slot (definitions us) (a .key)) nan
+        ≡ held (definitions us) (slot (definitions us) (a .key)) (a .what) v
+
+    pub states-own : Every Holds (definitions us)
+    states-own =
+        let ds = definitions us in
+        every-places Holds noDef ds
+        (λ i h.
+        let own = slot-at us once i h in
+        let apart : (j : ℕ) → j < length ds → (j ≡ i → ⊥) → slotAt ds ds j ≡ slotAt ds ds i → ⊥ =
+        λ j m e z. e (omega (arith, slot-at us once j m, own)) in
+        ap (λ (z : List Float). getD z (slotAt ds ds i) nan) all-program
+        ∙ after-own ds ds v i h apart (omega (arith, own)))
+
+    -- so that of a stored name stays
+    stays : (s : ℕ) (w : What) → isStored w ≡ true → held (definitions us) s w v ≡ getD v s nan
+    stays s (constant x) e = absurd (not-both e refl)
+    stays s assigned e = refl
+    stays s hidden e = refl
+    stays s (integral i) e = absurd (not-both e refl)
+
+    pub states-stored : (k : ℕ) → k ∈ storedNames (definitions us)
+        → getD allStates (slot (definitions us) k) nan ≡ getD v (slot (definitions us) k) nan
+    states-stored k h =
+        let at = slot (definitions us) in
+        let r = stored-def (definitions us) k h in
+        let a = r .0 in
+        subst (λ (j : ℕ). getD allStates (at j) nan ≡ getD v (at j) nan) (r .3)
+        (every-of Holds (definitions us) states-own a (r .1) ∙ stays (at (a .key)) (a .what) (r .2))

@@ -1,271 +1,241 @@
--- There is one solution. A solution is at rest: evaluating the program from it leaves it as it is. Two solutions from
--- one start agree in all that evaluating reads, so by `reads-states` in all that it writes.
-use Prim.Native.Nat.{ℕ, zero, suc, _+_, _≤_, _<_}
-use mathlib.Core.Path.{_≡_, refl, sym, ap, _∙_}
-use mathlib.Core.Bool.{false}
+-- There is one solution. In a solution each group rests; so two solutions from one start agree in what the first unit
+-- of the order assigns, then in what the second assigns, and so on: each is a function of what it reads.
+use Prim.Native.Nat.{ℕ, zero, suc, _<_}
+use mathlib.Core.Path.{_≡_, refl, sym, ap, subst, _∙_}
+use mathlib.Core.Bool.{true, false}
 use mathlib.Core.Logic.{inl, inr, ⊎-elim}
-use mathlib.Core.List.{List, [], _∷_, _++_, map, List·Memᴰ, List·Memᴰ·head, List·Memᴰ·tail, List·Memᴰ·not-nil}
-use mathlib.Core.List.{List·Memᴰ·cases-cons}
+use mathlib.Core.List.{List, [], _∷_, _++_, map, append-assoc, append-nil}
 use native.Mathlib.Omega.{arith}
-use lib.ListN.{length, getD, replicate, length-append, length-replicate}
+use lib.ListN.{length, getD}
 use lib.Seq.{ext-getD}
 use lib.Ieee.{Float, nan}
-use Rattle.laws.specs.Counts.{count, _∈_}
+use Rattle.laws.specs.Lists.{concat-map}
 use Rattle.laws.specs.Every.{Every}
-use Rattle.laws.proofs.Tests.{eq-or-ne, lt-or-ge}
-use Rattle.laws.proofs.Counts.{once-other}
-use Rattle.laws.proofs.Every.{every-append, every-concat, every-at}
-use Rattle.limits.specs.Limits.{slots}
-use Rattle.drafts.specs.Tree.{Tree}
+use Rattle.laws.specs.Counts.{count, _∈_}
+use Rattle.laws.proofs.Lists.{concat-append}
+use Rattle.laws.proofs.Counts.{once-same}
+use Rattle.laws.proofs.Members.{Below}
+use Rattle.laws.proofs.Tests.{not-both, lt-or-ge}
+use Rattle.laws.proofs.Every.{every-at, every-map, every-right}
+use Rattle.blocks.specs.Units.{Sets, given, own, anew, Inner, Equation, TextUnit}
+use Rattle.blocks.specs.Sound.{freeNames, UnitsSound}
+use Rattle.order.specs.Order.{EachAfter}
 use Rattle.order.proofs.Sorting.{perm-below}
-use Rattle.model.specs.Definitions.{What, constant, assigned, integral, Def, keys, slotIn, Equation, equationOf}
-use Rattle.model.specs.Definitions.{equations, noEquation, equationAt, equationCount}
-use Rattle.model.specs.Faults.{usesIn, GoodOrder}
-use Rattle.model.proofs.KeyPlaces.{Once}
-use Rattle.records.specs.Record.{instrs, decoded}
-use Rattle.records.specs.Shape.{shapeOf}
-use Rattle.program.specs.Program.{lastInstr, program}
-use Rattle.evaluator.specs.Judge.{answer}
-use Rattle.evaluator.specs.Machine.{Machine, run, begun}
-use Rattle.evaluator.specs.Evaluate.{RunOutcome, runOutcome, refusal, ran, evaluated}
+use Rattle.model.specs.Definitions.{What, constant, assigned, hidden, integral, Def, definedInside, definitions}
+use Rattle.model.specs.Definitions.{keys, slotIn, unitAt, unitCount}
+use Rattle.model.specs.Faults.{constantKeys, outsideKeys, usesIn, GoodOrder}
+use Rattle.model.proofs.KeyPlaces.{Once, noDef, isConstant, isState, constant-keys}
 use Rattle.meaning.specs.Meaning.{valueOf}
-use Rattle.meaning.specs.Slots.{noDef, definitionAt, SlotHolds, SlotsHold}
-use Rattle.meaning.specs.ReadSlots.{shapes, SetSlot, Same, SameRead}
-use Rattle.meaning.proofs.Postfix.{machineOf, steps, value-same}
-use Rattle.meaning.proofs.Settle.{Met, at-rest}
-use Rattle.meaning.proofs.Owned.{locate, slot-at}
-use Rattle.meaning.proofs.Runs.{asEquation, fixed, constantPart, initialPart, orderedPart, program-parts}
-use Rattle.meaning.proofs.Runs.{ordered-first, run-program}
-use Rattle.meaning.proofs.Statements.{every-places}
-use Rattle.meaning.proofs.RunSolves.{to-eqn}
-use Rattle.meaning.proofs.ReadSlots.{evaluated-ran, read-apart, reads-states}
+use Rattle.meaning.specs.ReadSlots.{Same}
+use Rattle.meaning.specs.Statements.{slotAmong, EachAsked, ConstantHolds, AssignmentHolds, StateHolds, BlockHolds}
+use Rattle.meaning.specs.Statements.{namesOf, Solution}
+use Rattle.meaning.proofs.Rows.{every-of, every-both, every-unmapped, every-number, number-every}
+use Rattle.meaning.proofs.Settle.{in-either, assignedKeys, assigned-append, Rests, alike-after}
+use Rattle.meaning.proofs.Runs.{fixed, orderedRuns}
+use Rattle.meaning.proofs.Owned.{isStored, storedNames, stateNames, count-names, named-def, rows-sound, runsAt}
+use Rattle.meaning.proofs.Owned.{at-most, assigned-somewhere, assigned-in-all, slot-at}
+use Rattle.meaning.proofs.Fairness.{alone}
+use Rattle.meaning.proofs.Ready.{IsSet, outside-set}
+use Rattle.meaning.proofs.Asked.{asked-map, asked-two, names-same, names-many, to-definitions}
+use Rattle.meaning.proofs.Resting.{EachMet, holding-rest}
 
--- ---- members of rows
+module _ (us : List TextUnit) (sound : UnitsSound us) (one : Once (keys (definitions us)))
+    (known : (i : ℕ) → i < unitCount us → (k : ℕ) → k ∈ unitAt us i .reads → k ∈ outsideKeys (definitions us))
+    (q : List ℕ) (g : GoodOrder us q) where
+  abbrev ds : List Def
+  ds = definitions us
 
--- of a row behind another
-behind : {A : Type 0} {x : A} (xs ys : List A) → List·Memᴰ x ys → List·Memᴰ x (xs ++ ys)
-behind [] ys m = m
-behind (a ∷ xs) ys m = List·Memᴰ·tail (behind xs ys m)
-
--- of a row of what a function gives
-mapped : {A B : Type 0} {x : A} (f : A → B) (xs : List A) → List·Memᴰ x xs → List·Memᴰ (f x) (map f xs)
-mapped f [] m = absurd (List·Memᴰ·not-nil m)
-mapped f (a ∷ xs) m = ⊎-elim (λ e. List·Memᴰ·head (ap f e)) (λ t. List·Memᴰ·tail (mapped f xs t))
-    (List·Memᴰ·cases-cons m)
-
--- ---- a buffer with as many places more as there are slots, which hold what is read past an end
-nans : (n p : ℕ) → getD (replicate n nan) p nan ≡ nan
-nans zero p = refl
-nans (suc n) zero = refl
-nans (suc n) (suc p) = nans n p
-
--- longer by these
-abbrev lengthened : List Float → List Float
-lengthened v = v ++ replicate slots nan
-
--- every place holds what it held
-same-lengthened : (v : List Float) (p : ℕ) → getD (lengthened v) p nan ≡ getD v p nan
-same-lengthened [] p = nans slots p
-same-lengthened (x ∷ v) zero = refl
-same-lengthened (x ∷ v) (suc p) = same-lengthened v p
-
--- it has a place for each slot
-lengthened-long : (v : List Float) → slots ≤ length (lengthened v)
-lengthened-long v = let n = length-append v (replicate slots nan) in
-    let m : length (replicate slots nan) ≡ slots = length-replicate slots nan in omega arith
-
-module _ (ds : List Def) (one : Once (keys ds)) where
   abbrev slot : ℕ → ℕ
   slot = slotIn ds
 
-  abbrev eqn : ℕ → Equation
-  eqn = equationAt ds
+  -- ---- of one solution
+  module _ (v d v′ d′ : List Float) (s : Solution us v d v′ d′) where
+    -- each unit holds, with slots by the definitions
+    abbrev EachHolds : (ℕ → ℕ) → Type 0
+    EachHolds at =
+        EachAsked (ConstantHolds at v d v′ d′) (AssignmentHolds at v d v′ d′) (StateHolds at v d v′ d′)
+        (BlockHolds at v d v′ d′) us
 
-  -- ---- a solution stays one in longer buffers
-  module _ (v d v′ d′ : List Float) where
-    -- the value of an expression is the same
-    same-value : (e : Tree) → valueOf slot (lengthened v′) e ≡ valueOf slot v′ e
-    same-value e = value-same slot e (lengthened v′) v′ (same-lengthened v′ 0) (λ k _. same-lengthened v′ (slot k))
+    holds : EachHolds slot
+    holds = subst (λ (ns : List ℕ). EachHolds (slotAmong ns)) (sym (names-same us)) (s .each)
 
-    -- so each slot holds what it must
-    longer-at : (w : What) (s : ℕ) → SlotHolds ds v d v′ d′ w s
-        → SlotHolds ds (lengthened v) (lengthened d) (lengthened v′) (lengthened d′) w s
-    longer-at (constant x) s h = (same-lengthened v′ s ∙ h .0, same-lengthened d′ s ∙ h .1 ∙ sym (same-lengthened d s))
-    longer-at (assigned e) s h = (
-      same-lengthened v′ s ∙ h .0 ∙ sym (same-value e),
-      same-lengthened d′ s ∙ h .1 ∙ sym (same-lengthened d s),
-    )
-    longer-at (integral i e) s h = (
-      same-lengthened v′ s ∙ h .0 ∙ sym (same-lengthened v s),
-      same-lengthened d′ s ∙ h .1 ∙ sym (same-value e),
-    )
+    met : EachMet slot v′ d′ us
+    met =
+        asked-map (λ l c h. h .0) (λ l k e h. h .0) (λ l k i e h. h .1)
+        (λ ns h. every-map _ _ ns (λ (n : Inner) t. t .0) h) us holds
 
-    -- and so do all
-    longer : SlotsHold ds v d v′ d′ → SlotsHold ds (lengthened v) (lengthened d) (lengthened v′) (lengthened d′)
-    longer s =
-        record {
-          long = (
-            length-append v′ _ ∙ ap (λ n. n + length (replicate slots nan)) (s .long .0) ∙ sym (length-append v _),
-            length-append d′ _ ∙ ap (λ n. n + length (replicate slots nan)) (s .long .1) ∙ sym (length-append d _),
-          );
-          each = λ i h. longer-at (definitionAt ds i .what) (suc i) (s .each i h);
-          rest =
-              λ p h. (
-                same-lengthened v′ p ∙ s .rest p h .0 ∙ sym (same-lengthened v p),
-                same-lengthened d′ p ∙ s .rest p h .1 ∙ sym (same-lengthened d p),
-              );
-        }
+    -- so what each unit runs rests
+    rests-at : (i : ℕ) → i < unitCount us → Rests slot v′ d′ (runsAt us i)
+    rests-at i h =
+        let groups = holding-rest slot v′ d′ us q g met in
+        every-number (λ (i : ℕ). Rests slot v′ d′ (runsAt us i)) q
+        (every-unmapped (Rests slot v′ d′) (runsAt us) q
+        (every-right (Rests slot v′ d′) (map alone (fixed ds)) (map (runsAt us) q) groups)) i
+        (omega (arith, g .perm .within i h))
 
-  -- ---- the program p has the definitions in the good order q, and is accepted
-  module _ (q : List ℕ) (g : GoodOrder ds q) (p : List ℕ) (back : decoded p ≡ instrs (program ds q))
-      (accepted : (v d : List Float) → slots ≤ length v → slots ≤ length d → refusal p v d ≡ answer 0 0) where
-    -- the last record of each equation of a row stands among those of the row
-    last-in : (r : List ℕ) (i : ℕ) → i ∈ r
-        → List·Memᴰ (lastInstr ds (eqn i .held) (slot (eqn i .key))) (instrs (orderedPart ds r))
-    unfolding count
-    last-in [] i h = absurd (omega arith)
-    last-in (m ∷ r) i h =
-        let front = steps slot (eqn m .tree) in
-        rw (ordered-first ds m r)
-        (behind front _
-        (⊎-elim (λ (e : i ≡ m). List·Memᴰ·head (ap (λ j. lastInstr ds (eqn j .held) (slot (eqn j .key))) e))
-        (λ e. List·Memᴰ·tail (last-in r i (omega (arith, once-other i m e)))) (eq-or-ne i m)))
+  -- ---- of two from one start
+  module _ (v d v₁ d₁ v₂ d₂ : List Float) (s₁ : Solution us v d v₁ d₁) (s₂ : Solution us v d v₂ d₂) where
+    -- they are as long as one another
+    long : length v₁ ≡ length v₂
+    long = s₁ .long .0 ∙ sym (s₂ .long .0)
 
-    -- so each assigned slot is stored
-    stored-slot : (i : ℕ) → i < length ds → (t : Tree) → definitionAt ds i .what ≡ assigned t
-        → SetSlot (shapes p) (suc i)
-    stored-slot i h t e =
-        let it = definitionAt ds i in
-        let X : Equation = record { line = it .line; key = it .key; held = false; tree = t } in
-        let r = locate ds i X h (rw e) in
-        let last : lastInstr ds (eqn (r .0) .held) (slot (eqn (r .0) .key)) ≡ lastInstr ds false (suc i) =
-        rw (r .2, slot-at ds one i h) in
-        let inside = last-in q (r .0) (omega (arith, g .perm .within (r .0) (r .1))) in
-        let whole : List·Memᴰ (lastInstr ds false (suc i)) (decoded p) =
-        rw (back, program-parts ds q)
-        (behind (instrs (constantPart ds ds)) _
-        (behind (instrs (initialPart ds ds)) (instrs (orderedPart ds q)) (rw last at inside))) in
-        inr (inl (mapped shapeOf (decoded p) whole))
+    long-rate : length d₁ ≡ length d₂
+    long-rate = s₁ .long .1 ∙ sym (s₂ .long .1)
 
-    -- ---- a solution is at rest
-    module _ (v d v′ d′ : List Float) (s : SlotsHold ds v d v′ d′) where
-      -- a constant, as an equation, holds
-      fixed-met : (l k : ℕ) (w : What) → SlotHolds ds v d v′ d′ w (slot k)
-          → Every (Met slot v′ d′) (asEquation l k w)
-      unfolding valueOf
-      fixed-met l k (constant x) h = (h .0, tt)
-      fixed-met l k (assigned e) h = tt
-      fixed-met l k (integral i e) h = tt
+    -- they agree in TIME and behind the last name's slot
+    time : Same v₁ v₂ 0
+    time = s₁ .rest 0 (inl refl) .0 ∙ sym (s₂ .rest 0 (inl refl) .0)
 
-      -- so does an equation
-      equation-met : (l k : ℕ) (w : What) → SlotHolds ds v d v′ d′ w (slot k)
-          → Every (Met slot v′ d′) (equationOf l k w)
-      equation-met l k (constant x) h = tt
-      equation-met l k (assigned e) h = (h .0, tt)
-      equation-met l k (integral i e) h = (h .1, tt)
+    -- in constants and in states
+    abbrev Agrees : Def → Type 0
+    Agrees a = isStored (a .what) ≡ false → Same v₁ v₂ (slot (a .key))
 
-      -- each definition by its own slot
-      abbrev Held : Def → Type 0
-      Held x = SlotHolds ds v d v′ d′ (x .what) (slot (x .key))
+    inside-agrees : (l k : ℕ) (s : Sets) → Every Agrees (definedInside l k s)
+    inside-agrees l k given = (λ e. absurd (not-both refl e), tt)
+    inside-agrees l k own = (λ e. absurd (not-both refl e), tt)
+    inside-agrees l k anew = tt
 
-      -- all hold
-      all-met : Every (Met slot v′ d′) (fixed ds ++ map eqn q)
-      all-met =
-          let each : Every Held ds = every-places Held noDef ds (λ i h. rw (slot-at ds one i h) (s .each i h)) in
-          let both = every-concat Held (Met slot v′ d′) (λ (x : Def). equationOf (x .line) (x .key) (x .what))
-          (λ x h. equation-met (x .line) (x .key) (x .what) h) ds each in
-          every-append (Met slot v′ d′) (fixed ds) (map eqn q)
-          (every-concat Held (Met slot v′ d′) (λ (x : Def). asEquation (x .line) (x .key) (x .what))
-          (λ x h. fixed-met (x .line) (x .key) (x .what) h) ds each)
-          (to-eqn ds (Met slot v′ d′) q
-          (λ i h. every-at (Met slot v′ d′) (equations ds) noEquation both i
-          (perm-below (equationCount ds) (usesIn ds) q (g .perm) i h)))
+    all-agree : Every Agrees ds
+    all-agree =
+        to-definitions Agrees us
+        (asked-two (λ l c a b e. a .0 ∙ sym (b .0)) (λ l k t a b e. absurd (not-both refl e))
+        (λ l k i t a b e. a .0 ∙ sym (b .0))
+        (λ ns a b. every-map _ _ ns (λ (n : Inner) h. inside-agrees (n .line) (n .key) (n .sets)) a)
+        us (holds v d v₁ d₁ s₁) (holds v d v₂ d₂ s₂))
 
-      -- running the program from it leaves it as it is
-      ran-rests : ran p v′ d′ ≡ machineOf [] v′ d′
-      ran-rests =
-          let stays = at-rest slot (fixed ds ++ map eqn q) v′ d′ all-met in
-          ap (run (begun v′ d′)) back ∙ run-program ds q v′ d′ ∙ rw (stays .0, stays .1) refl
+    constant-agrees : (k : ℕ) → k ∈ constantKeys ds → Same v₁ v₂ (slot k)
+    constant-agrees k h =
+        let r = named-def isConstant ds k (rw (constant-keys ds) at h) in
+        subst (λ (j : ℕ). Same v₁ v₂ (slot j)) (r .3)
+        (every-of Agrees ds all-agree (r .0) (r .1) (free (r .0 .what) (r .2)))
+      where
+        free : (w : What) → isConstant w ≡ true → isStored w ≡ false
+        free (constant x) e = refl
+        free assigned e = absurd (not-both e refl)
+        free hidden e = absurd (not-both e refl)
+        free (integral i) e = refl
 
-      -- so does evaluating
-      evaluated-rests : slots ≤ length v → slots ≤ length d
-          → evaluated p v′ d′ ≡ runOutcome (answer 0 0) v′ d′
-      evaluated-rests lv ld =
-          evaluated-ran p v′ d′ (accepted v′ d′ (rw (s .long .0) lv) (rw (s .long .1) ld))
-          ∙ ap (λ (m : Machine). runOutcome (answer 0 0) (m .values) (m .derivs)) ran-rests
+    state-agrees : (k : ℕ) → k ∈ stateNames ds → Same v₁ v₂ (slot k)
+    state-agrees k h =
+        let r = named-def isState ds k h in
+        subst (λ (j : ℕ). Same v₁ v₂ (slot j)) (r .3)
+        (every-of Agrees ds all-agree (r .0) (r .1) (free (r .0 .what) (r .2)))
+      where
+        free : (w : What) → isState w ≡ true → isStored w ≡ false
+        free (constant x) e = refl
+        free assigned e = absurd (not-both e refl)
+        free hidden e = absurd (not-both e refl)
+        free (integral i) e = refl
 
-    -- ---- two solutions from one start that has a place for each slot
-    module _ (v d v₁ d₁ v₂ d₂ : List Float) (s₁ : SlotsHold ds v d v₁ d₁) (s₂ : SlotsHold ds v d v₂ d₂)
-        (lv : slots ≤ length v) (ld : slots ≤ length d) where
-      -- they agree at a slot that no assignment has
-      by-what : (i : ℕ) (w : What) → SlotHolds ds v d v₁ d₁ w (suc i) → SlotHolds ds v d v₂ d₂ w (suc i)
-          → ((t : Tree) → w ≡ assigned t → Same v₁ v₂ (suc i)) → Same v₁ v₂ (suc i)
-      by-what i (constant x) a b f = a .0 ∙ sym (b .0)
-      by-what i (assigned t) a b f = f t refl
-      by-what i (integral n t) a b f = a .0 ∙ sym (b .0)
+    -- ---- in what the units assign, one unit after the other
+    abbrev AgreeIn : List Equation → Type 0
+    AgreeIn es = (k : ℕ) → k ∈ assignedKeys es → Same v₁ v₂ (slot k)
 
-      -- so at every place, if they do where the program stores
-      agree-but : (s : ℕ) → (SetSlot (shapes p) s → Same v₁ v₂ s) → Same v₁ v₂ s
-      agree-but zero f = s₁ .rest 0 (inl refl) .0 ∙ sym (s₂ .rest 0 (inl refl) .0)
-      agree-but (suc i) f =
-          ⊎-elim
-          (λ h. by-what i (definitionAt ds i .what) (s₁ .each i h) (s₂ .each i h) (λ t e. f (stored-slot i h t e)))
-          (λ h. s₁ .rest (suc i) (inr (omega arith)) .0 ∙ sym (s₂ .rest (suc i) (inr (omega arith)) .0))
-          (lt-or-ge i (length ds))
+    -- so in what is set
+    set-agrees : (es : List Equation) → AgreeIn es → (k : ℕ) → IsSet ds es k → Same v₁ v₂ (slot k)
+    set-agrees es a k (inl h) = constant-agrees k h
+    set-agrees es a k (inr (inl h)) = state-agrees k h
+    set-agrees es a k (inr (inr h)) = a k (h .1)
 
-      -- both are accepted as starts
-      first : refusal p v₁ d₁ ≡ answer 0 0
-      first = accepted v₁ d₁ (rw (s₁ .long .0) lv) (rw (s₁ .long .1) ld)
+    -- a unit that reads where they agree: what it leaves they hold
+    unit-agrees : (f : List ℕ) (i : ℕ) (q : List ℕ) → EachAfter (unitCount us) (usesIn us) (f ++ i ∷ q)
+        → Once (f ++ i ∷ q)
+        → (b : Below (unitCount us) (f ++ i ∷ q)) → i < unitCount us
+        → AgreeIn (orderedRuns us f)
+        → AgreeIn (runsAt us i)
+    unit-agrees f i q a c b hi h k m =
+        let outside = unitAt us i .reads ++ freeNames us in
+        let left = rests-at v d v₁ d₁ s₁ i hi in
+        let right = rests-at v d v₂ d₂ s₂ i hi in
+        let same = alike-after slot (runsAt us i) outside v₁ v₂ d₁ d₂ (rows-sound us sound i .reads) long long-rate time
+        (λ j n _. set-agrees (orderedRuns us f) h j (outside-set us sound one known f i q a c b j n)) (slot k) .0
+        (inr (k, m, refl)) in
+        ap (λ (z : List Float). getD z (slot k) nan) (sym (left .0))
+        ∙ same
+        ∙ ap (λ (z : List Float). getD z (slot k) nan) (right .0)
 
-      second : refusal p v₂ d₂ ≡ answer 0 0
-      second = accepted v₂ d₂ (rw (s₂ .long .0) lv) (rw (s₂ .long .1) ld)
+    order-agrees : (f q : List ℕ) → EachAfter (unitCount us) (usesIn us) (f ++ q) → Once (f ++ q)
+        → Below (unitCount us) (f ++ q)
+        → Below (unitCount us) q
+        → AgreeIn (orderedRuns us f)
+        → AgreeIn (orderedRuns us (f ++ q))
+    unfolding concat-map count
+    order-agrees f [] a c b bq h = rw (append-nil f) h
+    order-agrees f (i ∷ q) a c b bq h =
+        let e = append-assoc f (i ∷ []) q in
+        let hi = bq i (omega (arith, once-same i)) in
+        let more : orderedRuns us (f ++ (i ∷ [])) ≡ orderedRuns us f ++ runsAt us i =
+        concat-append (runsAt us) f (i ∷ [])
+        ∙ ap (λ (z : List Equation). orderedRuns us f ++ z) (append-nil (runsAt us i)) in
+        let next : AgreeIn (orderedRuns us (f ++ (i ∷ []))) =
+        λ k m.
+        ⊎-elim (h k) (unit-agrees f i q a c b hi h k)
+        (in-either k (assignedKeys (orderedRuns us f)) (assignedKeys (runsAt us i))
+        (rw (more, assigned-append (orderedRuns us f) (runsAt us i)) at m)) in
+        subst (λ (l : List ℕ). AgreeIn (orderedRuns us l)) e
+        (order-agrees (f ++ (i ∷ [])) q (rw e a) (rw e c) (rw e b) (λ m n. bq m (omega arith)) next)
 
-      -- as starts they agree in all that evaluating reads: that is not stored
-      read-same : SameRead (shapes p) v₁ v₂
-      read-same =
-          record {
-            time = agree-but 0 (λ z. absurd (read-apart p v₁ d₁ first 0 (inl refl) z));
-            states = λ s t. agree-but s (λ z. absurd (read-apart p v₁ d₁ first s (inr t) z));
-          }
+    stored-agrees : (k : ℕ) → k ∈ storedNames ds → Same v₁ v₂ (slot k)
+    unfolding concat-map count
+    stored-agrees k h =
+        let below = perm-below (unitCount us) (usesIn us) q (g .perm) in
+        let r = assigned-somewhere us k h in
+        order-agrees [] q (g .after) (at-most us q g) below below (λ j m. absurd (omega arith)) k
+        (assigned-in-all us q (r .0) k (omega (arith, g .perm .within (r .0) (r .1))) (r .2))
 
-      -- so they agree in all that it writes, and they are what it leaves
-      pub agree-at : (s : ℕ) → Same v₁ v₂ s
-      agree-at s =
-          let ends = reads-states p v₁ d₁ v₂ d₂ first second read-same .alike .values in
-          agree-but s
-          (λ z.
-          ap (λ (o : RunOutcome). getD (o .values) s nan) (sym (evaluated-rests v d v₁ d₁ s₁ lv ld))
-          ∙ ends s z
-          ∙ ap (λ (o : RunOutcome). getD (o .values) s nan) (evaluated-rests v d v₂ d₂ s₂ lv ld))
+    -- ---- so in every place
+    name-agrees : (k : ℕ) → k ∈ keys ds → Same v₁ v₂ (slot k)
+    name-agrees k h =
+        let n = count-names k ds in
+        ⊎-elim (constant-agrees k)
+        (λ a. ⊎-elim (state-agrees k) (λ b. stored-agrees k (omega arith)) (lt-or-ge 0 (count k (stateNames ds))))
+        (lt-or-ge 0 (count k (constantKeys ds)))
 
-    -- ---- two solutions from any start
-    module _ (v d v₁ d₁ v₂ d₂ : List Float) (s₁ : SlotsHold ds v d v₁ d₁) (s₂ : SlotsHold ds v d v₂ d₂) where
-      -- the values are the same
-      same-values : v₁ ≡ v₂
-      same-values =
-          let first = longer v d v₁ d₁ s₁ in
-          let second = longer v d v₂ d₂ s₂ in
-          ext-getD nan v₁ v₂ (s₁ .long .0 ∙ sym (s₂ .long .0))
-          (λ s _.
-          sym (same-lengthened v₁ s)
-          ∙ agree-at _ _ _ _ _ _ first second (lengthened-long v) (lengthened-long d) s
-          ∙ same-lengthened v₂ s)
+    -- a place is TIME's, a name's, or behind the last name's
+    by-place : (P : ℕ → Type 0) → P 0 → Every (λ (a : Def). P (slot (a .key))) ds
+        → ((p : ℕ) → length ds < p → P p)
+        → (p : ℕ) → P p
+    by-place P z e r zero = z
+    by-place P z e r (suc i) =
+        ⊎-elim (λ h. subst P (slot-at us one i h) (every-at (λ (a : Def). P (slot (a .key))) ds noDef e i h))
+        (λ h. r (suc i) (omega arith)) (lt-or-ge i (length ds))
 
-      -- then the derivatives are the same too
-      derivs-by : (i : ℕ) (w : What) → SlotHolds ds v d v₁ d₁ w (suc i) → SlotHolds ds v d v₂ d₂ w (suc i)
-          → getD d₁ (suc i) nan ≡ getD d₂ (suc i) nan
-      derivs-by i (constant x) a b = a .1 ∙ sym (b .1)
-      derivs-by i (assigned t) a b = a .1 ∙ sym (b .1)
-      derivs-by i (integral n t) a b = a .1 ∙ ap (λ (z : List Float). valueOf slot z t) same-values ∙ sym (b .1)
+    same-values : v₁ ≡ v₂
+    same-values =
+        ext-getD nan v₁ v₂ long
+        (λ p _. by-place (Same v₁ v₂) time
+        (every-unmapped (λ (k : ℕ). Same v₁ v₂ (slot k)) (λ (a : Def). a .key) ds
+        (number-every (λ (k : ℕ). Same v₁ v₂ (slot k)) (keys ds) name-agrees))
+        (λ p h.
+        let past : length (namesOf us) < p = rw (← (names-many us)) h in
+        s₁ .rest p (inr past) .0 ∙ sym (s₂ .rest p (inr past) .0)) p)
 
-      -- at every place
-      derivs-at : (s : ℕ) → getD d₁ s nan ≡ getD d₂ s nan
-      derivs-at zero = s₁ .rest 0 (inl refl) .1 ∙ sym (s₂ .rest 0 (inl refl) .1)
-      derivs-at (suc i) =
-          ⊎-elim (λ h. derivs-by i (definitionAt ds i .what) (s₁ .each i h) (s₂ .each i h))
-          (λ h. s₁ .rest (suc i) (inr (omega arith)) .1 ∙ sym (s₂ .rest (suc i) (inr (omega arith)) .1))
-          (lt-or-ge i (length ds))
+    -- then the derivatives are the same too
+    abbrev Rates : Def → Type 0
+    Rates a = Same d₁ d₂ (slot (a .key))
 
-      -- TWO SOLUTIONS ARE THE SAME
-      pub only-one : (v₁ ≡ v₂) × (d₁ ≡ d₂)
-      only-one = (same-values, ext-getD nan d₁ d₂ (s₁ .long .1 ∙ sym (s₂ .long .1)) (λ s _. derivs-at s))
+    inside-rates : (l k : ℕ) (s : Sets) → Same d₁ d₂ (slot k) → Every Rates (definedInside l k s)
+    inside-rates l k given h = (h, tt)
+    inside-rates l k own h = (h, tt)
+    inside-rates l k anew h = tt
+
+    all-rates : Every Rates ds
+    all-rates =
+        to-definitions Rates us
+        (asked-two (λ l c a b. a .1 ∙ sym (b .1)) (λ l k t a b. a .1 ∙ sym (b .1))
+        (λ l k i t a b. a .1 ∙ ap (λ (z : List Float). valueOf slot z t) same-values ∙ sym (b .1))
+        (λ ns a b. every-map _ _ ns
+        (λ (n : Inner) h. inside-rates (n .line) (n .key) (n .sets) (h .0 .1 ∙ sym (h .1 .1))) (every-both _ _ ns a b))
+        us (holds v d v₁ d₁ s₁) (holds v d v₂ d₂ s₂))
+
+    same-derivs : d₁ ≡ d₂
+    same-derivs =
+        ext-getD nan d₁ d₂ long-rate
+        (λ p _. by-place (Same d₁ d₂) (s₁ .rest 0 (inl refl) .1 ∙ sym (s₂ .rest 0 (inl refl) .1)) all-rates
+        (λ p h.
+        let past : length (namesOf us) < p = rw (← (names-many us)) h in
+        s₁ .rest p (inr past) .1 ∙ sym (s₂ .rest p (inr past) .1)) p)
+
+    -- TWO SOLUTIONS ARE THE SAME
+    pub only-one : (v₁ ≡ v₂) × (d₁ ≡ d₂)
+    only-one = (same-values, same-derivs)

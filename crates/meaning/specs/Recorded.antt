@@ -7,22 +7,27 @@ use lib.Dec.{eqb}
 use lib.ListN.{length, getD}
 use lib.Ieee.{Float}
 use Rattle.laws.specs.Lists.{concat-map}
+use Rattle.laws.specs.Every.{Every}
 use Rattle.deck.specs.Lines.{linesOf}
 use Rattle.deck.specs.Reading.{fresh, reading}
 use Rattle.deck.specs.Reports.{Report, report}
 use Rattle.drafts.specs.Items.{postfix}
-use Rattle.drafts.specs.Tree.{Tree, Constant, Initial, Says, constants, assignment, state}
+use Rattle.drafts.specs.Kinds.{kindConstant, kindInitial, kindStore, kindRate, kindAgain}
+use Rattle.drafts.specs.Tree.{Tree, Constant, Initial}
 use Rattle.order.specs.Order.{Permutation}
 use Rattle.records.specs.declared.Instr.{Instr}
-use Rattle.records.specs.declared.Instr.the-variants.{Constant as Fixed, Initial as Start, Store, Deriv}
+use Rattle.records.specs.declared.Instr.the-variants.{Constant as Fixed, Initial as Start, Store, Deriv, StoreAgain}
 use Rattle.records.specs.Fields.{kindOf, operandOf}
 use Rattle.records.specs.Record.{Rec, rec}
 use Rattle.program.specs.Program.{instrItem}
 use Rattle.sheet.specs.Sheet.{Told, says, Numbered, said}
 use Rattle.sheet.specs.Reader.{told, sheetOf}
+use Rattle.blocks.specs.Units.{Single, constants, assignment, state, Sets, given, own, anew, Inner, UnitBody, single}
+use Rattle.blocks.specs.Units.{block, TextUnit, textUnit}
+use Rattle.model.specs.Text.{textUnits}
 use Rattle.meaning.specs.Statements.{slotOf, Resolves, EachAsked}
 
--- ---- of one statement
+-- ---- the records of a slot
 
 -- the records of kind k with slot s, as they follow one another in a program
 abbrev pub isFor : ℕ → ℕ → Rec → Bool
@@ -33,94 +38,145 @@ unfoldable pub recordsFor : ℕ → ℕ → List Rec → List Rec
 recordsFor k s [] = []
 recordsFor k s (r ∷ rs) = cond (isFor k s r) (r ∷ recordsFor k s rs) (recordsFor k s rs)
 
+-- of the kinds that set a slot or its derivative these are all: constants, initials, stores, derivatives, stores again
+pub record SlotRecords (rs : List Rec) (s : ℕ) (cs is ss ds as′ : List Rec) : Type 0 where
+  pub fixed : recordsFor kindConstant s rs ≡ cs
+  pub initials : recordsFor kindInitial s rs ≡ is
+  pub stores : recordsFor kindStore s rs ≡ ss
+  pub derivatives : recordsFor kindRate s rs ≡ ds
+  pub stores-again : recordsFor kindAgain s rs ≡ as′
+
 -- these records stand in a program one directly behind the other
 abbrev pub StandsIn : List Rec → List Rec → Type 0
 StandsIn part rs = (before : List Rec) × (after : List Rec) × (rs ≡ before ++ (part ++ after))
 
--- `slot` gives each name its slot
+-- ---- of one unit. `slot` gives each name its slot
 module _ (slot : ℕ → ℕ) where
   -- an expression's records in postfix with the statement's line, and behind them this one
-  abbrev pub block : ℕ → Tree → Instr → List Rec
-  block l e x = map (rec l) (map (instrItem slot) (postfix e) ++ (x ∷ []))
+  abbrev pub stretch : ℕ → Tree → Instr → List Rec
+  stretch l e x = map (rec l) (map (instrItem slot) (postfix e) ++ (x ∷ []))
 
-  -- Of the kinds that set a slot, 1, 2, 13 and 15, and of kind 14 the program rs has for a name's slot: for a pair of
-  -- constants one of kind 1 with its value, alone
+  -- inside a block a name's first setting stores, a later one stores again
+  abbrev pub setInstr : Sets → ℕ → Instr
+  setInstr given s = Store s
+  setInstr own s = Store s
+  setInstr anew s = StoreAgain s
+
+  -- the records of a statement inside a block, and of all of them, in their order
+  abbrev pub innerStretch : Inner → List Rec
+  innerStretch n = stretch (n .line) (n .tree) (setInstr (n .sets) (slot (n .key)))
+
+  abbrev pub blockStretch : List Inner → List Rec
+  blockStretch ns = concat-map innerStretch ns
+
+  -- Of the kinds that set a slot the program rs has for a name's slot: for a pair of constants one of kind 1 with its
+  -- value, alone
   abbrev pub ConstantRecorded : List Rec → ℕ → Constant → Type 0
   ConstantRecorded rs l c =
-      (recordsFor 1 (slot (c .key)) rs ≡ rec l (Fixed (slot (c .key)) (c .worth)) ∷ [])
-      × (recordsFor 2 (slot (c .key)) rs ≡ []) × (recordsFor 13 (slot (c .key)) rs ≡ [])
-      × (recordsFor 14 (slot (c .key)) rs ≡ []) × (recordsFor 15 (slot (c .key)) rs ≡ [])
+      SlotRecords rs (slot (c .key)) (rec l (Fixed (slot (c .key)) (c .worth)) ∷ []) [] [] [] []
 
   -- for an assignment a store, alone, directly behind its expression
   abbrev pub AssignmentRecorded : List Rec → ℕ → ℕ → Tree → Type 0
   AssignmentRecorded rs l k e =
-      (recordsFor 1 (slot k) rs ≡ []) × (recordsFor 2 (slot k) rs ≡ [])
-      × (recordsFor 13 (slot k) rs ≡ rec l (Store (slot k)) ∷ []) × (recordsFor 14 (slot k) rs ≡ [])
-      × (recordsFor 15 (slot k) rs ≡ []) × StandsIn (block l e (Store (slot k))) rs
+      SlotRecords rs (slot k) [] [] (rec l (Store (slot k)) ∷ []) [] [] × StandsIn (stretch l e (Store (slot k))) rs
 
   -- for a state an initial with its value, and a derivative directly behind its expression
   abbrev pub StateRecorded : (Initial → Float → Type 0) → List Rec → ℕ → ℕ → Initial → Tree → Type 0
   StateRecorded Value rs l k i e =
       (x : Float) × Value i x
-      × (recordsFor 1 (slot k) rs ≡ []) × (recordsFor 2 (slot k) rs ≡ rec l (Start (slot k) x) ∷ [])
-      × (recordsFor 13 (slot k) rs ≡ []) × (recordsFor 14 (slot k) rs ≡ rec l (Deriv (slot k)) ∷ [])
-      × (recordsFor 15 (slot k) rs ≡ []) × StandsIn (block l e (Deriv (slot k))) rs
+      × SlotRecords rs (slot k) [] (rec l (Start (slot k) x) ∷ []) [] (rec l (Deriv (slot k)) ∷ []) []
+      × StandsIn (stretch l e (Deriv (slot k))) rs
 
-  -- ---- what each statement adds to the parts of a program
+  -- for a block the records of its statements, one directly behind the other; for each of its names no others than
+  -- these,
+  -- and one store alone, that of its first setting
+  abbrev pub FirstStore : List Rec → Inner → Sets → Type 0
+  FirstStore rs n given = recordsFor kindStore (slot (n .key)) rs ≡ rec (n .line) (Store (slot (n .key))) ∷ []
+  FirstStore rs n own = recordsFor kindStore (slot (n .key)) rs ≡ rec (n .line) (Store (slot (n .key))) ∷ []
+  FirstStore rs n anew = Unit {0}
+
+  abbrev pub InnerRecorded : List Rec → List Inner → Inner → Type 0
+  InnerRecorded rs ns n =
+      let s = slot (n .key) in
+      SlotRecords rs s [] [] (recordsFor kindStore s (blockStretch ns)) [] (recordsFor kindAgain s (blockStretch ns))
+      × FirstStore rs n (n .sets)
+
+  abbrev pub BlockRecorded : List Rec → List Inner → Type 0
+  BlockRecorded rs ns = StandsIn (blockStretch ns) rs × Every (InnerRecorded rs ns) ns
+
+  -- ---- what each unit adds to the parts of a program
 
   -- one of kind 1 for each pair of its constants, in their order
-  abbrev pub constantsFrom : ℕ → Says → List Rec
-  constantsFrom l (constants cs) = map (λ (c : Constant). rec l (Fixed (slot (c .key)) (c .worth))) cs
-  constantsFrom l (assignment k e) = []
-  constantsFrom l (state k i e) = []
+  abbrev pub constantsAlone : ℕ → Single → List Rec
+  constantsAlone l (constants cs) = map (λ (c : Constant). rec l (Fixed (slot (c .key)) (c .worth))) cs
+  constantsAlone l (assignment k e) = []
+  constantsAlone l (state k i e) = []
+
+  abbrev pub constantsFrom : ℕ → UnitBody → List Rec
+  constantsFrom l (single x) = constantsAlone l x
+  constantsFrom l (block os is ns z) = []
 
   -- one of kind 2 for its state; `start` gives each initial its value
-  abbrev pub initialsFrom : (Initial → Float) → ℕ → Says → List Rec
-  initialsFrom start l (constants cs) = []
-  initialsFrom start l (assignment k e) = []
-  initialsFrom start l (state k i e) = rec l (Start (slot k) (start i)) ∷ []
+  abbrev pub initialsAlone : (Initial → Float) → ℕ → Single → List Rec
+  initialsAlone start l (constants cs) = []
+  initialsAlone start l (assignment k e) = []
+  initialsAlone start l (state k i e) = rec l (Start (slot k) (start i)) ∷ []
 
-  -- its expression, and behind it its store or its derivative
-  abbrev pub stepsFrom : ℕ → Says → List Rec
-  stepsFrom l (constants cs) = []
-  stepsFrom l (assignment k e) = block l e (Store (slot k))
-  stepsFrom l (state k i e) = block l e (Deriv (slot k))
+  abbrev pub initialsFrom : (Initial → Float) → ℕ → UnitBody → List Rec
+  initialsFrom start l (single x) = initialsAlone start l x
+  initialsFrom start l (block os is ns z) = []
 
--- ---- of all statements
+  -- its expression, and behind it its store or its derivative; of a block those of its statements
+  abbrev pub stepsAlone : ℕ → Single → List Rec
+  stepsAlone l (constants cs) = []
+  stepsAlone l (assignment k e) = stretch l e (Store (slot k))
+  stepsAlone l (state k i e) = stretch l e (Deriv (slot k))
 
--- the assignments and state statements
-abbrev pub equating : ℕ → Says → List Numbered
-equating l (constants cs) = []
-equating l (assignment k e) = record { line = l; says = assignment k e } ∷ []
-equating l (state k i e) = record { line = l; says = state k i e } ∷ []
+  abbrev pub stepsFrom : ℕ → UnitBody → List Rec
+  stepsFrom l (single x) = stepsAlone l x
+  stepsFrom l (block os is ns z) = blockStretch ns
 
-abbrev pub equatingIn : List Numbered → List Numbered
-equatingIn ss = concat-map (λ (s : Numbered). equating (s .line) (s .says)) ss
+-- ---- of all units
+
+-- those of the order: all but constants
+abbrev pub equatingAlone : ℕ → Single → List TextUnit
+equatingAlone l (constants cs) = []
+equatingAlone l (assignment k e) = textUnit l (single (assignment k e)) ∷ []
+equatingAlone l (state k i e) = textUnit l (single (state k i e)) ∷ []
+
+abbrev pub equating : ℕ → UnitBody → List TextUnit
+equating l (single x) = equatingAlone l x
+equating l (block os is ns z) = textUnit l (block os is ns z) ∷ []
+
+abbrev pub equatingIn : List TextUnit → List TextUnit
+equatingIn us = concat-map (λ (u : TextUnit). equating (u .line) (u .body)) us
 
 -- the one at place i
-abbrev pub equatingAt : List Numbered → ℕ → Numbered
-equatingAt ss i = getD (equatingIn ss) i (record { line = 0; says = constants [] })
+abbrev pub equatingAt : List TextUnit → ℕ → TextUnit
+equatingAt us i = getD (equatingIn us) i (textUnit 0 (single (constants [])))
 
--- A program is made of statements and of nothing else: the constants of all in text order, the initials likewise, and
--- the assignments and state statements, each once, in some order q
-pub record MadeOf (ss : List Numbered) (rs : List Rec) : Type 0 where
+-- A program is made of units and of nothing else: the constants of all in text order, the initials likewise, and the
+-- units of the order, each once, in some order q
+pub record MadeOf (us : List TextUnit) (rs : List Rec) : Type 0 where
   pub start : Initial → Float
-  pub resolved : EachAsked (λ l c. Unit {0}) (λ l k e. Unit {0}) (λ l k i e. Resolves ss i (start i)) ss
+  pub resolved : EachAsked (λ l c. Unit {0}) (λ l k e. Unit {0}) (λ l k i e. Resolves us i (start i)) (λ ns. Unit {0})
+      us
   pub q : List ℕ
-  pub once : Permutation (length (equatingIn ss)) q
-  pub made : let slot = slotOf ss in
-      rs ≡ concat-map (λ (s : Numbered). constantsFrom slot (s .line) (s .says)) ss
-      ++ (concat-map (λ (s : Numbered). initialsFrom slot start (s .line) (s .says)) ss
-      ++ concat-map (λ (i : ℕ). stepsFrom slot (equatingAt ss i .line) (equatingAt ss i .says)) q)
+  pub once : Permutation (length (equatingIn us)) q
+  pub made : let slot = slotOf us in
+      rs ≡ concat-map (λ (u : TextUnit). constantsFrom slot (u .line) (u .body)) us
+      ++ (concat-map (λ (u : TextUnit). initialsFrom slot start (u .line) (u .body)) us
+      ++ concat-map (λ (i : ℕ). stepsFrom slot (equatingAt us i .line) (equatingAt us i .body)) q)
 
 -- a statement without fault as the sheet has it
 abbrev pub reported : Numbered → Report Told
 reported s = record { line = s .line; what = says (s .says) }
 
--- NOTHING IS LOST of a text: for each statement of the reading there is what it says, and no other; each has its
--- records, once; and the program has no other record
+-- NOTHING IS LOST of a text: for each statement of the reading there is what it says, and no other; each unit of these
+-- has its records, once; and the program has no other record
 pub record NothingLost (text : List ℕ) (rs : List Rec) : Type 0 where
   pub taken : map (report told) (reading fresh 1 (linesOf text)) ≡ map reported (said (sheetOf text))
-  pub recorded : let ss = said (sheetOf text) in let slot = slotOf ss in
-      EachAsked (ConstantRecorded slot rs) (AssignmentRecorded slot rs) (StateRecorded slot (Resolves ss) rs) ss
-  pub made-of : MadeOf (said (sheetOf text)) rs
+  pub recorded : let us = textUnits text in let slot = slotOf us in
+      EachAsked (ConstantRecorded slot rs) (AssignmentRecorded slot rs) (StateRecorded slot (Resolves us) rs)
+      (BlockRecorded slot rs) us
+  pub made-of : MadeOf (textUnits text) rs

@@ -6,9 +6,9 @@ use Rattle.laws.specs.Agree.{Agree5}
 use Rattle.model.specs.Plan.{Lent, PlanOutcome}
 use Rattle.model.specs.Contract.{Plans}
 
-pub plan : (lines bounds kinds args used faults : List ℕ) (l : Lent)
-    → Agree5 (Plans lines bounds kinds args used faults l)
-plan lines bounds kinds args used faults l r s a b u v f g m n p q = parts (p ∙ sym q)
+pub plan : (lines bounds ulines ubounds kinds args used faults : List ℕ) (l : Lent)
+    → Agree5 (Plans lines bounds ulines ubounds kinds args used faults l)
+plan lines bounds ulines ubounds kinds args used faults l r s a b u v f g m n p q = parts (p ∙ sym q)
   where
     parts : {x y : PlanOutcome} → x ≡ y
         → (x .plan ≡ y .plan) × (x .args ≡ y .args) × (x .used ≡ y .used) × (x .faults ≡ y .faults)

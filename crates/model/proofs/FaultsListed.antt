@@ -14,8 +14,8 @@ use Rattle.laws.proofs.Sets.{sets-append}
 use Rattle.laws.proofs.Gathers.{gather-step, gather-done}
 use Rattle.sheet.specs.Sheet.{Fault, entryOf, faultEntry, faultList}
 use Rattle.sheet.proofs.Entries.{list-length, list-append}
-use Rattle.model.specs.Faults.{faultIf}
-use Rattle.model.specs.Working.{Reported}
+use Rattle.blocks.specs.Tests.{faultIf}
+use Rattle.blocks.specs.Working.{Reported}
 
 pub if-length : (b : Bool) (line code : ℕ) → length (faultIf b line code) ≤ 1
 if-length true line code = omega arith

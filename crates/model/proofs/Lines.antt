@@ -1,32 +1,36 @@
--- The first lines of a text's equations rise, so that the order is first also by the list of first lines.
-use Prim.Native.Nat.{ℕ, suc, _<_}
-use mathlib.Core.Path.{_≡_, refl}
+-- The first lines of a text's units rise, so that the order is first also by the list of first lines.
+use Prim.Native.Nat.{ℕ, suc, _≤_, _<_}
 use mathlib.Core.List.{List, [], _∷_, _++_, map}
 use native.Mathlib.Omega.{arith}
 use lib.ListN.{length-map, List·getD-map}
 use Rattle.laws.specs.Lists.{concat-map}
 use Rattle.laws.specs.Rising.{Rising}
-use Rattle.laws.proofs.Lists.{concat-append}
 use Rattle.laws.proofs.Rising.{rising-le, rising-lt}
 use Rattle.deck.specs.Lines.{linesOf}
 use Rattle.deck.specs.Reading.{Statement, fresh, reading}
 use Rattle.deck.specs.Reports.{Report, report}
 use Rattle.deck.proofs.Rising.{firsts, reading-rises}
-use Rattle.drafts.specs.Tree.{Constant, Says, constants, assignment, state}
+use Rattle.drafts.specs.Tree.{Says, constants as constantsSaid, assignment as assignmentSaid, state as stateSaid}
+use Rattle.drafts.specs.Tree.{header, ending}
 use Rattle.sheet.specs.Sheet.{Told, says, faulty, Sheet, Numbered, said}
 use Rattle.sheet.specs.Reader.{told, sheetOf}
+use Rattle.blocks.specs.Units.{Single, constants, assignment, state, UnitBody, single, block, TextUnit, OrderUnit}
+use Rattle.blocks.specs.Units.{unitOfOne, orderUnitOf, orderUnits}
+use Rattle.blocks.specs.Members.{Pending, idle, partly, innerOf, unitsBy, pendingBy, unitsFrom, unitsOf}
 use Rattle.order.specs.Order.{_≼_}
 use Rattle.order.proofs.FirstOrder.{first-by-lines}
-use Rattle.model.specs.Definitions.{Def, definedBy, definitions, Equation, equationOf, equations, noEquation}
-use Rattle.model.specs.Definitions.{equationCount}
+use Rattle.model.specs.Definitions.{noUnit, unitCount}
 use Rattle.model.specs.Faults.{usesIn, GoodOrder, orderOf}
-use Rattle.model.specs.Text.{textDefinitions, lineAt}
+use Rattle.model.specs.Text.{textUnits, lineAt}
 
 abbrev numbersOf : List Numbered → List ℕ
 numbersOf ss = map (λ (s : Numbered). s .line) ss
 
-abbrev linesIn : List Equation → List ℕ
-linesIn es = map (λ (e : Equation). e .line) es
+abbrev unitLines : List TextUnit → List ℕ
+unitLines us = map (λ (u : TextUnit). u .line) us
+
+abbrev orderLines : List OrderUnit → List ℕ
+orderLines os = map (λ (o : OrderUnit). o .line) os
 
 -- ---- from the reading to the sheet and to the statements without fault
 sheet-rises : (b : ℕ) (ss : List Statement) → Rising b (firsts ss)
@@ -44,51 +48,79 @@ said-rises b (r ∷ rs) h = go (r .what) (said-rises (suc (r .line)) rs (h .1))
     go (says x) k = (h .0, k)
     go (faulty c p) k = rising-le (suc (r .line)) b (numbersOf (said rs)) k (omega (arith, h .0))
 
--- ---- constants give no equation, an assignment or a state statement gives one
-pub no-equations : (l : ℕ) (cs : List Constant) → equations (definedBy l (constants cs)) ≡ []
-unfolding concat-map
-no-equations l [] = refl
-no-equations l (c ∷ cs) = no-equations l cs
+-- ---- from the statements to the units: each outside a block is one; a block stands at its header's number
 
-abbrev equationsIn : List Numbered → List Equation
-equationsIn ss = equations (definitions ss)
+-- what has been read of a block begins at c or later, before the next statement, b
+abbrev Since : ℕ → ℕ → Pending → Type 0
+Since c b idle = c ≤ b
+Since c b (partly h os is ns) = (c ≤ h) × (h < b)
 
-equations-cons : (s : Numbered) (ss : List Numbered)
-    → equationsIn (s ∷ ss) ≡ equations (definedBy (s .line) (s .says)) ++ equationsIn ss
-unfolding concat-map
-equations-cons s ss =
-    concat-append (λ (d : Def). equationOf (d .line) (d .key) (d .what)) (definedBy (s .line) (s .says))
-    (definitions ss)
-
-equations-rise : (b : ℕ) (ss : List Numbered) → Rising b (numbersOf ss) → Rising b (linesIn (equationsIn ss))
-unfolding concat-map
-equations-rise b [] r = tt
-equations-rise b (s ∷ ss) r =
-    rw (equations-cons s ss) (go (s .says) (equations-rise (suc (s .line)) ss (r .1)))
+-- the units of what is read from b on, behind what has been read of a block
+units-from : (c b : ℕ) (p : Pending) (ss : List Numbered) → Since c b p → Rising b (numbersOf ss)
+    → Rising c (unitLines (unitsFrom p ss))
+unfolding unitsFrom
+units-from c b p [] i r = tt
+units-from c b p (s ∷ ss) i r = step (λ d q j. units-from d (suc (s .line)) q ss j (r .1)) p (s .says) i
   where
-    go : (x : Says) → Rising (suc (s .line)) (linesIn (equationsIn ss))
-        → Rising b (linesIn (equations (definedBy (s .line) x) ++ equationsIn ss))
-    go (constants cs) k =
-        rw (no-equations (s .line) cs) (rising-le (suc (s .line)) b (linesIn (equationsIn ss)) k (omega (arith, r .0)))
-    go (assignment key e) k = (r .0, k)
-    go (state key i e) k = (r .0, k)
+    l : ℕ
+    l = s .line
+
+    -- all behind this statement rises from d on
+    On : Type 0
+    On = (d : ℕ) (q : Pending) → Since d (suc l) q → Rising d (unitLines (unitsFrom q ss))
+
+    step : On → (q : Pending) (x : Says) → Since c b q
+        → Rising c (unitLines (unitsBy q l x ++ unitsFrom (pendingBy q l x) ss))
+    step on idle (constantsSaid cs) j = (omega (arith, r .0), on (suc l) idle (omega arith))
+    step on idle (assignmentSaid k e) j = (omega (arith, r .0), on (suc l) idle (omega arith))
+    step on idle (stateSaid k n e) j = (omega (arith, r .0), on (suc l) idle (omega arith))
+    step on idle (header os is) j = on c (partly l os is []) (omega (arith, r .0), omega arith)
+    step on idle ending j = on c idle (omega (arith, r .0))
+    step on (partly h os is ns) (constantsSaid cs) j = on c (partly h os is ns) (j .0, omega (arith, r .0, j .1))
+    step on (partly h os is ns) (assignmentSaid k e) j =
+        on c (partly h os is (ns ++ (innerOf os ns l k e ∷ []))) (j .0, omega (arith, r .0, j .1))
+    step on (partly h os is ns) (stateSaid k n e) j = on c (partly h os is ns) (j .0, omega (arith, r .0, j .1))
+    step on (partly h os is ns) (header os′ is′) j =
+        on c (partly l os′ is′ []) (omega (arith, r .0, j .0, j .1), omega arith)
+    step on (partly h os is ns) ending j = (j .0, on (suc h) idle (omega (arith, r .0, j .1)))
+
+units-rise : (b : ℕ) (ss : List Numbered) → Rising b (numbersOf ss) → Rising b (unitLines (unitsOf ss))
+units-rise b ss r = units-from b b idle ss (omega arith) r
+
+-- ---- from the units to those that are ordered: constants give none, every other unit gives one
+ordered-rise : (b : ℕ) (us : List TextUnit) → Rising b (unitLines us) → Rising b (orderLines (orderUnits us))
+unfolding concat-map
+ordered-rise b [] r = tt
+ordered-rise b (u ∷ us) r = body (u .body) (ordered-rise (suc (u .line)) us (r .1))
+  where
+    alone : (x : Single) → Rising (suc (u .line)) (orderLines (orderUnits us))
+        → Rising b (orderLines (unitOfOne (u .line) x ++ orderUnits us))
+    alone (constants cs) k = rising-le (suc (u .line)) b (orderLines (orderUnits us)) k (omega (arith, r .0))
+    alone (assignment key e) k = (r .0, k)
+    alone (state key i e) k = (r .0, k)
+
+    body : (x : UnitBody) → Rising (suc (u .line)) (orderLines (orderUnits us))
+        → Rising b (orderLines (orderUnitOf (u .line) x ++ orderUnits us))
+    body (single x) k = alone x k
+    body (block os is ns z) k = (r .0, k)
 
 -- ---- of a text
-pub equation-lines-rise : (text : List ℕ) (i j : ℕ) → j < equationCount (textDefinitions text) → i < j
-    → lineAt (textDefinitions text) i < lineAt (textDefinitions text) j
+pub unit-lines-rise : (text : List ℕ) (i j : ℕ) → j < unitCount (textUnits text) → i < j
+    → lineAt (textUnits text) i < lineAt (textUnits text) j
 unfolding sheetOf
-equation-lines-rise text i j h k =
-    let ds = textDefinitions text in
-    let line : Equation → ℕ = λ (e : Equation). e .line in
+unit-lines-rise text i j h k =
+    let us = textUnits text in
+    let line : OrderUnit → ℕ = λ (o : OrderUnit). o .line in
     let ss = reading fresh 1 (linesOf text) in
     let a = sheet-rises 1 ss (reading-rises fresh 1 (linesOf text) tt) in
-    let b = equations-rise 1 (said (sheetOf text)) (said-rises 1 (sheetOf text) a) in
-    let c = rising-lt 1 (linesIn (equations ds)) i j b k (rw (length-map (equations ds) line) h) in
-    rw (List·getD-map line (equations ds) i noEquation, List·getD-map line (equations ds) j noEquation) at c
+    let b = units-rise 1 (said (sheetOf text)) (said-rises 1 (sheetOf text) a) in
+    let c = ordered-rise 1 us b in
+    let d = rising-lt 1 (orderLines (orderUnits us)) i j c k (rw (length-map (orderUnits us) line) h) in
+    rw (List·getD-map line (orderUnits us) i noUnit, List·getD-map line (orderUnits us) j noUnit) at d
 
 -- THE ORDER OF A TEXT is first among all good orders also by the list of first lines
-pub text-order-first : (text : List ℕ) (q : List ℕ) → GoodOrder (textDefinitions text) q
-    → map (lineAt (textDefinitions text)) (orderOf (textDefinitions text)) ≼ map (lineAt (textDefinitions text)) q
+pub text-order-first : (text : List ℕ) (q : List ℕ) → GoodOrder (textUnits text) q
+    → map (lineAt (textUnits text)) (orderOf (textUnits text)) ≼ map (lineAt (textUnits text)) q
 text-order-first text q g =
-    let ds = textDefinitions text in
-    first-by-lines (equationCount ds) (usesIn ds) (lineAt ds) (λ a b h k. equation-lines-rise text a b h k) q g
+    let us = textUnits text in
+    first-by-lines (unitCount us) (usesIn us) (lineAt us) (λ a b h k. unit-lines-rise text a b h k) q g

@@ -15,9 +15,10 @@ use Rattle.laws.specs.Counts.{count, has}
 use Rattle.laws.proofs.Tests.{eq-or-ne}
 use Rattle.laws.proofs.Counts.{count-snoc-same, count-snoc-other}
 use Rattle.laws.proofs.Gathers.{gather-same}
-use Rattle.model.specs.Faults.{faultIf}
+use Rattle.blocks.specs.Tests.{faultIf}
 use Rattle.model.specs.Places.{loops}
-use Rattle.model.specs.Working.{Reported, Marked, unmarkedAt, unmarked}
+use Rattle.blocks.specs.Working.{Reported}
+use Rattle.model.specs.Working.{Marked, unmarkedAt, unmarked}
 use Rattle.model.proofs.FaultsListed.{if-length}
 
 -- the first k that are placed are marked

@@ -1,20 +1,20 @@
--- Names resolved and uses listed: a turn of each of the two loops, over drafts and over statements, and their ends.
+-- Names resolved and uses listed: a turn of each of the two loops, over drafts and over units, and their ends.
 use Prim.Native.Nat.{ℕ, _+_, _-_, _≤_, _<_}
 use mathlib.Core.Path.{_≡_, refl, sym, ap, ap₂, _∙_}
 use mathlib.Core.Bool.{Bool, true, false, cond}
 use mathlib.Core.List.{List, [], _∷_, _++_}
 use native.Mathlib.Omega.{arith}
-use lib.Dec.{eqb, ltb}
+use lib.Dec.{ltb}
 use lib.ListN.{length, getD, set, take, length-set}
 use lib.Seq.{sets, length-sets, take-all}
 use Rattle.laws.specs.Places.{gather, onlyIf}
 use Rattle.laws.proofs.Tests.{cond-ind}
 use Rattle.laws.proofs.Bools.{or-false}
 use Rattle.laws.proofs.Gathers.{gather-more, gather-none, gather-same}
-use Rattle.drafts.specs.Kinds.{kindFetch, defines, isNamed}
+use Rattle.drafts.specs.Kinds.{defines, isUse, asks, isNamed}
 use Rattle.drafts.specs.Places.{begins, ends, inStatement}
 use Rattle.laws.specs.Put.{Put}
-use Rattle.model.specs.Places.{resolvedAt, resolved, isEquation, equatedIn}
+use Rattle.model.specs.Places.{resolvedAt, resolved, isOrdered, orderedIn}
 use Rattle.model.specs.Places.{usedAt, usedIn, startsFrom}
 use Rattle.model.specs.Plan.{ownSlots}
 use Rattle.model.specs.Working.{flawedBy, usedOwner, usedHere, usedFrom, Resolved, Resolving, Linking, Walked}
@@ -28,18 +28,17 @@ use Rattle.model.proofs.SlotOwners.{used-same}
 use Rattle.model.proofs.UsesTabled.{rises-to, gather-next, ends-within, usesOf, usesTo, beginAt, whole-uses}
 use Rattle.model.proofs.UsesTabled.{whole-begin}
 
--- a draft uses at most one equation, and one that is no name uses none
+-- a draft uses at most one unit, and one that is no name uses none
 used-one : (owners : List ℕ) (kind slot : ℕ) → length (usedHere owners kind slot) ≤ 1
 used-one owners kind slot =
     let o = getD owners slot 0 in
-    cond-ind (λ (l : List ℕ). length l ≤ 1) (eqb kind kindFetch) (usedOwner owners slot) []
+    cond-ind (λ (l : List ℕ). length l ≤ 1) (isUse kind) (usedOwner owners slot) []
     (λ _. only-length (ltb 0 o) (o - 1)) (λ _. omega arith)
 
 used-other : (owners : List ℕ) (kind slot : ℕ) → isNamed kind ≡ false → usedHere owners kind slot ≡ []
 used-other owners kind slot n =
-    let a = or-false (defines kind) _ n .1 in
-    let b = or-false (eqb kind kindFetch) _ a .0 in
-    rw b
+    let a = or-false (asks kind) _ (or-false (defines kind) _ n .1) .0 in
+    rw (or-false (isUse kind) _ a .0)
 
 abbrev pub usage : ℕ → Bool → Usage
 usage w flawed = record { count = w; flawed = flawed }
@@ -150,14 +149,14 @@ module _ {keys kinds places owners args₁ used₁ args used : List ℕ} {from e
       let e : i ≡ end = omega (arith, v .within) in
       (omega (arith, v .short, v .within), λ args₀ k. rw e at (v .so args₀ k))
 
--- ---- the loop over statements stands at statement j, with r equations before it
+-- ---- the loop over units stands at unit j, with r of the order before it
 
--- with all owners a statement uses what it uses, with none nothing
-module _ (bounds kinds slots owners assigned : List ℕ)
+-- with all owners a unit uses what it uses, with none nothing
+module _ (bounds kinds slots owners : List ℕ) (assigned : List (List ℕ))
     (same : (i : ℕ) → usedFrom owners kinds slots i ≡ usedAt assigned kinds slots i) where
-  uses-known : (j m : ℕ) → m ≡ cond (isEquation bounds kinds j) (length owners) 0
+  uses-known : (j m : ℕ) → m ≡ cond (isOrdered bounds kinds j) (length owners) 0
       → inStatement bounds (usedFrom (take m owners) kinds slots) j ≡ usesOf assigned bounds kinds slots j
-  uses-known j m e = go (isEquation bounds kinds j) e
+  uses-known j m e = go (isOrdered bounds kinds j) e
     where
       begin : ℕ
       begin = begins bounds j
@@ -176,7 +175,7 @@ module _ (bounds kinds slots owners assigned : List ℕ)
       go false q =
           rw q
           (gather-none (usedFrom [] kinds slots) count
-          begin (λ i _ _. none (getD slots i 0) (eqb (getD kinds i 0) kindFetch)))
+          begin (λ i _ _. none (getD slots i 0) (isUse (getD kinds i 0))))
 
 pub record Stating (lines bounds kinds keys places args₀ starts₀ used₀ : List ℕ) (n : Usage) (r j : ℕ)
     (args starts used : List ℕ) : Type 0 where
@@ -200,7 +199,7 @@ module _ {lines bounds kinds keys owners args₀ used₀ : List ℕ} (places sta
   abbrev slots : List ℕ
   slots = resolved keys kinds args₀
 
-  abbrev own : List ℕ
+  abbrev own : List (List ℕ)
   own = ownSlots (length lines) bounds kinds slots
 
   pub stating-first : Stating lines bounds kinds keys places args₀ starts₀ used₀ (usage 0 false) 0 0 args₀ starts₀ used₀
@@ -219,7 +218,7 @@ module _ {lines bounds kinds keys owners args₀ used₀ : List ℕ} (places sta
 
   module _ {n : Usage} {r j : ℕ} {args starts used : List ℕ}
       (v : Stating lines bounds kinds keys places args₀ starts₀ used₀ n r j args starts used) where
-    -- the drafts of a statement can be gone over
+    -- the drafts of a unit can be gone over
     pub stating-walked : {from end : ℕ} → j < length lines → from ≡ begins bounds j → end ≡ ends bounds j
         → Walked keys kinds args from end (n .count)
     stating-walked h p q =
@@ -243,9 +242,9 @@ module _ {lines bounds kinds keys owners args₀ used₀ : List ℕ} (places sta
           s .sound .small,
         )
 
-    -- one statement more, of which the first m owners are looked at
+    -- one unit more, of which the first m owners are looked at
     pub stating-next : {b : Bool} {w r′ m from end : ℕ} {n′ : Usage} {args′ starts′ used′ : List ℕ} → j < length lines
-        → b ≡ isEquation bounds kinds j
+        → b ≡ isOrdered bounds kinds j
         → w ≡ n .count → Put (onlyIf b w) r r′ starts starts′ → m ≡ cond b (length owners) 0 → from ≡ begins bounds j
         → end ≡ ends bounds j
         → length used′ ≡ length used → n′ .count ≤ end
@@ -275,13 +274,13 @@ module _ {lines bounds kinds keys owners args₀ used₀ : List ℕ} (places sta
         begin-same : onlyIf b w ≡ beginAt own bounds kinds slots j
         begin-same = ap₂ onlyIf t (omega (arith, c, v .uses .behind))
 
-    -- all statements
+    -- all units
     pub stating-last : {w : ℕ} {starts′ : List ℕ} → length lines ≤ j → w ≡ n .count → starts′ ≡ set starts r w
         → Linked lines bounds kinds keys places n args₀ args starts₀ starts′ used₀ used
     stating-last {w} {starts′} h c e = record { resolved-so = done; tabled-so = rw (done .same) tabled }
       where
         equated : List ℕ
-        equated = equatedIn (length lines) bounds kinds
+        equated = orderedIn (length lines) bounds kinds
 
         last : j ≡ length lines
         last = omega (arith, v .within)

@@ -1,7 +1,7 @@
 -- Names resolved, and the faults 22 and 23.
 use Prim.Native.Nat.{ℕ, zero, suc, _+_, _-_, _≤_, _<_}
 use mathlib.Core.Path.{_≡_, refl, sym, ap, ap₂, _∙_}
-use mathlib.Core.Bool.{Bool, true, false, not, _&&_, _||_}
+use mathlib.Core.Bool.{Bool, true, false, not, cond, _&&_, _||_}
 use mathlib.Core.List.{List, [], _∷_, _++_, append-assoc}
 use native.Mathlib.Nat.{sub-zero}
 use native.Mathlib.Numerals.{add-one}
@@ -15,10 +15,11 @@ use Rattle.laws.proofs.Bools.{or-false}
 use Rattle.laws.proofs.Runs.{held as stands}
 use Rattle.laws.proofs.Gathers.{any-step, any-stop, any-pass, any-done}
 use Rattle.model.specs.Definitions.{placeIn}
-use Rattle.model.specs.Faults.{faultIf, nameFault}
-use Rattle.drafts.specs.Kinds.{kindConstant, kindFetch, kindStore, kindRate, kindFrom, defines, isNamed, asks}
+use Rattle.blocks.specs.Tests.{faultIf}
+use Rattle.model.specs.Faults.{nameFault}
+use Rattle.drafts.specs.Kinds.{kindConstant, kindFrom, defines, isUse, asks, isNamed}
 use Rattle.drafts.specs.Places.{homeOf, begins, ends, anyOf}
-use Rattle.model.specs.Places.{resolvedAt, resolved, undefinedAt, unfitAt, namesAt}
+use Rattle.model.specs.Places.{resolvedAt, resolved, unknown, undefinedAt, unfitAt, namesAt}
 use Rattle.model.specs.Working.{flawedBy, flawedAt, Resolved, Resolving, nameFlaw}
 use Rattle.model.proofs.FaultsListed.{if-length}
 
@@ -35,8 +36,9 @@ or-assoc true b c = refl
 or-assoc false b c = refl
 
 -- the tests at a draft that was read
-pub undefined-read : (n : ℕ) {kind slot a b : ℕ} → kind ≡ a → slot ≡ b → (asks kind && ltb n slot) ≡ (asks a && ltb n b)
-undefined-read n p q = ap₂ (λ (k s : ℕ). asks k && ltb n s) p q
+pub undefined-read : (places kinds : List ℕ) {kind slot a b : ℕ} → kind ≡ a → slot ≡ b
+    → (asks kind && unknown places kinds slot) ≡ (asks a && unknown places kinds b)
+undefined-read places kinds p q = ap₂ (λ (k s : ℕ). asks k && unknown places kinds s) p q
 
 pub unfit-read : (places kinds : List ℕ) {kind slot a b : ℕ} → kind ≡ a → slot ≡ b
     → (eqb kind kindFrom && not (eqb (getD kinds (homeOf places slot) 0) kindConstant))
@@ -64,25 +66,24 @@ resolved-at keys (k ∷ kinds) [] i h l = absurd (omega arith)
 resolved-at keys (k ∷ kinds) (a ∷ args) zero h l = refl
 resolved-at keys (k ∷ kinds) (a ∷ args) (suc i) h l = resolved-at keys kinds args i (omega arith) (omega arith)
 
--- the slot of a store, found before its name is resolved
-pub slot-stored : (keys kinds args : List ℕ) (i : ℕ) {kind r a : ℕ} → length kinds ≤ length args → kind ≡ getD kinds i 0
-    → kind ≡ kindStore
+-- the slot of a name, found before it is resolved; n is the kind
+pub slot-ahead : (keys kinds args : List ℕ) (i n : ℕ) {kind r a : ℕ} → isNamed n ≡ true → eqb 0 n ≡ false
+    → length kinds ≤ length args → kind ≡ getD kinds i 0 → kind ≡ n
     → a ≡ getD args i 0 → r ≡ placeIn a keys → r + 1 ≡ getD (resolved keys kinds args) i 0
-slot-stored keys kinds args i {kind} {r} {a} l k e p q =
-    let stored : getD kinds i 0 ≡ kindStore = sym k ∙ e in
+slot-ahead keys kinds args i n {kind} {r} {a} t z l k e p q =
+    let here : getD kinds i 0 ≡ n = sym k ∙ e in
     let value : getD (resolved keys kinds args) i 0 ≡ suc (placeIn (getD args i 0) keys) =
-    resolved-at keys kinds args i (stands kindStore kinds i refl stored) l
-    ∙ ap (λ (j : ℕ). resolvedAt keys j (getD args i 0)) stored in
+    resolved-at keys kinds args i (stands n kinds i z here) l ∙ ap (λ (j : ℕ). resolvedAt keys j (getD args i 0)) here
+    ∙ ap (λ (b : Bool). cond b (suc (placeIn (getD args i 0) keys)) (getD args i 0)) t in
     let same : r ≡ placeIn (getD args i 0) keys = q ∙ ap (λ (x : ℕ). placeIn x keys) p in
     omega (arith, value, same)
 
 -- what is no name is not flawed
 other-clear : (places kinds : List ℕ) (kind slot : ℕ) → isNamed kind ≡ false → flawedBy places kinds kind slot ≡ false
 other-clear places kinds kind slot n =
-    let a = or-false (defines kind) _ n .1 in
-    let b = or-false (eqb kind kindFetch) _ a in
-    let d = or-false (eqb kind kindRate) _ (b .1) in
-    rw (b .0, d .1)
+    let a = or-false (asks kind) _ (or-false (defines kind) _ n .1) .0 in
+    let f = or-false (isUse kind) _ a .1 in
+    rw (a, f)
 
 -- ---- the drafts before place i are resolved, and those that are flawed are noted
 pub resolving-first : (keys kinds places args : List ℕ) → Resolving keys kinds places args false 0 args
@@ -203,24 +204,23 @@ flaw-fault true x line = refl
 flaw-fault false true line = refl
 flaw-fault false false line = refl
 
--- 22 or 23 stands once at a statement
+-- 22 or 23 stands once at a unit
 pub names-single : (places lines bounds kinds slots : List ℕ) (j : ℕ)
     → length (namesAt places lines bounds kinds slots j) ≤ 1
 names-single places lines bounds kinds slots j =
-    let u = anyOf bounds (undefinedAt (length places) kinds slots) j in
+    let u = anyOf bounds (undefinedAt places kinds slots) j in
     let x = anyOf bounds (unfitAt places kinds slots) j in
     rw (← (flaw-fault u x (getD lines j 0))) (if-length (ltb 0 (nameFlaw u x)) (getD lines j 0) (nameFlaw u x))
 
--- 22 or 23 at statement j, as it was found
+-- 22 or 23 at unit j, as it was found
 pub flaw-found : (places lines bounds kinds slots : List ℕ) (j : ℕ) {flaw line a b : ℕ}
-    → flaw ≡ nameFlaw (anyIn (undefinedAt (length places) kinds slots) (b - a) a)
+    → flaw ≡ nameFlaw (anyIn (undefinedAt places kinds slots) (b - a) a)
     (anyIn (unfitAt places kinds slots) (b - a) a)
     → a ≡ begins bounds j → b ≡ ends bounds j → line ≡ getD lines j 0
     → faultIf (ltb 0 flaw) line flaw ≡ namesAt places lines bounds kinds slots j
 flaw-found places lines bounds kinds slots j {flaw} {line} {a} {b} e p q l =
     let found : ℕ → ℕ → ℕ = λ (x y : ℕ).
-    nameFlaw (anyIn (undefinedAt (length places) kinds slots) (y - x) x)
-    (anyIn (unfitAt places kinds slots) (y - x) x) in
+    nameFlaw (anyIn (undefinedAt places kinds slots) (y - x) x) (anyIn (unfitAt places kinds slots) (y - x) x) in
     ap₂ (λ (c n : ℕ). faultIf (ltb 0 c) n c) (e ∙ ap₂ found p q) l
-    ∙ flaw-fault (anyOf bounds (undefinedAt (length places) kinds slots) j)
+    ∙ flaw-fault (anyOf bounds (undefinedAt places kinds slots) j)
     (anyOf bounds (unfitAt places kinds slots) j) (getD lines j 0)

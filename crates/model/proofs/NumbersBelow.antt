@@ -1,6 +1,6 @@
 -- The numbers of statements in reports, definitions and faults are below a bound.
 use Prim.Native.Nat.{ℕ, suc, _+_, _≤_, _<_}
-use mathlib.Core.Bool.{Bool, true, false, cond}
+use mathlib.Core.Bool.{Bool, true, false, not, cond}
 use mathlib.Core.List.{List, [], _∷_, _++_, map}
 use native.Mathlib.Omega.{arith}
 use lib.ListN.{length}
@@ -10,30 +10,39 @@ use Rattle.laws.specs.Lists.{numbers}
 use Rattle.deck.specs.Lines.{Line, linesOf, dotted, passed}
 use Rattle.deck.specs.Reading.{Statement, State, fresh, inside, goes-on, justClosed, after, ended, left, reading}
 use Rattle.deck.specs.Reports.{Report, report}
-use Rattle.drafts.specs.Tree.{Constant, Says, constants, assignment, state}
+use Rattle.drafts.specs.Tree.{Says, constants as constantsSaid, assignment as assignmentSaid, state as stateSaid}
+use Rattle.drafts.specs.Tree.{header, ending}
 use Rattle.sheet.specs.Sheet.{Told, says, faulty, Sheet, Numbered, Fault, saidBy, faultBy, said, statementFaults}
 use Rattle.sheet.specs.Reader.{told, sheetOf}
-use Rattle.model.specs.Definitions.{What, constant, assigned, integral, Def, defined, definedBy, definitions}
-use Rattle.model.specs.Definitions.{keys, Equation, equationOf, equations, noEquation, equationAt, equationCount}
+use Rattle.blocks.specs.Units.{constants, assignment, state, Inner, UnitBody, single, block, TextUnit, textUnit}
+use Rattle.blocks.specs.Units.{closing, Stated, stated, statedInner, statedBy, statedIn, OrderUnit, orderUnitOf}
+use Rattle.blocks.specs.Units.{orderUnits}
+use Rattle.blocks.specs.Pairing.{Pair, bracketOf, unpaired, faults25From, pairs, brackets, faults25}
+use Rattle.blocks.specs.Inside.{headWrong, innerRight, Spot, outer, enclosed, setInside, innerFault, fault26, spotNext}
+use Rattle.blocks.specs.Inside.{freeKnown, faults26From, faults26, blockFaults}
+use Rattle.blocks.specs.Members.{Pending, idle, partly, innerOf, unitsBy, pendingBy, unitsFrom, unitsOf}
 use Rattle.order.specs.Order.{unsortable}
-use Rattle.model.specs.Faults.{faultIf, again, faults21, namedBy, initialOf, constantKeys, within, nameFault}
-use Rattle.model.specs.Faults.{nameFaultOf, nameFaults}
-use Rattle.model.specs.Faults.{usesIn, fault24, faults24, orElse, modelFaults}
+use Rattle.model.specs.Definitions.{Def, definedBy, definitions, keys, noUnit, unitAt, unitCount}
+use Rattle.blocks.specs.Tests.{faultIf, again, within}
+use Rattle.model.specs.Faults.{faults21, namedBy, initialOf, outsideKeys, constantKeys}
+use Rattle.blocks.specs.Tests.{orElse}
+use Rattle.model.specs.Faults.{nameFault, nameFaultOf, nameFaults, usesIn, fault24, faults24, modelFaults}
+use Rattle.model.specs.Text.{modelFaultsIn}
 
 -- the tests behind faults 22, 23 and 24: all names are defined
-abbrev defined-all : List Def → Def → Bool
-defined-all ds d = within (namedBy (d .what)) (keys ds)
+abbrev defined-all : List Def → TextUnit → Bool
+defined-all ds u = within (namedBy (u .body)) (outsideKeys ds)
 
 -- the initial name is a constant
-abbrev constant-all : List Def → Def → Bool
-constant-all ds d = within (initialOf (d .what)) (constantKeys ds)
+abbrev constant-all : List Def → TextUnit → Bool
+constant-all ds u = within (initialOf (u .body)) (constantKeys ds)
 
--- the equation is unsortable
-abbrev stuck : List Def → ℕ → Bool
-stuck ds i = unsortable (equationCount ds) (usesIn ds) i
+-- the unit is unsortable
+abbrev stuck : List TextUnit → ℕ → Bool
+stuck us i = unsortable (unitCount us) (usesIn us) i
 
--- ---- all below b: the number of a statement, of a report, of what a statement says, of a definition, of an equation,
--- of a fault
+-- ---- all below b: the number of a statement, of a report, of what a statement says, of a statement of a unit, of a
+-- unit of the order, of a fault; and of a unit, the numbers of all its statements
 module _ (b : ℕ) where
   abbrev pub FirstBelow : Statement → Type 0
   FirstBelow s = s .first < b
@@ -44,11 +53,14 @@ module _ (b : ℕ) where
   abbrev pub SaidBelow : Numbered → Type 0
   SaidBelow s = s .line < b
 
-  abbrev DefBelow : Def → Type 0
-  DefBelow d = d .line < b
+  abbrev StatedBelow : Stated → Type 0
+  StatedBelow t = t .line < b
 
-  abbrev pub EquationBelow : Equation → Type 0
-  EquationBelow e = e .line < b
+  abbrev pub UnitBelow : TextUnit → Type 0
+  UnitBelow u = Every StatedBelow (statedBy (u .line) (u .body))
+
+  abbrev OrderBelow : OrderUnit → Type 0
+  OrderBelow o = o .line < b
 
   abbrev pub FaultBelow : Fault → Type 0
   FaultBelow f = f .line < b
@@ -103,34 +115,73 @@ module _ (b : ℕ) where
       one l h (says x) = (h, tt)
       one l h (faulty c q) = tt
 
-  -- of the definitions
-  definitions-below : (ss : List Numbered) → Every SaidBelow ss → Every DefBelow (definitions ss)
-  definitions-below ss p =
-      every-concat SaidBelow DefBelow (λ s. definedBy (s .line) (s .says)) (λ s h. one (s .line) h (s .says)) ss p
+  -- of what has been read of a block
+  abbrev InnerBelow : Inner → Type 0
+  InnerBelow n = n .line < b
+
+  abbrev PendingBelow : Pending → Type 0
+  PendingBelow idle = Unit {0}
+  PendingBelow (partly h os is ns) = (h < b) × Every InnerBelow ns
+
+  -- of a block
+  block-below : (h z : ℕ) (os is : List ℕ) (ns : List Inner) → h < b → z < b → Every InnerBelow ns
+      → UnitBelow (textUnit h (block os is ns z))
+  block-below h z os is ns p q r = (
+    p,
+    every-append StatedBelow (map statedInner ns) (stated z closing ∷ [])
+        (every-mapped InnerBelow StatedBelow statedInner (λ n p. p) ns r) (q, tt),
+  )
+
+  -- of the units behind what has been read of a block
+  units-from : (p : Pending) (ss : List Numbered) → PendingBelow p → Every SaidBelow ss
+      → Every UnitBelow (unitsFrom p ss)
+  unfolding unitsFrom
+  units-from p [] i h = tt
+  units-from p (s ∷ ss) i h = step (λ q j. units-from q ss j (h .1)) p (s .says) i
     where
-      all : (l : ℕ) → l < b → (cs : List Constant)
-          → Every DefBelow (map (λ (c : Constant). defined l (c .key) (constant (c .worth))) cs)
-      all l h [] = tt
-      all l h (c ∷ cs) = (h, all l h cs)
+      l : ℕ
+      l = s .line
 
-      one : (l : ℕ) → l < b → (x : Says) → Every DefBelow (definedBy l x)
-      one l h (constants cs) = all l h cs
-      one l h (assignment k e) = (h, tt)
-      one l h (state k i e) = (h, tt)
+      step : ((q : Pending) → PendingBelow q → Every UnitBelow (unitsFrom q ss)) → (q : Pending) (x : Says)
+          → PendingBelow q
+          → Every UnitBelow (unitsBy q l x ++ unitsFrom (pendingBy q l x) ss)
+      step on idle (constantsSaid cs) j = ((h .0, tt), on idle tt)
+      step on idle (assignmentSaid k e) j = ((h .0, tt), on idle tt)
+      step on idle (stateSaid k i e) j = ((h .0, tt), on idle tt)
+      step on idle (header os is) j = on (partly l os is []) (h .0, tt)
+      step on idle ending j = on idle tt
+      step on (partly m os is ns) (constantsSaid cs) j = on (partly m os is ns) j
+      step on (partly m os is ns) (assignmentSaid k e) j =
+          on (partly m os is (ns ++ (innerOf os ns l k e ∷ [])))
+          (j .0, every-append InnerBelow ns (innerOf os ns l k e ∷ []) (j .1) (h .0, tt))
+      step on (partly m os is ns) (stateSaid k i e) j = on (partly m os is ns) j
+      step on (partly m os is ns) (header os′ is′) j = on (partly l os′ is′ []) (h .0, tt)
+      step on (partly m os is ns) ending j = (block-below m l os is ns (j .0) (h .0) (j .1), on idle tt)
 
-  -- of the equations
-  equations-below : (ds : List Def) → Every DefBelow ds → Every EquationBelow (equations ds)
-  equations-below ds p =
-      every-concat DefBelow EquationBelow (λ d. equationOf (d .line) (d .key) (d .what)) (λ d h. one d h (d .what)) ds p
+  -- of its units
+  pub units-below : (ss : List Numbered) → Every SaidBelow ss → Every UnitBelow (unitsOf ss)
+  units-below ss p = units-from idle ss tt p
+
+  -- the number of a unit
+  line-below : (l : ℕ) (x : UnitBody) → Every StatedBelow (statedBy l x) → l < b
+  line-below l (single x) p = p .0
+  line-below l (block os is ns z) p = p .0
+
+  -- of the units of the order
+  ordered-below : (us : List TextUnit) → Every UnitBelow us → Every OrderBelow (orderUnits us)
+  ordered-below us p =
+      every-concat UnitBelow OrderBelow (λ (u : TextUnit). orderUnitOf (u .line) (u .body))
+      (λ u h. one (u .line) (line-below (u .line) (u .body) h) (u .body)) us p
     where
-      one : (d : Def) → d .line < b → (w : What) → Every EquationBelow (equationOf (d .line) (d .key) w)
-      one d h (constant x) = tt
-      one d h (assigned e) = (h, tt)
-      one d h (integral i e) = (h, tt)
+      one : (l : ℕ) → l < b → (x : UnitBody) → Every OrderBelow (orderUnitOf l x)
+      one l h (single (constants cs)) = tt
+      one l h (single (assignment k e)) = (h, tt)
+      one l h (single (state k i e)) = (h, tt)
+      one l h (block os is ns z) = (h, tt)
 
-  -- .. and of the equation at any place
-  equation-below : 0 < b → (ds : List Def) → Every DefBelow ds → (i : ℕ) → EquationBelow (equationAt ds i)
-  equation-below z ds p i = every-anywhere EquationBelow noEquation z (equations ds) i (equations-below ds p)
+  -- .. and of the one at any place
+  unit-below : 0 < b → (us : List TextUnit) → Every UnitBelow us → (i : ℕ) → OrderBelow (unitAt us i)
+  unit-below z us p i = every-anywhere OrderBelow noUnit z (orderUnits us) i (ordered-below us p)
 
   -- of a model fault
   if-below : (t : Bool) (l c : ℕ) → l < b → Every FaultBelow (faultIf t l c)
@@ -138,19 +189,20 @@ module _ (b : ℕ) where
   if-below false l c h = tt
 
   -- of faults 21
-  doubled-below : (seen : List ℕ) (ss : List Numbered) → Every SaidBelow ss → Every FaultBelow (faults21 seen ss)
+  doubled-below : (seen : List ℕ) (ts : List Stated) → Every StatedBelow ts → Every FaultBelow (faults21 seen ts)
   unfolding faults21
   doubled-below seen [] p = tt
-  doubled-below seen (s ∷ ss) p =
-      let ks = keys (definedBy (s .line) (s .says)) in
-      every-append FaultBelow (faultIf (again seen ks) (s .line) 21) (faults21 (seen ++ ks) ss)
-      (if-below (again seen ks) (s .line) 21 (p .0))
-      (doubled-below (seen ++ ks) ss (p .1))
+  doubled-below seen (t ∷ ts) p =
+      let ks = keys (definedBy (t .line) (t .stood)) in
+      every-append FaultBelow (faultIf (again seen ks) (t .line) 21) (faults21 (seen ++ ks) ts)
+      (if-below (again seen ks) (t .line) 21 (p .0))
+      (doubled-below (seen ++ ks) ts (p .1))
 
   -- of faults 22 and 23
-  named-below : (ds es : List Def) → Every DefBelow es → Every FaultBelow (nameFaults ds es)
-  named-below ds es p = every-concat DefBelow FaultBelow (nameFaultOf ds)
-      (λ d h. one (defined-all ds d) (constant-all ds d) (d .line) h) es p
+  named-below : (ds : List Def) (us : List TextUnit) → Every UnitBelow us → Every FaultBelow (nameFaults ds us)
+  named-below ds us p =
+      every-concat UnitBelow FaultBelow (nameFaultOf ds)
+      (λ u h. one (defined-all ds u) (constant-all ds u) (u .line) (line-below (u .line) (u .body) h)) us p
     where
       one : (t u : Bool) (l : ℕ) → l < b → Every FaultBelow (nameFault t u l)
       one false u l h = (h, tt)
@@ -162,13 +214,55 @@ module _ (b : ℕ) where
   or-below [] g p q = q
   or-below (x ∷ f) g p q = p
 
-  -- of all model faults
-  pub model-below : 0 < b → (ss : List Numbered) → Every SaidBelow ss → Every FaultBelow (modelFaults ss)
+  -- of all model faults of units
+  model-below : 0 < b → (us : List TextUnit) → Every UnitBelow us → Every FaultBelow (modelFaults us)
   unfolding modelFaults
-  model-below z ss p =
-      let ds = definitions ss in
-      let q = definitions-below ss p in
-      or-below (faults21 [] ss) _ (doubled-below [] ss p)
-      (or-below (nameFaults ds ds) (faults24 ds) (named-below ds ds q)
-      (every-part FaultBelow (fault24 ds)
-      (λ i. if-below (stuck ds i) (equationAt ds i .line) 24 (equation-below z ds q i)) (numbers (equationCount ds) 0)))
+  model-below z us p =
+      let ds = definitions us in
+      let ts : Every StatedBelow (statedIn us) =
+      every-concat UnitBelow StatedBelow (λ (u : TextUnit). statedBy (u .line) (u .body)) (λ u h. h) us p in
+      or-below (faults21 [] (statedIn us)) _ (doubled-below [] (statedIn us) ts)
+      (or-below (nameFaults ds us) (faults24 us) (named-below ds us p)
+      (every-part FaultBelow (fault24 us)
+      (λ i. if-below (stuck us i) (unitAt us i .line) 24 (unit-below z us p i)) (numbers (unitCount us) 0)))
+
+  -- ---- of the faults of blocks
+  unpaired-below : (ps : List Pair) (i : ℕ) (ss : List Numbered) → Every SaidBelow ss
+      → Every FaultBelow (faults25From ps i ss)
+  unfolding faults25From
+  unpaired-below ps i [] p = tt
+  unpaired-below ps i (s ∷ ss) p =
+      let wrong = unpaired ps i (bracketOf (s .says)) in
+      every-append FaultBelow (faultIf wrong (s .line) 25) (faults25From ps (suc i) ss)
+      (if-below wrong (s .line) 25 (p .0)) (unpaired-below ps (suc i) ss (p .1))
+
+  -- of a statement at its spot
+  inner-below : (free : List ℕ) (q : Spot) (s : Numbered) → s .line < b → Every FaultBelow (innerFault free q s)
+  inner-below free outer s h = tt
+  inner-below free (enclosed is above) s h = if-below (not (innerRight free is above (s .says))) (s .line) 26 h
+
+  spot-below : (free ks : List ℕ) (q : Spot) (s : Numbered) (x : Says) → s .line < b
+      → Every FaultBelow (fault26 free ks q s x)
+  spot-below free ks q s (constantsSaid cs) h = inner-below free q s h
+  spot-below free ks q s (assignmentSaid k e) h = inner-below free q s h
+  spot-below free ks q s (stateSaid k i e) h = inner-below free q s h
+  spot-below free ks q s (header os is) h = if-below (headWrong os ks) (s .line) 26 h
+  spot-below free ks q s ending h = tt
+
+  inside-below : (free : List ℕ) (q : Spot) (ss : List Numbered) → Every SaidBelow ss
+      → Every FaultBelow (faults26From free q ss)
+  unfolding faults26From
+  inside-below free q [] p = tt
+  inside-below free q (s ∷ ss) p =
+      every-append FaultBelow (fault26 free (setInside ss) q s (s .says))
+      (faults26From free (spotNext q (s .says)) ss)
+      (spot-below free (setInside ss) q s (s .says) (p .0)) (inside-below free (spotNext q (s .says)) ss (p .1))
+
+  -- OF ALL model faults of statements
+  pub all-below : 0 < b → (ss : List Numbered) → Every SaidBelow ss → Every FaultBelow (modelFaultsIn ss)
+  unfolding blockFaults
+  all-below z ss p =
+      or-below (blockFaults ss) (modelFaults (unitsOf ss))
+      (or-below (faults25 ss) (faults26 ss) (unpaired-below (pairs (brackets ss)) 0 ss p)
+      (inside-below (freeKnown ss) outer ss p))
+      (model-below z (unitsOf ss) (units-below ss p))

@@ -1,5 +1,5 @@
 -- The stages of a plan: how what the passes leave makes up the outcome.
-use Prim.Native.Nat.{ℕ, suc, _+_, _*_, _≤_, _<_}
+use Prim.Native.Nat.{ℕ, _+_, _*_, _≤_, _<_}
 use mathlib.Core.Path.{_≡_, refl, sym, ap, ap₂, _∙_, _≡⟨_⟩_, _∎}
 use mathlib.Core.Bool.{Bool, true, false, cond}
 use mathlib.Core.List.{List, [], _∷_}
@@ -11,9 +11,9 @@ use lib.Seq.{sets, sets-eq, length-sets, length-take-le, take-append-seam}
 use Rattle.limits.specs.Limits.{mostStatements, mostDefinitions, textBytes, faultBytes, slots as slotCount}
 use Rattle.laws.specs.Lists.{concat-map}
 use Rattle.laws.specs.Places.{anyIn, onlyIf}
-use Rattle.laws.proofs.Tests.{and-true}
+use Rattle.laws.proofs.Tests.{and-true, or-left, or-right}
 use Rattle.laws.proofs.Bools.{or-false}
-use Rattle.laws.proofs.Runs.{held as stands}
+use Rattle.laws.proofs.Runs.{inside as within}
 use Rattle.laws.proofs.Gathers.{any-none, none-any, gather-none, gather-short}
 use Rattle.sheet.specs.Sheet.{Fault, faultList}
 use Rattle.order.specs.Greedy.{order}
@@ -22,27 +22,29 @@ use Rattle.order.specs.Contract.{Sorts}
 use Rattle.order.specs.declared.Sorted.{Sorted}
 use Rattle.order.specs.declared.Sorted.the-variants.{Placed, Unfit}
 use Rattle.order.proofs.Tables.{fits-iff}
-use Rattle.drafts.specs.Kinds.{kindFetch}
+use Rattle.drafts.specs.Kinds.{defines, isUse, asks, isNamed}
 use Rattle.drafts.specs.Places.{begins, ends, anyOf}
 use Rattle.laws.specs.Put.{Put}
-use Rattle.model.specs.Places.{keysIn, placesIn, doubles, resolvedAt, resolved, undefinedAt, unfitAt, namesAt}
+use Rattle.model.specs.Places.{keysIn, placesIn, doubles, resolved, undefinedAt, unfitAt, namesAt}
 use Rattle.model.specs.Places.{nameless}
-use Rattle.model.specs.Places.{isEquation, equatedIn, assignedSlots, usedIn, startsFrom, loops}
-use Rattle.model.specs.Plan.{Lent, lent, withPlaces, PlanOutcome, planOutcome, refused, faulted, some, falls}
-use Rattle.model.specs.Plan.{inTurn, roomy, fit}
+use Rattle.model.specs.Places.{isOrdered, orderedIn, assignedSlots, usedIn, startsFrom, loops}
+use Rattle.blocks.specs.Grouped.{some, falls}
+use Rattle.model.specs.Plan.{Lent, lent, withPlaces, PlanOutcome, planOutcome, refused, faulted}
+use Rattle.blocks.specs.Grouped.{inTurn}
+use Rattle.model.specs.Plan.{roomy, fit}
 use Rattle.model.specs.Plan.{orderedPlan, weighed, tested, ownSlots, ownUses, linkedPlan, distinct, sheeted}
 use Rattle.model.specs.Plan.{planned}
-use Rattle.model.specs.Working.{Reported, Collected, Keyed, flawedAt, Follows, Holds, Wide, Slotted, Owned}
+use Rattle.blocks.specs.Working.{Reported}
+use Rattle.model.specs.Working.{Collected, Keyed, flawedAt, Follows, Holds, Wide, Slotted, Owned}
 use Rattle.model.specs.Working.{Linkable, Linked, Links, Searched, Weighs}
 use Rattle.model.specs.Working.{repeated}
 use Rattle.model.specs.declared.names.Usage.{Usage}
 use Rattle.model.specs.declared.stages.Link.{Link}
 use Rattle.model.specs.declared.answer.Plan.{Plan}
-use Rattle.model.specs.Definitions.{placeIn}
 use Rattle.model.proofs.DefinitionsCollected.{only-length}
 use Rattle.model.proofs.KeysFound.{place-le}
 use Rattle.model.proofs.RepeatedKeys.{as-many, repeated-doubles}
-use Rattle.model.proofs.NamesResolved.{resolved-at}
+use Rattle.model.proofs.NamesResolved.{slot-named, resolved-at}
 use Rattle.model.proofs.UsesTabled.{used-few, table-fit, starts-length, ends-within}
 
 -- ---- a row at the front of an array
@@ -147,31 +149,31 @@ module _ {m : ℕ} {starts used array out : List ℕ} {r : Sorted} (v : Sorts m 
   pub sorts-whole : {equated : List ℕ} {k : ℕ} (n : ℕ) (lines faults : List ℕ) → r ≡ Placed k → m ≤ k
       → Holds equated m (take m equated)
       → (slots filled places : List ℕ)
-      → planOutcome (record { number = 0; count = 0; definitions = n; equations = m }) slots filled faults
+      → planOutcome (record { number = 0; count = 0; definitions = n; units = m }) slots filled faults
       (lent places equated out)
       ≡ orderedPlan inOrder n (take m equated) lines slots filled faults (lent places equated array)
   unfolding orderedPlan
   sorts-whole {equated} n lines faults e l q slots filled places =
       rw (le-ltb (length inOrder) (length (take m equated)) (omega (arith, q .long, sorts-count e)))
       (outcome-same slots filled
-      (ap (λ (b : ℕ). record { number = 0; count = 0; definitions = n; equations = b }) (q .long)) refl
+      (ap (λ (b : ℕ). record { number = 0; count = 0; definitions = n; units = b }) (q .long)) refl
       (ap (lent places equated) sorts-content))
 
--- the equations are no more than the statements
-pub equated-few : (n : ℕ) (bounds kinds : List ℕ) → length (equatedIn n bounds kinds) ≤ n
-unfolding equatedIn
+-- the units of the order are no more than the units
+pub equated-few : (n : ℕ) (bounds kinds : List ℕ) → length (orderedIn n bounds kinds) ≤ n
+unfolding orderedIn
 equated-few n bounds kinds =
-    gather-short (λ j. onlyIf (isEquation bounds kinds j) j) (λ j. only-length (isEquation bounds kinds j) j) n 0
+    gather-short (λ j. onlyIf (isOrdered bounds kinds j) j) (λ j. only-length (isOrdered bounds kinds j) j) n 0
 
 -- ---- the table of uses is written
 module _ {lines bounds kinds keys places args slots used used′ starts equated : List ℕ} {m : ℕ} {n : Usage}
     (s : Follows lines bounds kinds used)
-    (h : Holds equated m (equatedIn (length lines) bounds kinds))
+    (h : Holds equated m (orderedIn (length lines) bounds kinds))
     (k : Linked lines bounds kinds keys places n args slots (replicate (mostStatements + 1) 0) starts used used′) where
   abbrev listed : List ℕ
-  listed = equatedIn (length lines) bounds kinds
+  listed = orderedIn (length lines) bounds kinds
 
-  abbrev own : List ℕ
+  abbrev own : List (List ℕ)
   own = assignedSlots listed bounds kinds slots
 
   -- not more is used than there are drafts
@@ -224,7 +226,7 @@ module _ {lines bounds kinds slots starts used equated : List ℕ} {m w : ℕ}
     (v : Weighs lines bounds kinds slots m w starts used equated) where
   pub weighed-fit : Fit m (take (m + 1) starts) (take w used)
   weighed-fit =
-      let equated = equatedIn (length lines) bounds kinds in
+      let equated = orderedIn (length lines) bounds kinds in
       rw (v .starts-held, v .used-held, v .equated-held .long)
       (table-fit equated bounds kinds slots (omega (arith, v .few-equated, v .equated-held .long)))
 
@@ -232,10 +234,11 @@ module _ {lines bounds kinds slots starts used equated : List ℕ} {m w : ℕ}
       → ((slots filled places : List ℕ)
       → planOutcome p slots filled faults′ (lent places equated placed′)
       ≡ orderedPlan (order m (usesByTable (take (m + 1) starts) (take w used))) n (take m equated) lines slots filled
-      faults (lent places equated placed))
+      faults
+      (lent places equated placed))
       → (places : List ℕ)
       → planOutcome p slots used faults′ (lent places equated placed′)
-      ≡ weighed (equatedIn (length lines) bounds kinds) n lines bounds kinds slots used faults
+      ≡ weighed (orderedIn (length lines) bounds kinds) n lines bounds kinds slots used faults
       (lent places equated placed)
   unfolding weighed
   weighed-by n faults placed e places = e slots used places ∙ same
@@ -243,34 +246,36 @@ module _ {lines bounds kinds slots starts used equated : List ℕ} {m w : ℕ}
       same : orderedPlan (order m (usesByTable (take (m + 1) starts) (take w used))) n
           (take m equated) lines slots used faults
           (lent places equated placed)
-          ≡ weighed (equatedIn (length lines) bounds kinds) n lines bounds kinds slots used faults
+          ≡ weighed (orderedIn (length lines) bounds kinds) n lines bounds kinds slots used faults
           (lent places equated placed)
       same = rw (v .starts-held, v .used-held, v .equated-held .front, v .equated-held .long)
 
--- ---- a name in an expression has a slot
+-- ---- a name that is used has a slot
 slotted : (keys kinds args : List ℕ) → length keys ≤ mostDefinitions → length kinds ≤ length args
     → Slotted kinds (resolved keys kinds args)
 slotted keys kinds args h l = record { slot = λ i k. small i k }
   where
-    small : (i : ℕ) → getD kinds i 0 ≡ kindFetch → getD (resolved keys kinds args) i 0 < slotCount + 1
+    small : (i : ℕ) → isUse (getD kinds i 0) ≡ true → getD (resolved keys kinds args) i 0 < slotCount + 1
     small i k =
-        let inside : i < length kinds = stands kindFetch kinds i refl k in
-        let value : getD (resolved keys kinds args) i 0 ≡ suc (placeIn (getD args i 0) keys) =
-        resolved-at keys kinds args i inside l ∙ ap (λ (j : ℕ). resolvedAt keys j (getD args i 0)) k in
-        omega (arith, value, place-le (getD args i 0) keys)
+        let inside : i < length kinds = within isUse kinds i refl k in
+        let asked = or-left (isUse (getD kinds i 0)) _ k in
+        let named : isNamed (getD kinds i 0) ≡ true =
+        or-right (defines (getD kinds i 0)) _ (or-left (asks (getD kinds i 0)) _ asked) in
+        let value = slot-named keys (getD kinds i 0) (getD args i 0) named refl in
+        omega (arith, resolved-at keys kinds args i inside l, value, place-le (getD args i 0) keys)
 
 -- as many keys as places
 as-many-keys : (kinds args : List ℕ) → length (keysIn kinds args) ≡ length (placesIn kinds)
 unfolding keysIn placesIn
 as-many-keys kinds args = sym (as-many kinds args (length kinds) 0)
 
--- ---- 22 and 23: where no draft is flawed, no statement is
+-- ---- 22 and 23: where no draft is flawed, no unit is
 module _ (lines bounds kinds slots places : List ℕ) (inside : (j : ℕ) → j < length lines → ends bounds j ≤ length kinds)
     (clear : anyIn (flawedAt places kinds slots) (length kinds) 0 ≡ false) where
-  none-at : (i : ℕ) → i < length kinds → (undefinedAt (length places) kinds slots i ≡ false)
+  none-at : (i : ℕ) → i < length kinds → (undefinedAt places kinds slots i ≡ false)
       × (unfitAt places kinds slots i ≡ false)
   none-at i h =
-      or-false (undefinedAt (length places) kinds slots i) (unfitAt places kinds slots i)
+      or-false (undefinedAt places kinds slots i) (unfitAt places kinds slots i)
       (any-none (flawedAt places kinds slots) (length kinds) 0 clear i (omega arith) (omega arith))
 
   nameless-none : nameless places lines bounds kinds slots ≡ []
@@ -279,8 +284,8 @@ module _ (lines bounds kinds slots places : List ℕ) (inside : (j : ℕ) → j 
       gather-none (namesAt places lines bounds kinds slots) (length lines) 0
       (λ j _ h.
       let within = inside j (omega arith) in
-      let undefined : anyOf bounds (undefinedAt (length places) kinds slots) j ≡ false =
-      none-any (undefinedAt (length places) kinds slots) _ (begins bounds j) (λ i a l. none-at i (omega arith) .0) in
+      let undefined : anyOf bounds (undefinedAt places kinds slots) j ≡ false =
+      none-any (undefinedAt places kinds slots) _ (begins bounds j) (λ i a l. none-at i (omega arith) .0) in
       let unfit : anyOf bounds (unfitAt places kinds slots) j ≡ false =
       none-any (unfitAt places kinds slots) _ (begins bounds j) (λ i a l. none-at i (omega arith) .1) in
       rw (undefined, unfit))
@@ -293,6 +298,35 @@ unfolding faultList concat-map
 names-clear {lines} {bounds} {kinds} {slots} {places} list s e =
     rw (nameless-none lines bounds kinds slots places (s .inside) (sym (s .flaw) ∙ e))
     (record { behind = refl; written = refl })
+
+-- ---- 21: lines and bounds are those of statements, ulines and ubounds those of units
+module _ {lines bounds ulines ubounds kinds args used keys places : List ℕ} (s : Follows lines bounds kinds used)
+    (k : Keyed ulines ubounds kinds args used keys places) {faults faults′ : List ℕ} {c : ℕ}
+    (v : Reported (repeated lines bounds keys places) 0 c faults faults′) where
+  doubled : Reported (doubles lines bounds kinds args) 0 c faults faults′
+  doubled =
+      let same : repeated lines bounds keys places ≡ doubles lines bounds kinds args =
+      ap₂ (repeated lines bounds) (k .keys-so) (k .placed)
+      ∙ repeated-doubles kinds args lines bounds (s .rises) (ends-within s) in
+      rw same at v
+
+  pub distinct-fault : {p : Plan} (l : Lent) → 0 < c → p ≡ refused 7 c
+      → planOutcome p args used faults′ l ≡ distinct lines bounds ulines ubounds kinds args used faults l
+  unfolding distinct
+  distinct-fault l h e =
+      let slots = resolved (keysIn kinds args) kinds args in
+      faults-stand doubled args used l (linkedPlan (placesIn kinds) ulines ubounds kinds slots used faults l) h e
+
+  pub distinct-none : {p : Plan} {slots used′ faults″ : List ℕ} {l′ : Lent} (l : Lent) → c ≤ 0
+      → planOutcome p slots used′ faults″ l′
+      ≡ linkedPlan (placesIn kinds) ulines ubounds kinds (resolved (keysIn kinds args) kinds args) used faults′ l
+      → planOutcome p slots used′ faults″ l′ ≡ distinct lines bounds ulines ubounds kinds args used faults l
+  unfolding distinct
+  distinct-none l h e =
+      let f = faults-none doubled h in
+      let slots = resolved (keysIn kinds args) kinds args in
+      let same = ap (λ (a : List ℕ). linkedPlan (placesIn kinds) ulines ubounds kinds slots used a l) (f .0) in
+      rw (f .1) (e ∙ same)
 
 -- ---- linking
 module _ {lines bounds kinds args used keys places : List ℕ} (k : Keyed lines bounds kinds args used keys places) where
@@ -308,35 +342,7 @@ module _ {lines bounds kinds args used keys places : List ℕ} (k : Keyed lines 
         slotted = slotted keys kinds args (k .few) (k .wide);
       }
 
-  -- 21
-  module _ {faults faults′ : List ℕ} {c : ℕ} (v : Reported (repeated lines bounds keys places) 0 c faults faults′) where
-    doubled : Reported (doubles lines bounds kinds args) 0 c faults faults′
-    doubled =
-        let s = k .sound in
-        let same : repeated lines bounds keys places ≡ doubles lines bounds kinds args =
-        ap₂ (repeated lines bounds) (k .keys-so) (k .placed)
-        ∙ repeated-doubles kinds args lines bounds (s .rises) (ends-within s) in
-        rw same at v
-
-    pub distinct-fault : {p : Plan} (l : Lent) → 0 < c → p ≡ refused 7 c
-        → planOutcome p args used faults′ l ≡ distinct lines bounds kinds args used faults l
-    unfolding distinct
-    distinct-fault l h e =
-        let slots = resolved (keysIn kinds args) kinds args in
-        faults-stand doubled args used l (linkedPlan (placesIn kinds) lines bounds kinds slots used faults l) h e
-
-    pub distinct-none : {p : Plan} {slots used′ faults″ : List ℕ} {l′ : Lent} (l : Lent) → c ≤ 0
-        → planOutcome p slots used′ faults″ l′
-        ≡ linkedPlan (placesIn kinds) lines bounds kinds (resolved (keysIn kinds args) kinds args) used faults′ l
-        → planOutcome p slots used′ faults″ l′ ≡ distinct lines bounds kinds args used faults l
-    unfolding distinct
-    distinct-none l h e =
-        let f = faults-none doubled h in
-        let slots = resolved (keysIn kinds args) kinds args in
-        let same = ap (λ (a : List ℕ). linkedPlan (placesIn kinds) lines bounds kinds slots used a l) (f .0) in
-        rw (f .1) (e ∙ same)
-
-  -- with the equations written, the names resolved, and what is used tabled
+  -- with the units of the order written, the names resolved, and what is used tabled
   module _ {slots starts used′ equated equated′ : List ℕ} {n : Link}
       (r : Links lines bounds kinds keys places n args slots used used′ equated equated′ starts)
       (room : mostStatements ≤ length equated) where
@@ -344,12 +350,12 @@ module _ {lines bounds kinds args used keys places : List ℕ} (k : Keyed lines 
         (replicate (mostStatements + 1) 0) starts used used′
     table = r .linked
 
-    equations-held : Holds equated′ (n .equations) (equatedIn (length lines) bounds kinds)
-    equations-held = holds-put (r .equations-put)
+    units-held : Holds equated′ (n .units) (orderedIn (length lines) bounds kinds)
+    units-held = holds-put (r .units-put)
         (omega (arith, equated-few (length lines) bounds kinds, k .sound .few))
 
-    pub placeable : Weighs lines bounds kinds slots (n .equations) (n .used) starts used′ equated′
-    placeable = weighs (k .sound) equations-held table
+    pub placeable : Weighs lines bounds kinds slots (n .units) (n .used) starts used′ equated′
+    placeable = weighs (k .sound) units-held table
 
     same-slots : slots ≡ resolved (keysIn kinds args) kinds args
     same-slots = table .resolved-so .same ∙ ap (λ (a : List ℕ). resolved a kinds args) (k .keys-so)
@@ -369,19 +375,20 @@ module _ {lines bounds kinds args used keys places : List ℕ} (k : Keyed lines 
     linked-by {p} {faults′} {l′} faults places₀ placed e =
         planOutcome p slots used′ faults′ l′ ≡⟨ e ⟩
         rest used′ slots equated′ ≡⟨ ap (λ (u : List ℕ). rest u slots equated′) (table .tabled-so .uses .written) ⟩
-        rest (uses slots) slots equated′ ≡⟨ ap (rest (uses slots) slots) (r .equations-put .written) ⟩
-        rest (uses slots) slots equations ≡⟨ ap (λ (a : List ℕ). rest (uses a) a equations) same-slots ⟩
-        rest (uses (resolved (keysIn kinds args) kinds args)) (resolved (keysIn kinds args) kinds args) equations ∎
+        rest (uses slots) slots equated′ ≡⟨ ap (rest (uses slots) slots) (r .units-put .written) ⟩
+        rest (uses slots) slots ordered ≡⟨ ap (λ (a : List ℕ). rest (uses a) a ordered) same-slots ⟩
+        rest (uses (resolved (keysIn kinds args) kinds args)) (resolved (keysIn kinds args) kinds args) ordered ∎
       where
-        -- the plan by the table of uses, the slots and the equations; the table by the slots; the equations written
+        -- the plan by the table of uses, the slots and the units of the order; the table by the slots; the units
+        -- written
         rest : List ℕ → List ℕ → List ℕ → PlanOutcome
         rest u a v = tested (placesIn kinds) lines bounds kinds a u faults (lent places₀ v placed)
 
         uses : List ℕ → List ℕ
         uses a = sets used 0 (ownUses (length lines) bounds kinds a)
 
-        equations : List ℕ
-        equations = sets equated 0 (equatedIn (length lines) bounds kinds)
+        ordered : List ℕ
+        ordered = sets equated 0 (orderedIn (length lines) bounds kinds)
 
     module _ {faults faults′ : List ℕ} {c : ℕ}
         (v : Reported (nameless places lines bounds kinds slots) 0 c faults faults′) (places₀ placed : List ℕ) where
@@ -395,13 +402,13 @@ module _ {lines bounds kinds args used keys places : List ℕ} (k : Keyed lines 
       unfolding tested
       tested-fault h e =
           let l = lent places₀ equated′ placed in
-          let rest = weighed (equatedIn (length lines) bounds kinds)
+          let rest = weighed (orderedIn (length lines) bounds kinds)
           (length (placesIn kinds)) lines bounds kinds slots used′ faults l in
           linked-by faults places₀ placed (faults-stand reported slots used′ l rest h e)
 
       pub tested-none : {p : Plan} {b : ℕ} {faults″ placed′ : List ℕ} → b ≡ length places → c ≤ 0
           → planOutcome p slots used′ faults″ (lent places₀ equated′ placed′)
-          ≡ weighed (equatedIn (length lines) bounds kinds) b lines bounds kinds slots used′ faults′
+          ≡ weighed (orderedIn (length lines) bounds kinds) b lines bounds kinds slots used′ faults′
           (lent places₀ equated′ placed)
           → planOutcome p slots used′ faults″ (lent places₀ equated′ placed′)
           ≡ linkedPlan (placesIn kinds) lines bounds kinds (resolved (keysIn kinds args) kinds args) used faults
@@ -409,7 +416,7 @@ module _ {lines bounds kinds args used keys places : List ℕ} (k : Keyed lines 
       unfolding tested
       tested-none q h e =
           let f = faults-none reported h in
-          let equated = equatedIn (length lines) bounds kinds in
+          let equated = orderedIn (length lines) bounds kinds in
           let count = q ∙ ap length (k .placed) in
           let same =
           ap₂
@@ -459,9 +466,10 @@ module _ {kinds args keys places places′ : List ℕ} {n : ℕ}
       ≡ withPlaces (placesIn kinds) (lent places equated order)
   arrays equated order = ap (λ (a : List ℕ). lent a equated order) (v .placed .written)
 
-  module _ {p : Plan} (lines bounds used faults equated order : List ℕ) where
+  module _ {p : Plan} (lines bounds ulines ubounds used faults equated order : List ℕ) where
     pub sheeted-many : mostDefinitions < n → p ≡ refused 6 0
-        → planOutcome p args used faults (lent places′ equated order) ≡ sheeted lines bounds kinds args used faults
+        → planOutcome p args used faults (lent places′ equated order)
+        ≡ sheeted lines bounds ulines ubounds kinds args used faults
         (lent places equated order)
     unfolding sheeted
     sheeted-many h e =
@@ -470,58 +478,77 @@ module _ {kinds args keys places places′ : List ℕ} {n : ℕ}
 
     pub sheeted-few : {args′ used′ faults′ : List ℕ} {l′ : Lent} → n ≤ mostDefinitions
         → planOutcome p args′ used′ faults′ l′
-        ≡ distinct lines bounds kinds args used faults (lent places′ equated order)
-        → planOutcome p args′ used′ faults′ l′ ≡ sheeted lines bounds kinds args used faults (lent places equated order)
+        ≡ distinct lines bounds ulines ubounds kinds args used faults (lent places′ equated order)
+        → planOutcome p args′ used′ faults′ l′
+        ≡ sheeted lines bounds ulines ubounds kinds args used faults (lent places equated order)
     unfolding sheeted
     sheeted-few h e =
         rw (le-ltb mostDefinitions (length (keysIn kinds args)) (omega (arith, counted)))
-        (e ∙ ap (distinct lines bounds kinds args used faults) (arrays equated order))
+        (e ∙ ap (distinct lines bounds ulines ubounds kinds args used faults) (arrays equated order))
 
 -- ---- the arrays fit, or they do not
-pub fit-sound : (lines bounds kinds used equated order : List ℕ) (args faults places : ℕ)
-    → fit lines bounds kinds args (length used) faults places (length equated) (length order) ≡ true
-    → Follows lines bounds kinds used × (length kinds ≤ args) × (mostDefinitions ≤ places) × Wide equated order
-unfolding fit roomy inTurn
-fit-sound lines bounds kinds used equated order args faults places e =
+
+-- statements, or units, that follow each other
+turn-follows : (lines bounds kinds used : List ℕ) → length lines ≤ mostStatements → length kinds ≤ textBytes
+    → length kinds ≤ length used → inTurn bounds (length lines) (length kinds) ≡ true → Follows lines bounds kinds used
+unfolding inTurn
+turn-follows lines bounds kinds used few small room e =
+    let i = and-true (eqb (begins bounds 0) 0) _ e in
+    let j = and-true (eqb (begins bounds (length lines)) (length kinds)) _ (i .1) in
+    let none = any-none (falls bounds) (length lines) 0 (not-true (anyIn (falls bounds) (length lines) 0) (j .1)) in
+    record {
+      few = few;
+      small = small;
+      room = room;
+      rises = record { rise = λ k h. ltb-false (ends bounds k) (begins bounds k) (none k (omega arith) (omega arith)) };
+      first = eqb-true _ _ (i .0);
+      ended = eqb-true _ _ (j .0);
+    }
+
+pub fit-sound : (lines bounds ulines ubounds kinds used equated order : List ℕ) (args faults places : ℕ)
+    → fit lines bounds ulines ubounds kinds args (length used) faults places (length equated) (length order) ≡ true
+    → Follows lines bounds kinds used × Follows ulines ubounds kinds used × (length kinds ≤ args)
+    × (mostDefinitions ≤ places) × Wide equated order
+unfolding fit roomy
+fit-sound lines bounds ulines ubounds kinds used equated order args faults places e =
     let a = and-true (leb (length lines) mostStatements) _ e in
     let b = and-true (eqb (length bounds) (length lines + 1)) _ (a .1) in
-    let c = and-true (leb (length kinds) textBytes) _ (b .1) in
+    let l = and-true (leb (length ulines) (length lines)) _ (b .1) in
+    let ub = and-true (eqb (length ubounds) (length ulines + 1)) _ (l .1) in
+    let c = and-true (leb (length kinds) textBytes) _ (ub .1) in
     let d = and-true (leb (length kinds) args) _ (c .1) in
     let f = and-true (leb (length kinds) (length used)) _ (d .1) in
     let g = and-true (leb (faultBytes * length lines) faults) _ (f .1) in
     let w = and-true (roomy places (length equated) (length order)) _ (g .1) in
-    let i = and-true (eqb (begins bounds 0) 0) _ (w .1) in
-    let j = and-true (eqb (begins bounds (length lines)) (length kinds)) _ (i .1) in
+    let turns = and-true (inTurn bounds (length lines) (length kinds)) _ (w .1) in
     let p = and-true (leb mostDefinitions places) _ (w .0) in
     let q = and-true (leb mostStatements (length equated)) _ (p .1) in
-    let none = any-none (falls bounds) (length lines) 0 (not-true (anyIn (falls bounds) (length lines) 0) (j .1)) in (
-      record {
-        few = leb-true _ _ (a .0);
-        small = leb-true _ _ (c .0);
-        room = leb-true _ _ (f .0);
-        rises =
-            record { rise = λ k h. ltb-false (ends bounds k) (begins bounds k) (none k (omega arith) (omega arith)) };
-        first = eqb-true _ _ (i .0);
-        ended = eqb-true _ _ (j .0);
-      },
+    let few : length lines ≤ mostStatements = leb-true _ _ (a .0) in
+    let fewer : length ulines ≤ mostStatements =
+    let h : length ulines ≤ length lines = leb-true _ _ (l .0) in omega arith in
+    let small : length kinds ≤ textBytes = leb-true _ _ (c .0) in
+    let room : length kinds ≤ length used = leb-true _ _ (f .0) in (
+      turn-follows lines bounds kinds used few small room (turns .0),
+      turn-follows ulines ubounds kinds used fewer small room (turns .1),
       leb-true _ _ (d .0),
       leb-true _ _ (p .0),
       record { equated-room = leb-true _ _ (q .0); order-room = leb-true _ _ (q .1) },
     )
 
-module _ (lines bounds kinds args used faults : List ℕ) (l : Lent) where
+module _ (lines bounds ulines ubounds kinds args used faults : List ℕ) (l : Lent) where
   -- whether they fit
   abbrev fitted : Bool
-  fitted = fit lines bounds kinds (length args) (length used) (length faults) (length (l .places)) (length (l .equated))
-      (length (l .order))
+  fitted =
+      fit lines bounds ulines ubounds kinds (length args) (length used) (length faults) (length (l .places))
+      (length (l .equated)) (length (l .order))
 
   pub planned-fit : {p : Plan} {args′ used′ faults′ : List ℕ} {l′ : Lent} → fitted ≡ true
-      → planOutcome p args′ used′ faults′ l′ ≡ sheeted lines bounds kinds args used faults l
-      → planOutcome p args′ used′ faults′ l′ ≡ planned lines bounds kinds args used faults l
+      → planOutcome p args′ used′ faults′ l′ ≡ sheeted lines bounds ulines ubounds kinds args used faults l
+      → planOutcome p args′ used′ faults′ l′ ≡ planned lines bounds ulines ubounds kinds args used faults l
   unfolding planned
   planned-fit t e = rw t e
 
   pub planned-unfit : {p : Plan} → fitted ≡ false → p ≡ refused 9 0
-      → planOutcome p args used faults l ≡ planned lines bounds kinds args used faults l
+      → planOutcome p args used faults l ≡ planned lines bounds ulines ubounds kinds args used faults l
   unfolding planned
   planned-unfit t e = rw t (outcome-same args used e refl refl)

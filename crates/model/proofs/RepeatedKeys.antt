@@ -17,7 +17,7 @@ use Rattle.laws.proofs.Tests.{cond-ind, bool-cases, eq-or-ne, lt-or-ge}
 use Rattle.laws.proofs.Bools.{or-false}
 use Rattle.laws.proofs.Gathers.{gather-add, gather-done, gather-none, gather-same}
 use Rattle.model.specs.Definitions.{placeIn}
-use Rattle.model.specs.Faults.{again, faultIf}
+use Rattle.blocks.specs.Tests.{again, faultIf}
 use Rattle.drafts.specs.Kinds.{defines}
 use Rattle.drafts.specs.Places.{begins, ends}
 use Rattle.model.specs.Places.{definedAt, keysIn, placesIn, doubleAt, doubles}

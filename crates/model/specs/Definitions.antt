@@ -1,20 +1,21 @@
--- The definitions of a text's statements, their slots, and the equations that are ordered.
+-- The definitions of a text's units, their slots, and the units that are ordered.
 use Prim.Native.Nat.{ℕ, suc}
-use mathlib.Core.Bool.{Bool, true, false, cond}
+use mathlib.Core.Bool.{cond}
 use mathlib.Core.List.{List, [], _∷_, map}
 use lib.Dec.{eqb}
 use lib.ListN.{length, getD}
-use lib.Ieee.{Float, nan}
+use lib.Ieee.{Float}
 use Rattle.laws.specs.Lists.{concat-map}
-use Rattle.drafts.specs.Tree.{Tree, value, Constant, Initial, Says, constants, assignment, state}
-use Rattle.sheet.specs.Sheet.{Numbered}
+use Rattle.drafts.specs.Tree.{Constant, Initial}
+use Rattle.blocks.specs.Units.{Single, constants, assignment, state, Sets, given, own, anew, TextUnit, Stood, alone}
+use Rattle.blocks.specs.Units.{heading, inner, closing, Stated, statedIn, OrderUnit, orderUnit, orderUnits}
 
--- what a name is: a constant with its value, assigned by an expression, or a state with its initial and the expression
--- of its rate
+-- what a name is: a constant with its value; assigned, by a statement or as an output of a block; a block's own; or a
+-- state with its initial
 pub data What : Type 0 where
   constant : Float → What
-  assigned : Tree → What
-  integral : Initial → Tree → What
+  assigned hidden : What
+  integral : Initial → What
 
 -- a definition: the number of its statement, the name's key, what the name is
 pub record Def : Type 0 where
@@ -25,15 +26,28 @@ pub record Def : Type 0 where
 abbrev pub defined : ℕ → ℕ → What → Def
 defined l k w = record { line = l; key = k; what = w }
 
--- what a statement defines
-abbrev pub definedBy : ℕ → Says → List Def
-definedBy l (constants cs) = map (λ (c : Constant). defined l (c .key) (constant (c .worth))) cs
-definedBy l (assignment k e) = defined l k (assigned e) ∷ []
-definedBy l (state k i e) = defined l k (integral i e) ∷ []
+-- what a single statement defines
+abbrev pub definedAlone : ℕ → Single → List Def
+definedAlone l (constants cs) = map (λ (c : Constant). defined l (c .key) (constant (c .worth))) cs
+definedAlone l (assignment k e) = defined l k assigned ∷ []
+definedAlone l (state k i e) = defined l k (integral i) ∷ []
 
--- the definitions of the statements, in text order
-abbrev pub definitions : List Numbered → List Def
-definitions ss = concat-map (λ (s : Numbered). definedBy (s .line) (s .says)) ss
+-- inside a block a name's first setting is its definition
+abbrev pub definedInside : ℕ → ℕ → Sets → List Def
+definedInside l k given = defined l k assigned ∷ []
+definedInside l k own = defined l k hidden ∷ []
+definedInside l k anew = []
+
+-- what a statement defines
+abbrev pub definedBy : ℕ → Stood → List Def
+definedBy l (alone x) = definedAlone l x
+definedBy l (heading os is) = []
+definedBy l (inner k e s) = definedInside l k s
+definedBy l closing = []
+
+-- the definitions of the statements of the units, in text order
+abbrev pub definitions : List TextUnit → List Def
+definitions us = concat-map (λ (t : Stated). definedBy (t .line) (t .stood)) (statedIn us)
 
 abbrev pub keys : List Def → List ℕ
 keys ds = map (λ (d : Def). d .key) ds
@@ -49,26 +63,12 @@ placeIn k (a ∷ l) =
 abbrev pub slotIn : List Def → ℕ → ℕ
 slotIn ds k = suc (placeIn k (keys ds))
 
--- ---- the equations: assignments and state statements in text order. `held` says that the name is a state
-pub record Equation : Type 0 where
-  pub line : ℕ
-  pub key : ℕ
-  pub held : Bool
-  pub tree : Tree
+-- ---- the units of the order, in text order
+abbrev pub noUnit : OrderUnit
+noUnit = orderUnit 0 [] [] []
 
-abbrev pub equationOf : ℕ → ℕ → What → List Equation
-equationOf l k (constant x) = []
-equationOf l k (assigned e) = record { line = l; key = k; held = false; tree = e } ∷ []
-equationOf l k (integral i e) = record { line = l; key = k; held = true; tree = e } ∷ []
+abbrev pub unitAt : List TextUnit → ℕ → OrderUnit
+unitAt us i = getD (orderUnits us) i noUnit
 
-abbrev pub equations : List Def → List Equation
-equations ds = concat-map (λ (d : Def). equationOf (d .line) (d .key) (d .what)) ds
-
-abbrev pub noEquation : Equation
-noEquation = record { line = 0; key = 0; held = false; tree = value nan }
-
-abbrev pub equationAt : List Def → ℕ → Equation
-equationAt ds i = getD (equations ds) i noEquation
-
-abbrev pub equationCount : List Def → ℕ
-equationCount ds = length (equations ds)
+abbrev pub unitCount : List TextUnit → ℕ
+unitCount us = length (orderUnits us)

@@ -1,18 +1,21 @@
--- The model as code works it out: by place, over the arrays of a sheet. kinds and args are its drafts (specs/Drafts of
--- crate grammar), lines and bounds those of its statements. Every read past an end gives 0, so that each of these says
--- something of every array. What they mean for a sheet that is laid out is said by the laws of proofs/ArraysMean.
-use Prim.Native.Nat.{ℕ, suc, _+_, _-_}
-use mathlib.Core.Bool.{Bool, not, cond, _&&_}
+-- The model as code works it out: by place, over the arrays that hold units (specs/Layout of crate blocks). kinds and
+-- args are their drafts, lines and bounds those of their statements; where a unit is meant, of the units. Every read
+-- past an end gives 0, so that each of these says something of every array. What they mean for units that are laid out
+-- is said by the laws of proofs/ArraysMean.
+use Prim.Native.Nat.{ℕ, zero, suc, _+_, _-_}
+use mathlib.Core.Bool.{Bool, not, cond, _&&_, _||_}
 use mathlib.Core.List.{List, [], _∷_, _++_, map}
 use lib.Dec.{eqb, ltb}
 use lib.ListN.{length, getD}
 use Rattle.laws.specs.Places.{gather, onlyIf}
 use Rattle.laws.specs.Counts.{has}
-use Rattle.drafts.specs.Kinds.{kindConstant, kindFrom, kindFetch, kindStore, defines, asks, isNamed, closes}
+use Rattle.drafts.specs.Kinds.{kindConstant, kindFrom, kindStore, kindOwn, kindOutput, defines, isUse, asks, isNamed}
+use Rattle.drafts.specs.Kinds.{closes}
 use Rattle.drafts.specs.Places.{begins, ends, inStatement, anyOf, lastKind, homeOf}
 use Rattle.sheet.specs.Sheet.{Fault}
 use Rattle.model.specs.Definitions.{placeIn}
-use Rattle.model.specs.Faults.{again, faultIf, nameFault}
+use Rattle.blocks.specs.Tests.{again, faultIf}
+use Rattle.model.specs.Faults.{nameFault}
 
 -- ---- definitions
 
@@ -37,8 +40,7 @@ unfoldable pub doubles : List ℕ → List ℕ → List ℕ → List ℕ → Lis
 doubles lines bounds kinds args = gather (doubleAt lines bounds kinds args) (length lines) 0
 
 -- ---- names resolved: in the place of a key its slot, one more than the place among the keys; the count of keys and
--- one more where
--- nothing defines it
+-- one more where nothing defines it
 abbrev pub resolvedAt : List ℕ → ℕ → ℕ → ℕ
 resolvedAt keys k a = cond (isNamed k) (suc (placeIn a keys)) a
 
@@ -49,65 +51,85 @@ resolved keys (k ∷ kinds) (a ∷ args) = resolvedAt keys k a ∷ resolved keys
 
 -- ---- from here on the arguments are resolved, n is the count of definitions, places are theirs
 
--- place i asks for a name that nothing defines
-abbrev pub undefinedAt : ℕ → List ℕ → List ℕ → ℕ → Bool
-undefinedAt n kinds slots i = asks (getD kinds i 0) && ltb n (getD slots i 0)
+-- nothing outside a block defines this slot's name: it is past the last, or a block's own
+abbrev pub unknown : List ℕ → List ℕ → ℕ → Bool
+unknown places kinds s = ltb (length places) s || eqb (getD kinds (homeOf places s) 0) kindOwn
+
+-- place i asks for such a name
+abbrev pub undefinedAt : List ℕ → List ℕ → List ℕ → ℕ → Bool
+undefinedAt places kinds slots i = asks (getD kinds i 0) && unknown places kinds (getD slots i 0)
 
 -- place i has an initial's name that is no constant
 abbrev pub unfitAt : List ℕ → List ℕ → List ℕ → ℕ → Bool
 unfitAt places kinds slots i =
     eqb (getD kinds i 0) kindFrom && not (eqb (getD kinds (homeOf places (getD slots i 0)) 0) kindConstant)
 
--- 22 or 23 at statement j
+-- 22 or 23 at unit j
 abbrev pub namesAt : List ℕ → List ℕ → List ℕ → List ℕ → List ℕ → ℕ → List Fault
 namesAt places lines bounds kinds slots j =
-    nameFault (not (anyOf bounds (undefinedAt (length places) kinds slots) j))
+    nameFault (not (anyOf bounds (undefinedAt places kinds slots) j))
     (not (anyOf bounds (unfitAt places kinds slots) j)) (getD lines j 0)
 
 unfoldable pub nameless : List ℕ → List ℕ → List ℕ → List ℕ → List ℕ → List Fault
 nameless places lines bounds kinds slots = gather (namesAt places lines bounds kinds slots) (length lines) 0
 
--- ---- equations: the statements that end with a store or a derivative, by number
-abbrev pub isEquation : List ℕ → List ℕ → ℕ → Bool
-isEquation bounds kinds j =
+-- ---- the units of the order: those that end with a store, a derivative or a block's end, by number
+abbrev pub isOrdered : List ℕ → List ℕ → ℕ → Bool
+isOrdered bounds kinds j =
     ltb (begins bounds j) (ends bounds j) && closes (lastKind bounds kinds j)
 
--- n is the count of statements
-unfoldable pub equatedIn : ℕ → List ℕ → List ℕ → List ℕ
-equatedIn n bounds kinds = gather (λ j. onlyIf (isEquation bounds kinds j) j) n 0
+-- n is the count of units
+unfoldable pub orderedIn : ℕ → List ℕ → List ℕ → List ℕ
+orderedIn n bounds kinds = gather (λ j. onlyIf (isOrdered bounds kinds j) j) n 0
 
--- the slot that an equation assigns, 0 of a state's
-abbrev pub assignedSlot : List ℕ → List ℕ → List ℕ → ℕ → ℕ
-assignedSlot bounds kinds slots j = cond (eqb (lastKind bounds kinds j) kindStore) (getD slots (ends bounds j - 1) 0) 0
+-- the slots of a header's outputs: of the n places from i on those in front that are outputs
+unfoldable pub outputSlots : List ℕ → List ℕ → ℕ → ℕ → List ℕ
+outputSlots kinds slots zero i = []
+outputSlots kinds slots (suc n) i =
+    let r = getD slots i 0 ∷ outputSlots kinds slots n (suc i) in
+    cond (eqb (getD kinds i 0) kindOutput) r []
 
-abbrev pub assignedSlots : List ℕ → List ℕ → List ℕ → List ℕ → List ℕ
-assignedSlots equated bounds kinds slots = map (assignedSlot bounds kinds slots) equated
+-- the slots that a unit assigns: a block its outputs', an assignment that of its store
+abbrev pub assignedBy : List ℕ → List ℕ → List ℕ → ℕ → List ℕ
+assignedBy bounds kinds slots j =
+    outputSlots kinds slots (ends bounds j - begins bounds j) (begins bounds j)
+    ++ onlyIf (eqb (lastKind bounds kinds j) kindStore) (getD slots (ends bounds j - 1) 0)
 
--- the equation that place i uses: the one that assigns its name, if one does
-abbrev pub usedBy : List ℕ → ℕ → List ℕ
-usedBy assigned s = onlyIf (ltb (placeIn s assigned) (length assigned)) (placeIn s assigned)
+abbrev pub assignedSlots : List ℕ → List ℕ → List ℕ → List ℕ → List (List ℕ)
+assignedSlots ordered bounds kinds slots = map (assignedBy bounds kinds slots) ordered
 
-abbrev pub usedAt : List ℕ → List ℕ → List ℕ → ℕ → List ℕ
-usedAt assigned kinds slots i = cond (eqb (getD kinds i 0) kindFetch) (usedBy assigned (getD slots i 0)) []
+-- the first list in which s stands, how many there are where it stands in none
+unfoldable pub placeAmong : ℕ → List (List ℕ) → ℕ
+placeAmong s [] = 0
+placeAmong s (l ∷ ls) =
+    let r = suc (placeAmong s ls) in
+    cond (has s l) 0 r
 
--- what the equation of statement j uses
-abbrev pub usedByStatement : List ℕ → List ℕ → List ℕ → List ℕ → ℕ → List ℕ
-usedByStatement assigned bounds kinds slots j = inStatement bounds (usedAt assigned kinds slots) j
+-- the unit that place i uses: the one that assigns its name, if one does
+abbrev pub usedBy : List (List ℕ) → ℕ → List ℕ
+usedBy assigned s = onlyIf (ltb (placeAmong s assigned) (length assigned)) (placeAmong s assigned)
 
--- the table of uses: what all equations use, one after the other, and where each begins
-unfoldable pub usedIn : List ℕ → List ℕ → List ℕ → List ℕ → List ℕ → List ℕ
+abbrev pub usedAt : List (List ℕ) → List ℕ → List ℕ → ℕ → List ℕ
+usedAt assigned kinds slots i = cond (isUse (getD kinds i 0)) (usedBy assigned (getD slots i 0)) []
+
+-- what unit j uses
+abbrev pub usedByUnit : List (List ℕ) → List ℕ → List ℕ → List ℕ → ℕ → List ℕ
+usedByUnit assigned bounds kinds slots j = inStatement bounds (usedAt assigned kinds slots) j
+
+-- the table of uses: what all units of the order use, one after the other, and where each begins
+unfoldable pub usedIn : List (List ℕ) → List ℕ → List ℕ → List ℕ → List ℕ → List ℕ
 usedIn assigned bounds kinds slots [] = []
-usedIn assigned bounds kinds slots (j ∷ equated) =
-    usedByStatement assigned bounds kinds slots j ++ usedIn assigned bounds kinds slots equated
+usedIn assigned bounds kinds slots (j ∷ ordered) =
+    usedByUnit assigned bounds kinds slots j ++ usedIn assigned bounds kinds slots ordered
 
-unfoldable pub startsFrom : ℕ → List ℕ → List ℕ → List ℕ → List ℕ → List ℕ → List ℕ
+unfoldable pub startsFrom : ℕ → List (List ℕ) → List ℕ → List ℕ → List ℕ → List ℕ → List ℕ
 startsFrom o assigned bounds kinds slots [] = o ∷ []
-startsFrom o assigned bounds kinds slots (j ∷ equated) =
-    o ∷ startsFrom (o + length (usedByStatement assigned bounds kinds slots j)) assigned bounds kinds slots equated
+startsFrom o assigned bounds kinds slots (j ∷ ordered) =
+    o ∷ startsFrom (o + length (usedByUnit assigned bounds kinds slots j)) assigned bounds kinds slots ordered
 
--- ---- 24: equation r is not among those placed
+-- ---- 24: unit r is not among those placed
 abbrev pub loopAt : List ℕ → List ℕ → List ℕ → ℕ → List Fault
-loopAt placed equated lines r = faultIf (not (has r placed)) (getD lines (getD equated r 0) 0) 24
+loopAt placed ordered lines r = faultIf (not (has r placed)) (getD lines (getD ordered r 0) 0) 24
 
 unfoldable pub loops : List ℕ → List ℕ → List ℕ → List Fault
-loops placed equated lines = gather (loopAt placed equated lines) (length equated) 0
+loops placed ordered lines = gather (loopAt placed ordered lines) (length ordered) 0

@@ -1,25 +1,24 @@
--- What `plan` answers for the arrays of a sheet, and what it leaves in those that are lent to it. The tests stand in
--- the order of the paper's verdict: 6; then 7 by the faults 21, by 22 and 23, by 24; else 0, and with it all that the
--- program is written from: the count of definitions, with their places at the front of an array, and of equations, with
--- these and their order.
+-- What `plan` answers for the arrays that hold units (specs/Layout of crate blocks), and what it leaves in those that
+-- are lent to it. The tests stand in the order of the paper's verdict: 6; then 7 by the faults 21, by 22 and 23, by 24;
+-- else 0, and with it all that the program is written from: the count of definitions, with their places at the front of
+-- an array, and of the units of the order, with these and their order.
 use Prim.Native.Nat.{ℕ, _+_, _*_}
-use mathlib.Core.Bool.{Bool, not, cond, _&&_}
+use mathlib.Core.Bool.{Bool, cond, _&&_}
 use mathlib.Core.List.{List}
 use lib.Dec.{eqb, leb, ltb}
 use lib.ListN.{length}
 use lib.Seq.{sets}
 use Rattle.limits.specs.Limits.{mostStatements, mostDefinitions, textBytes, faultBytes}
-use Rattle.laws.specs.Places.{anyIn}
 use Rattle.sheet.specs.Sheet.{Fault, faultList}
+use Rattle.blocks.specs.Grouped.{some, inTurn}
 use Rattle.order.specs.Greedy.{order}
 use Rattle.order.specs.Table.{usesByTable}
-use Rattle.drafts.specs.Places.{begins, ends}
-use Rattle.model.specs.Places.{keysIn, placesIn, doubles, resolved, nameless, equatedIn, assignedSlots, usedIn}
+use Rattle.model.specs.Places.{keysIn, placesIn, doubles, resolved, nameless, orderedIn, assignedSlots, usedIn}
 use Rattle.model.specs.Places.{startsFrom, loops}
 use Rattle.model.specs.declared.answer.Plan.{Plan}
 
--- the three arrays that are lent for what the program is written from: the places of the definitions, the statements
--- that are equations, and the order of these
+-- the three arrays that are lent for what the program is written from: the places of the definitions, the units of the
+-- order by number, and their order
 pub record Lent : Type 0 where
   pub places : List ℕ
   pub equated : List ℕ
@@ -51,51 +50,43 @@ planOutcome p args used faults l = record { plan = p; args = args; used = used; 
 
 -- a refusal: its number and the count of faults, the rest 0
 abbrev pub refused : ℕ → ℕ → Plan
-refused n c = record { number = n; count = c; definitions = 0; equations = 0 }
+refused n c = record { number = n; count = c; definitions = 0; units = 0 }
 
 -- faults stand: they are written to the front of the list
 abbrev pub faulted : List Fault → List ℕ → List ℕ → List ℕ → Lent → PlanOutcome
 faulted fs args used faults l = planOutcome (refused 7 (length fs)) args used (sets faults 0 (faultList fs)) l
 
-abbrev pub some : List Fault → Bool
-some fs = ltb 0 (length fs)
-
--- ---- 9: the arrays are none of a sheet, or there is too little room
-
-abbrev pub falls : List ℕ → ℕ → Bool
-falls bounds j = ltb (ends bounds j) (begins bounds j)
-
--- n statements follow each other from draft 0 to the last of size drafts
-unfoldable pub inTurn : List ℕ → ℕ → ℕ → Bool
-inTurn bounds n size = eqb (begins bounds 0) 0 && (eqb (begins bounds n) size && not (anyIn (falls bounds) n 0))
+-- ---- 9: the arrays hold no units, or there is too little room
 
 -- arrays of these lengths have room for every definition, for every statement, and for the order of these
 unfoldable pub roomy : ℕ → ℕ → ℕ → Bool
 roomy places equated order = leb mostDefinitions places && (leb mostStatements equated && leb mostStatements order)
 
 -- the last six are the lengths of the arguments, the table of uses, the fault list and the three arrays
-unfoldable pub fit : List ℕ → List ℕ → List ℕ → ℕ → ℕ → ℕ → ℕ → ℕ → ℕ → Bool
-fit lines bounds kinds args used faults places equated order =
+unfoldable pub fit : List ℕ → List ℕ → List ℕ → List ℕ → List ℕ → ℕ → ℕ → ℕ → ℕ → ℕ → ℕ → Bool
+fit lines bounds ulines ubounds kinds args used faults places equated order =
     leb (length lines) mostStatements
     && (eqb (length bounds) (length lines + 1)
+    && (leb (length ulines) (length lines)
+    && (eqb (length ubounds) (length ulines + 1)
     && (leb (length kinds) textBytes
     && (leb (length kinds) args
     && (leb (length kinds) used
-    &&
-    (leb (faultBytes * length lines) faults
-    && (roomy places equated order && inTurn bounds (length lines) (length kinds)))))))
+    && (leb (faultBytes * length lines) faults
+    && (roomy places equated order
+    && (inTurn bounds (length lines) (length kinds) && inTurn ubounds (length ulines) (length kinds))))))))))
 
--- ---- the table, from its end to its beginning
+-- ---- the table, from its end to its beginning. lines and bounds are those of units, but for 21
 
--- 24: fewer equations are placed than there are; n is the count of definitions
+-- 24: fewer units are placed than there are; n is the count of definitions
 unfoldable pub orderedPlan : List ℕ → ℕ → List ℕ → List ℕ → List ℕ → List ℕ → List ℕ → Lent → PlanOutcome
 orderedPlan placed n equated lines slots used faults l =
     cond (ltb (length placed) (length equated))
     (faulted (loops placed equated lines) slots used faults (withOrder placed l))
-    (planOutcome (record { number = 0; count = 0; definitions = n; equations = length equated }) slots used faults
+    (planOutcome (record { number = 0; count = 0; definitions = n; units = length equated }) slots used faults
     (withOrder placed l))
 
--- the equations of these numbers, placed by what they use
+-- the units of these numbers, placed by what they use
 unfoldable pub weighed : List ℕ → ℕ → List ℕ → List ℕ → List ℕ → List ℕ → List ℕ → List ℕ → Lent → PlanOutcome
 weighed equated n lines bounds kinds slots used faults l =
     let assigned = assignedSlots equated bounds kinds slots in
@@ -108,38 +99,38 @@ unfoldable pub tested : List ℕ → List ℕ → List ℕ → List ℕ → List
 tested places lines bounds kinds slots used faults l =
     let fs = nameless places lines bounds kinds slots in
     cond (some fs) (faulted fs slots used faults l)
-    (weighed (equatedIn (length lines) bounds kinds) (length places) lines bounds kinds slots used faults l)
+    (weighed (orderedIn (length lines) bounds kinds) (length places) lines bounds kinds slots used faults l)
 
--- the slots that the equations among n statements assign, and what these use
-abbrev pub ownSlots : ℕ → List ℕ → List ℕ → List ℕ → List ℕ
-ownSlots n bounds kinds slots = assignedSlots (equatedIn n bounds kinds) bounds kinds slots
+-- the slots that the units of the order among n assign, and what these use
+abbrev pub ownSlots : ℕ → List ℕ → List ℕ → List ℕ → List (List ℕ)
+ownSlots n bounds kinds slots = assignedSlots (orderedIn n bounds kinds) bounds kinds slots
 
 abbrev pub ownUses : ℕ → List ℕ → List ℕ → List ℕ → List ℕ
-ownUses n bounds kinds slots = usedIn (ownSlots n bounds kinds slots) bounds kinds slots (equatedIn n bounds kinds)
+ownUses n bounds kinds slots = usedIn (ownSlots n bounds kinds slots) bounds kinds slots (orderedIn n bounds kinds)
 
--- the equations and the table of uses are written
+-- the units of the order and the table of uses are written
 unfoldable pub linkedPlan : List ℕ → List ℕ → List ℕ → List ℕ → List ℕ → List ℕ → List ℕ → Lent → PlanOutcome
 linkedPlan places lines bounds kinds slots used faults l =
     tested places lines bounds kinds slots (sets used 0 (ownUses (length lines) bounds kinds slots)) faults
-    (withEquated (equatedIn (length lines) bounds kinds) l)
+    (withEquated (orderedIn (length lines) bounds kinds) l)
 
--- 21
-unfoldable pub distinct : List ℕ → List ℕ → List ℕ → List ℕ → List ℕ → List ℕ → Lent → PlanOutcome
-distinct lines bounds kinds args used faults l =
+-- 21, by statements
+unfoldable pub distinct : List ℕ → List ℕ → List ℕ → List ℕ → List ℕ → List ℕ → List ℕ → List ℕ → Lent → PlanOutcome
+distinct lines bounds ulines ubounds kinds args used faults l =
     let fs = doubles lines bounds kinds args in
     cond (some fs) (faulted fs args used faults l)
-    (linkedPlan (placesIn kinds) lines bounds kinds (resolved (keysIn kinds args) kinds args) used faults l)
+    (linkedPlan (placesIn kinds) ulines ubounds kinds (resolved (keysIn kinds args) kinds args) used faults l)
 
 -- the places are written; 6: too many definitions, doubles counted
-unfoldable pub sheeted : List ℕ → List ℕ → List ℕ → List ℕ → List ℕ → List ℕ → Lent → PlanOutcome
-sheeted lines bounds kinds args used faults l =
+unfoldable pub sheeted : List ℕ → List ℕ → List ℕ → List ℕ → List ℕ → List ℕ → List ℕ → List ℕ → Lent → PlanOutcome
+sheeted lines bounds ulines ubounds kinds args used faults l =
     let m = withPlaces (placesIn kinds) l in
     cond (ltb mostDefinitions (length (keysIn kinds args))) (planOutcome (refused 6 0) args used faults m)
-    (distinct lines bounds kinds args used faults m)
+    (distinct lines bounds ulines ubounds kinds args used faults m)
 
-unfoldable pub planned : List ℕ → List ℕ → List ℕ → List ℕ → List ℕ → List ℕ → Lent → PlanOutcome
-planned lines bounds kinds args used faults l =
+unfoldable pub planned : List ℕ → List ℕ → List ℕ → List ℕ → List ℕ → List ℕ → List ℕ → List ℕ → Lent → PlanOutcome
+planned lines bounds ulines ubounds kinds args used faults l =
     cond
-    (fit lines bounds kinds (length args) (length used) (length faults) (length (l .places)) (length (l .equated))
-    (length (l .order)))
-    (sheeted lines bounds kinds args used faults l) (planOutcome (refused 9 0) args used faults l)
+    (fit lines bounds ulines ubounds kinds (length args) (length used) (length faults) (length (l .places))
+    (length (l .equated)) (length (l .order)))
+    (sheeted lines bounds ulines ubounds kinds args used faults l) (planOutcome (refused 9 0) args used faults l)

@@ -1,41 +1,35 @@
--- What the passes of the code keep and leave: tables by which a name's definition and a slot's equation are found
--- without a search, and rows that are written to the front of an array.
-use Prim.Native.Nat.{ℕ, zero, suc, _+_, _-_, _*_, _%_, _≤_, _<_}
+-- What the passes of the code keep and leave: tables by which a name's definition and a slot's unit are found without a
+-- search, and rows that are written to the front of an array. lines and bounds are those of units, but for 21.
+use Prim.Native.Nat.{ℕ, zero, suc, _+_, _-_, _%_, _≤_, _<_}
 use mathlib.Core.Path.{_≡_}
-use mathlib.Core.Bool.{Bool, not, cond, _&&_, _||_}
+use mathlib.Core.Bool.{Bool, true, not, cond, _&&_, _||_}
 use mathlib.Core.List.{List, [], _∷_, _++_}
 use lib.Dec.{eqb, ltb}
-use lib.ListN.{length, getD, take, drop, replicate}
+use lib.ListN.{length, getD, set, take, drop, replicate}
 use lib.Seq.{sets, slice}
-use Rattle.limits.specs.Limits.{mostStatements, mostDefinitions, textBytes, faultBytes, slots}
+use Rattle.limits.specs.Limits.{mostStatements, mostDefinitions, textBytes, slots}
 use Rattle.laws.specs.Places.{gather, anyIn, onlyIf}
 use Rattle.laws.specs.Counts.{has}
 use Rattle.laws.specs.Put.{Put}
-use Rattle.sheet.specs.Sheet.{Fault, faultList}
-use Rattle.model.specs.Definitions.{placeIn}
-use Rattle.model.specs.Faults.{again, faultIf}
+use Rattle.sheet.specs.Sheet.{Fault}
+use Rattle.blocks.specs.Tests.{again, faultIf}
 use Rattle.model.specs.Plan.{ownSlots, ownUses}
 use Rattle.model.specs.declared.names.Usage.{Usage}
 use Rattle.model.specs.declared.stages.Link.{Link}
-use Rattle.drafts.specs.Kinds.{kindConstant, kindFrom, kindFetch, defines, asks}
+use Rattle.drafts.specs.Kinds.{kindConstant, kindFrom, defines, isUse, asks}
 use Rattle.drafts.specs.Places.{begins, ends, homeOf}
-use Rattle.model.specs.Places.{keysIn, placesIn, resolved}
-use Rattle.model.specs.Places.{equatedIn, assignedSlots, usedIn, startsFrom}
+use Rattle.model.specs.Places.{keysIn, placesIn, resolved, unknown, orderedIn, assignedSlots, placeAmong, usedIn}
+use Rattle.model.specs.Places.{startsFrom}
 
 -- ---- rows that are written
 
--- the faults are written behind the c that stand there, and there are r now
-pub record Reported (fs : List Fault) (c r : ℕ) (list list′ : List ℕ) : Type 0 where
-  pub behind : r ≡ c + length fs
-  pub written : list′ ≡ sets list (faultBytes * c) (faultList fs)
+-- ---- arrays that fit
 
--- ---- a sheet that fits
-
--- none of the n statements ends before it begins
+-- none of n statements or units ends before it begins
 pub record Rises (bounds : List ℕ) (n : ℕ) : Type 0 where
   pub rise : (j : ℕ) → j < n → begins bounds j ≤ ends bounds j
 
--- the statements follow each other from draft 0 to the last, and there is room for all that they use
+-- statements, or units, follow each other from draft 0 to the last, and there is room for all that they use
 pub record Follows (lines bounds kinds used : List ℕ) : Type 0 where
   pub few : length lines ≤ mostStatements
   pub small : length kinds ≤ textBytes
@@ -60,7 +54,7 @@ pub record Collected (kinds args : List ℕ) (r : ℕ) (keys keys′ places plac
   pub keys-so : Put (keysIn kinds args) 0 r keys keys′
   pub placed : Put (placesIn kinds) 0 r places places′
 
--- the keys and places of a sheet that fits are at hand
+-- the keys and places of arrays that fit are at hand
 pub record Keyed (lines bounds kinds args used keys places : List ℕ) : Type 0 where
   pub sound : Follows lines bounds kinds used
   pub wide : length kinds ≤ length args
@@ -123,7 +117,7 @@ repeated lines bounds keys places = gather (repeatAt lines bounds keys places) (
 -- ---- names resolved, and whether one is undefined or, as an initial, unfit
 abbrev pub flawedBy : List ℕ → List ℕ → ℕ → ℕ → Bool
 flawedBy places kinds kind slot =
-    (asks kind && ltb (length places) slot)
+    (asks kind && unknown places kinds slot)
     || (eqb kind kindFrom && not (eqb (getD kinds (homeOf places slot) 0) kindConstant))
 
 abbrev pub flawedAt : List ℕ → List ℕ → List ℕ → ℕ → Bool
@@ -133,27 +127,32 @@ flawedAt places kinds slots i = flawedBy places kinds (getD kinds i 0) (getD slo
 abbrev pub nameFlaw : Bool → Bool → ℕ
 nameFlaw undefined unfit = cond undefined 22 (cond unfit 23 0)
 
--- ---- a slot's equation: the place among the assigned slots and one more, 0 where none assigns it
-abbrev pub ownerIn : List ℕ → ℕ → ℕ
-ownerIn assigned s = cond (ltb (placeIn s assigned) (length assigned)) (placeIn s assigned + 1) 0
+-- ---- a slot's unit: its place among those of the order and one more, 0 where none assigns the slot
+abbrev pub ownerIn : List (List ℕ) → ℕ → ℕ
+ownerIn assigned s = cond (ltb (placeAmong s assigned) (length assigned)) (placeAmong s assigned + 1) 0
 
-pub record Owned (assigned owners : List ℕ) : Type 0 where
+pub record Owned (assigned : List (List ℕ)) (owners : List ℕ) : Type 0 where
   pub long : length owners ≡ slots + 1
   pub owner : (s : ℕ) → s < length owners → getD owners s 0 ≡ ownerIn assigned s
+
+-- v is noted as the owner of each of these slots
+unfoldable pub noted : List ℕ → ℕ → List ℕ → List ℕ
+noted [] v owners = owners
+noted (s ∷ ss) v owners = noted ss v (set owners s v)
 
 -- what place i uses, by the owners
 abbrev pub usedOwner : List ℕ → ℕ → List ℕ
 usedOwner owners s = onlyIf (ltb 0 (getD owners s 0)) (getD owners s 0 - 1)
 
 abbrev pub usedHere : List ℕ → ℕ → ℕ → List ℕ
-usedHere owners kind s = cond (eqb kind kindFetch) (usedOwner owners s) []
+usedHere owners kind s = cond (isUse kind) (usedOwner owners s) []
 
 abbrev pub usedFrom : List ℕ → List ℕ → List ℕ → ℕ → List ℕ
 usedFrom owners kinds slots i = usedHere owners (getD kinds i 0) (getD slots i 0)
 
--- a name in an expression has a slot
+-- a name that is used has a slot
 pub record Slotted (kinds args : List ℕ) : Type 0 where
-  pub slot : (i : ℕ) → getD kinds i 0 ≡ kindFetch → getD args i 0 < slots + 1
+  pub slot : (i : ℕ) → isUse (getD kinds i 0) ≡ true → getD args i 0 < slots + 1
 
 -- ---- names resolved and uses listed, draft by draft
 
@@ -202,35 +201,36 @@ pub record Tabled (equated bounds kinds slots : List ℕ) (r : ℕ) (starts star
 pub record Linked (lines bounds kinds keys places : List ℕ) (n : Usage)
     (args args′ starts starts′ used used′ : List ℕ) : Type 0 where
   pub resolved-so : Resolved keys kinds places args args′ (n .flawed)
-  pub tabled-so : Tabled (equatedIn (length lines) bounds kinds) bounds kinds args′
+  pub tabled-so : Tabled (orderedIn (length lines) bounds kinds) bounds kinds args′
       (n .count) starts starts′ used used′
 
--- what linking gives: the equations are at the front of equated, the names are resolved, and what is used is tabled
+-- what linking gives: the units of the order are at the front of equated, the names are resolved, and what is used is
+-- tabled
 pub record Links (lines bounds kinds keys places : List ℕ) (r : Link)
     (args args′ used used′ equated equated′ starts′ : List ℕ) : Type 0 where
-  pub equations-put : Put (equatedIn (length lines) bounds kinds) 0 (r .equations) equated equated′
+  pub units-put : Put (orderedIn (length lines) bounds kinds) 0 (r .units) equated equated′
   pub linked : Linked lines bounds kinds keys places (record { count = r .used; flawed = r .flawed }) args args′
       (replicate (mostStatements + 1) 0) starts′ used used′
 
--- what the search for 22 and 23 asks: no statement ends behind the last draft, and whether a name is flawed is known
+-- what the search for 22 and 23 asks: no unit ends behind the last draft, and whether a name is flawed is known
 pub record Searched (lines bounds kinds slots places : List ℕ) (flawed : Bool) : Type 0 where
   pub few : length lines ≤ mostStatements
   pub inside : (j : ℕ) → j < length lines → ends bounds j ≤ length kinds
   pub flaw : flawed ≡ anyIn (flawedAt places kinds slots) (length kinds) 0
 
--- the m equations are held in equated, and what they use at the front of starts and used
+-- the m units of the order are held in equated, and what they use at the front of starts and used
 pub record Weighs (lines bounds kinds slots : List ℕ) (m w : ℕ) (starts used equated : List ℕ) : Type 0 where
   pub few : length lines ≤ mostStatements
   pub few-equated : m ≤ mostStatements
-  pub equated-held : Holds equated m (equatedIn (length lines) bounds kinds)
+  pub equated-held : Holds equated m (orderedIn (length lines) bounds kinds)
   pub starts-room : m + 1 ≤ length starts
   pub starts-held : take (m + 1) starts
       ≡ startsFrom 0 (ownSlots (length lines) bounds kinds slots) bounds kinds slots
-      (equatedIn (length lines) bounds kinds)
+      (orderedIn (length lines) bounds kinds)
   pub used-room : w ≤ length used
   pub used-held : take w used ≡ ownUses (length lines) bounds kinds slots
 
--- ---- 24: a mark for each equation that is placed
+-- ---- 24: a mark for each unit that is placed
 pub record Marked (placed marks : List ℕ) : Type 0 where
   pub long : length marks ≡ mostStatements
   pub mark : (r : ℕ) → r < length marks → eqb (getD marks r 0) 0 ≡ not (has r placed)

@@ -1,17 +1,18 @@
-// Fault 24: an equation that the order lacks.
+// Fault 24: a unit that the order lacks.
 ghost use mathlib.Core.Path.{_≡_};
 ghost use Prim.Native.Nat.{_≤_};
 ghost use lib.ListN.{length, replicate};
 ghost use Rattle.limits.specs.Limits.{mostStatements};
 ghost use Rattle.model.specs.Places.{loops};
-ghost use Rattle.model.specs.Working.{Reported, Marked, unmarked};
+ghost use Rattle.blocks.specs.Working.{Reported};
+ghost use Rattle.model.specs.Working.{Marked, unmarked};
 use super::lists::put_byte;
 use super::report::add_fault;
 use bits::reads::byte_at;
 use bits::reads::short_at;
 use limits::STATEMENTS;
 
-// Marks the equations that are placed.
+// Marks the units that are placed.
 fn mark(placed: &[u16], marks: &mut [u8])
     requires { ⌜ now marks ≡ replicate mostStatements 0 ⌝ }
     ensures { λ _. ⌜ Marked (now (placed .entry)) (now (marks .exit)) ⌝ }
@@ -23,7 +24,7 @@ fn mark(placed: &[u16], marks: &mut [u8])
     }
 }
 
-// Writes a fault 24 for each equation that is not marked; how many there are.
+// Writes a fault 24 for each unit that is not marked; how many there are.
 fn report_unmarked(marks: &[u8], equated: &[u16], lines: &[u16], faults: &mut [u8]) -> usize
     requires { ⌜ length (now equated) ≤ mostStatements ⌝ }
     ensures { λ r. ⌜ Reported (unmarked (now (marks .entry)) (now (equated .entry)) (now (lines .entry))) 0 r

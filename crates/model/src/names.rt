@@ -3,36 +3,48 @@ ghost use mathlib.Core.Path.{_≡_};
 ghost use mathlib.Core.Bool.{not, cond, _&&_};
 ghost use mathlib.Core.List.{List};
 ghost use Prim.Native.Nat.{ℕ, _-_, _≤_};
-ghost use lib.Dec.{eqb, ltb};
+ghost use lib.Dec.{eqb};
 ghost use lib.ListN.{length, getD};
 ghost use Rattle.limits.specs.Limits.{mostStatements};
 ghost use Rattle.laws.specs.Places.{anyIn};
 ghost use Rattle.drafts.specs.Kinds.{kindConstant, kindFrom, asks};
 ghost use Rattle.drafts.specs.Places.{homeOf};
-ghost use Rattle.model.specs.Places.{undefinedAt, unfitAt, nameless};
-ghost use Rattle.model.specs.Working.{Reported, Hinted, flawedBy, Walked, Resolving, Linking, Linkable, Linked};
+ghost use Rattle.model.specs.Places.{unknown, undefinedAt, unfitAt, nameless};
+ghost use Rattle.blocks.specs.Working.{Reported};
+ghost use Rattle.model.specs.Working.{Hinted, flawedBy, Walked, Resolving, Linking, Linkable, Linked};
 ghost use Rattle.model.specs.Working.{nameFlaw, Searched};
-use super::equations::is_equation;
-use super::equations::put_if;
-use super::equations::put_use;
 use super::hints::find;
 use super::lists::put_short;
 use super::report::add_fault;
+use super::units::is_ordered;
+use super::units::put_if;
+use super::units::put_use;
 use bits::reads::byte_at;
 use bits::reads::short_at;
 use bits::reads::word_at;
 use drafts::CONSTANT;
 use drafts::FROM;
+use drafts::OWN;
 use drafts::home_of;
 use drafts::is_asking;
 use drafts::is_named;
 
-// Whether a draft asks for a name that nothing defines; n is the count of definitions.
-fn is_undefined(n: usize, kind: u8, slot: u64) -> bool
-    ensures { λ r. ⌜ r ≡ (asks kind && ltb n slot) ⌝ }
+// Whether nothing outside a block defines a slot's name.
+fn is_unknown(places: &[u16], kinds: &[u8], slot: u64) -> bool
+    ensures { λ r. ⌜ r ≡ unknown (now (places .entry)) (now (kinds .entry)) slot ⌝ }
+{
+    if (places.len() as u64) < slot {
+        return true;
+    }
+    byte_at(kinds, home_of(places, slot)) == OWN
+}
+
+// Whether a draft asks for such a name.
+fn is_undefined(places: &[u16], kinds: &[u8], kind: u8, slot: u64) -> bool
+    ensures { λ r. ⌜ r ≡ (asks kind && unknown (now (places .entry)) (now (kinds .entry)) slot) ⌝ }
 {
     if is_asking(kind) {
-        return (n as u64) < slot;
+        return is_unknown(places, kinds, slot);
     }
     false
 }
@@ -52,7 +64,7 @@ fn is_unfit(places: &[u16], kinds: &[u8], kind: u8, slot: u64) -> bool
 fn is_flawed(places: &[u16], kinds: &[u8], kind: u8, slot: u64) -> bool
     ensures { λ r. ⌜ r ≡ flawedBy (now (places .entry)) (now (kinds .entry)) kind slot ⌝ }
 {
-    if is_undefined(places.len(), kind, slot) {
+    if is_undefined(places, kinds, kind, slot) {
         return true;
     }
     is_unfit(places, kinds, kind, slot)
@@ -105,15 +117,15 @@ fn resolve_in(
     Usage { count: w, flawed }
 }
 
-// How many owners are looked at in a statement: all in an equation, else none.
-fn all_or_none(equation: bool, n: usize) -> usize
-    ensures { λ r. ⌜ (r ≡ cond equation n 0) × (r ≤ n) ⌝ }
+// How many owners are looked at in a unit: all in one of the order, else none.
+fn all_or_none(ordered: bool, n: usize) -> usize
+    ensures { λ r. ⌜ (r ≡ cond ordered n 0) × (r ≤ n) ⌝ }
 {
-    if equation { n } else { 0 }
+    if ordered { n } else { 0 }
 }
 
-// Resolves the names of all drafts. What all equations use is stored, one after the other, and where each begins; how
-// much that is, and whether a name is flawed.
+// Resolves the names of all drafts. What all units of the order use is stored, one after the other, and where each
+// begins; how much that is, and whether a name is flawed.
 pub(crate) fn resolve(
     lines: &[u16],
     bounds: &[u16],
@@ -141,10 +153,10 @@ pub(crate) fn resolve(
     let mut r: usize = 0;
     let mut j = 0;
     while j < lines.len() {
-        let equation = is_equation(bounds, kinds, j);
+        let ordered = is_ordered(bounds, kinds, j);
         let w = usage.count;
-        r = put_if(equation, w, &mut *starts, r);
-        let known = all_or_none(equation, owners.len());
+        r = put_if(ordered, w, &mut *starts, r);
+        let known = all_or_none(ordered, owners.len());
         usage = resolve_in(
             kinds,
             keys,
@@ -167,8 +179,8 @@ pub(crate) fn resolve(
 
 // 22 if a name of the drafts from a place on, before an end, is undefined, else 23 if an initial is unfit, else 0.
 fn flaw_in(places: &[u16], kinds: &[u8], slots: &[u64], from: usize, end: usize) -> u8
-    ensures { λ r. ⌜ r ≡ nameFlaw (anyIn (undefinedAt (length (now (places .entry))) (now (kinds .entry))
-        (now (slots .entry))) (end - from) from)
+    ensures { λ r. ⌜ r ≡ nameFlaw (anyIn (undefinedAt (now (places .entry)) (now (kinds .entry)) (now (slots .entry)))
+        (end - from) from)
         (anyIn (unfitAt (now (places .entry)) (now (kinds .entry)) (now (slots .entry))) (end - from) from) ⌝ }
 {
     let mut flaw: u8 = 0;
@@ -176,7 +188,7 @@ fn flaw_in(places: &[u16], kinds: &[u8], slots: &[u64], from: usize, end: usize)
     while i < end {
         let kind = byte_at(kinds, i);
         let slot = word_at(slots, i);
-        if is_undefined(places.len(), kind, slot) {
+        if is_undefined(places, kinds, kind, slot) {
             return 22;
         }
         if is_unfit(places, kinds, kind, slot) {
@@ -187,7 +199,7 @@ fn flaw_in(places: &[u16], kinds: &[u8], slots: &[u64], from: usize, end: usize)
     flaw
 }
 
-// Writes the faults 22 and 23, statement by statement; how many there are.
+// Writes the faults 22 and 23, unit by unit; how many there are.
 fn report_nameless(
     lines: &[u16],
     bounds: &[u16],
@@ -217,7 +229,7 @@ fn report_nameless(
     count
 }
 
-// Writes the faults 22 and 23 to the front of the list; how many there are. Where no name is flawed, no statement is.
+// Writes the faults 22 and 23 to the front of the list; how many there are. Where no name is flawed, no unit is.
 pub(crate) fn report_names(
     flawed: bool,
     lines: &[u16],

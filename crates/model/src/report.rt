@@ -1,8 +1,8 @@
 // The fault list of the model.
 ghost use Prim.Native.Nat.{_≤_};
 ghost use Rattle.limits.specs.Limits.{mostStatements};
-ghost use Rattle.model.specs.Faults.{faultIf};
-ghost use Rattle.model.specs.Working.{Reported};
+ghost use Rattle.blocks.specs.Tests.{faultIf};
+ghost use Rattle.blocks.specs.Working.{Reported};
 
 // Writes a fault behind the c that stand there, if it stands; how many there are then.
 pub(crate) fn add_fault(stands: bool, line: usize, code: u8, faults: &mut [u8], c: usize) -> usize

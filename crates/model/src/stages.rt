@@ -11,13 +11,13 @@ ghost use Rattle.model.specs.Working.{Follows, Holds, Wide, Hinted, Keye
 use super::answer::Plan;
 use super::collect::collect;
 use super::doubles::report_doubles;
-use super::equations::collect_equated;
-use super::equations::note_owners;
 use super::hints::BUCKETS;
 use super::hints::note_hints;
 use super::loops::report_loops;
 use super::names::report_names;
 use super::names::resolve;
+use super::units::collect_ordered;
+use super::units::note_owners;
 use limits::DEFINITIONS;
 use limits::SLOTS;
 use limits::STATEMENTS;
@@ -31,18 +31,18 @@ pub(crate) fn refusal(number: u8, count: usize) -> Plan
         number,
         count,
         definitions: 0,
-        equations: 0,
+        units: 0,
     }
 }
 
-// What linking gives: how many equations there are, how much they use, and whether a name is flawed.
+// What linking gives: how many units are ordered, how much they use, and whether a name is flawed.
 pub(crate) struct Link {
-    pub equations: usize,
+    pub units: usize,
     pub used: usize,
     pub flawed: bool,
 }
 
-// The equations, the names resolved to slots, and what each equation uses.
+// The units of the order, the names resolved to slots, and what each of these units uses.
 fn connect(
     lines: &[u16],
     bounds: &[u16],
@@ -64,7 +64,7 @@ fn connect(
         (now (args .entry)) (now (args .exit)) (now (used .entry)) (now (used .exit)) (now (equated .entry))
         (now (equated .exit)) (now (starts .exit)) ⌝ }
 {
-    let m = collect_equated(lines.len(), bounds, kinds, &mut *equated);
+    let m = collect_ordered(lines.len(), bounds, kinds, &mut *equated);
     let mut owners = [0u16; SLOTS + 1];
     note_owners(
         &equated[..m],
@@ -90,13 +90,13 @@ fn connect(
         used,
     );
     Link {
-        equations: m,
+        units: m,
         used: usage.count,
         flawed: usage.flawed,
     }
 }
 
-// 24: the m equations in equated are ordered by what they use; there are n definitions.
+// 24: the m units in equated are ordered by what they use; there are n definitions.
 fn place(
     starts: &[u16],
     used: &[u16],
@@ -127,7 +127,7 @@ fn place(
         number: 0,
         count: 0,
         definitions: n,
-        equations: m,
+        units: m,
     }
 }
 
@@ -135,6 +135,8 @@ fn place(
 pub(crate) fn run(
     lines: &[u16],
     bounds: &[u16],
+    ulines: &[u16],
+    ubounds: &[u16],
     kinds: &[u8],
     args: &mut [u64],
     used: &mut [u16],
@@ -143,12 +145,13 @@ pub(crate) fn run(
     equated: &mut [u16],
     placed: &mut [u16],
 ) -> Plan
-    requires { ⌜ Follows (now lines) (now bounds) (now kinds) (now used) × (length (now kinds) ≤ length (now args)) ×
+    requires { ⌜ Follows (now lines) (now bounds) (now kinds) (now used)
+        × Follows (now ulines) (now ubounds) (now kinds) (now used) × (length (now kinds) ≤ length (now args)) ×
         (mostDefinitions ≤ length (now places)) × Wide (now equated) (now placed) ⌝ }
     ensures { λ r. ⌜ planOutcome r (now (args .exit)) (now (used .exit)) (now (faults .exit))
         (lent (now (places .exit)) (now (equated .exit))
-        (now (placed .exit))) ≡ sheeted (now (lines .entry)) (now (bounds .entry)) (now (kinds .entry))
-        (now (args .entry)) (now (used .entry))
+        (now (placed .exit))) ≡ sheeted (now (lines .entry)) (now (bounds .entry)) (now (ulines .entry))
+        (now (ubounds .entry)) (now (kinds .entry)) (now (args .entry)) (now (used .entry))
         (now (faults .entry)) (lent (now (places .entry)) (now (equated .entry)) (now (placed .entry))) ⌝ }
 {
     let mut keys = [0u64; DEFINITIONS];
@@ -173,8 +176,8 @@ pub(crate) fn run(
     }
     let mut starts = [0u16; STATEMENTS + 1];
     let linked = connect(
-        lines,
-        bounds,
+        ulines,
+        ubounds,
         kinds,
         &mut *args,
         &mut *used,
@@ -185,12 +188,12 @@ pub(crate) fn run(
         &mut *equated,
         &mut starts,
     );
-    let m = linked.equations;
+    let m = linked.units;
     let w = linked.used;
     let flaws = report_names(
         linked.flawed,
-        lines,
-        bounds,
+        ulines,
+        ubounds,
         &places[..n],
         kinds,
         args,
@@ -206,7 +209,7 @@ pub(crate) fn run(
         equated,
         m,
         placed,
-        lines,
+        ulines,
         faults,
     )
 }

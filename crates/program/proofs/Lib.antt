@@ -1,3 +1,4 @@
+pub mod UnitRuns
 pub mod Steps
 pub mod Settings
 pub mod Counts

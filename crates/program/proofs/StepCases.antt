@@ -1,22 +1,24 @@
 -- What the parts of the program are in each case that code tells apart.
 use Prim.Native.Nat.{ℕ, suc, _+_, _-_, _≤_, _<_}
 use mathlib.Core.Path.{_≡_, refl, sym, ap, _∙_}
-use mathlib.Core.Bool.{Bool, true, false, cond}
+use mathlib.Core.Bool.{Bool, true, false, cond, _&&_}
+use mathlib.Core.Logic.{⊎-elim}
 use mathlib.Core.List.{List, [], _∷_, _++_}
 use native.Mathlib.Numerals.{add-one}
 use native.Mathlib.Omega.{arith}
 use borrow.Author.Tests.{le-leb, lt-leb, eq-eqb, ne-eqb}
-use lib.Dec.{eqb}
+use lib.Dec.{eqb, leb}
 use lib.ListN.{length, getD, drop}
 use lib.Seq.{drop-cons}
 use Rattle.laws.specs.Counts.{once}
 use Rattle.laws.specs.Places.{gather}
-use Rattle.laws.proofs.Tests.{cond-ind}
+use Rattle.laws.proofs.Tests.{lt-or-ge, cond-ind, and-both, or-left, or-right}
 use Rattle.laws.proofs.Gathers.{gather-shift}
 use Rattle.drafts.specs.Places.{begins, ends}
-use Rattle.drafts.specs.Kinds.{kindPush, kindFetch, kindRate, kindClock, isStep, writes}
+use Rattle.drafts.specs.Kinds.{kindPush, kindFetch, kindClock, kindFrom, kindAgain, kindGiven, kindRead, isStep}
+use Rattle.drafts.specs.Kinds.{stepKind, writes}
 use Rattle.program.specs.Written.{fieldBytes, recordCount, valueAt, settingAt, reach, settingsOf, stepBytes}
-use Rattle.program.specs.Written.{stepAt, stepsOf, orderedSteps}
+use Rattle.program.specs.Written.{stepAt, stepsOf, unitSteps, orderedSteps}
 use Rattle.program.proofs.RoomFilled.{WholeRecords, whole-gather, length-record}
 
 -- ---- each part has whole records
@@ -46,7 +48,7 @@ whole-step : (k x line : ℕ) → WholeRecords (stepBytes k x line)
 whole-step k x line =
     cond-ind WholeRecords (eqb k kindPush) _ _ (λ _. whole-record kindPush 0 line x)
     (λ _. cond-ind WholeRecords (eqb k kindClock) _ _ (λ _. whole-record kindFetch 0 line 0)
-    (λ _. cond-ind WholeRecords (isStep k) _ [] (λ _. whole-record k x line 0) (λ _. omega arith)))
+    (λ _. cond-ind WholeRecords (isStep k) _ [] (λ _. whole-record (stepKind k) x line 0) (λ _. omega arith)))
 
 pub whole-step-at : (kinds slots : List ℕ) (line i : ℕ) → WholeRecords (stepAt kinds slots line i)
 whole-step-at kinds slots line i = whole-step (getD kinds i 0) (getD slots i 0) line
@@ -54,6 +56,11 @@ whole-step-at kinds slots line i = whole-step (getD kinds i 0) (getD slots i 0) 
 pub whole-steps : (lines bounds kinds slots : List ℕ) (j : ℕ) → WholeRecords (stepsOf lines bounds kinds slots j)
 whole-steps lines bounds kinds slots j =
     whole-gather _ (whole-step-at kinds slots (getD lines j 0)) (ends bounds j - begins bounds j) (begins bounds j)
+
+pub whole-unit : (firsts lines bounds kinds slots : List ℕ) (j : ℕ)
+    → WholeRecords (unitSteps firsts lines bounds kinds slots j)
+whole-unit firsts lines bounds kinds slots j =
+    whole-gather _ (whole-steps lines bounds kinds slots) (ends firsts j - begins firsts j) (begins firsts j)
 
 -- ---- the settings of a statement whose first draft is at place i
 module _ (phase : ℕ) (places lines bounds kinds slots : List ℕ) (j : ℕ) {i : ℕ} (first : i ≡ begins bounds j) where
@@ -80,29 +87,57 @@ module _ (k x line : ℕ) where
     step-clock e = rw (ne-eqb k kindPush a, eq-eqb k kindClock e)
 
     module _ (b : k ≡ kindClock → ⊥) where
+      -- a kind that is no step's writes nothing
+      no-step : isStep k ≡ false → stepBytes k x line ≡ []
+      no-step e = rw (ne-eqb k kindPush a, ne-eqb k kindClock b, e)
+
       -- constants, initials and values write nothing here
       pub step-below : k < kindFetch → stepBytes k x line ≡ []
-      step-below h = rw (ne-eqb k kindPush a, ne-eqb k kindClock b, lt-leb kindFetch k h)
+      step-below h = no-step (rw (lt-leb kindFetch k h, lt-leb kindGiven k (omega arith)))
 
-      -- nor does a kind that is no record's
-      pub step-above : kindRate < k → stepBytes k x line ≡ []
+      -- nor do a header's names and an end
+      pub step-above : kindRead < k → stepBytes k x line ≡ []
       step-above h =
-          rw (ne-eqb k kindPush a, ne-eqb k kindClock b, le-leb kindFetch k (omega arith), lt-leb k kindRate h)
+          no-step (rw (
+            lt-leb k kindRead h,
+            lt-leb k kindAgain (omega arith),
+            le-leb kindFetch k (omega arith),
+            le-leb kindGiven k (omega arith),
+          ))
 
-      -- all others are written as they are
-      pub step-plain : kindFetch ≤ k → k ≤ kindRate → stepBytes k x line ≡ fieldBytes k x line 0
-      step-plain g h = rw (ne-eqb k kindPush a, ne-eqb k kindClock b, le-leb kindFetch k g, le-leb k kindRate h)
+      -- nor does a constant's name as initial
+      pub step-from : k ≡ kindFrom → stepBytes k x line ≡ []
+      step-from e = rw e
 
--- the steps of the ordered statements, gathered over the places of the order
-pub ordered-gather : (equated lines bounds kinds slots order : List ℕ)
-    → orderedSteps equated lines bounds kinds slots order
-    ≡ gather (λ q. stepsOf lines bounds kinds slots (getD equated (getD order q 0) 0)) (length order) 0
+      -- all others write a record of their kind
+      pub step-plain : kindFetch ≤ k → k ≤ kindRead → (k ≡ kindFrom → ⊥)
+          → stepBytes k x line ≡ fieldBytes (stepKind k) x line 0
+      step-plain g h c = rw (ne-eqb k kindPush a, ne-eqb k kindClock b, is-step)
+        where
+          above : kindFrom ≤ k → kindGiven ≤ k
+          above l = omega (arith, a, b, c)
+
+          is-step : isStep k ≡ true
+          is-step =
+              let low = leb kindFetch k && leb k kindAgain in
+              let high = leb kindGiven k && leb k kindRead in
+              ⊎-elim
+              (λ (l : k < kindFrom). or-left low high
+              (and-both (leb kindFetch k) (leb k kindAgain) (le-leb kindFetch k g) (le-leb k kindAgain (omega arith))))
+              (λ (l : kindFrom ≤ k). or-right low high
+              (and-both (leb kindGiven k) (leb k kindRead) (le-leb kindGiven k (above l)) (le-leb k kindRead h)))
+              (lt-or-ge k kindFrom)
+
+-- the steps of the ordered units, gathered over the places of the order
+pub ordered-gather : (equated firsts lines bounds kinds slots order : List ℕ)
+    → orderedSteps equated firsts lines bounds kinds slots order
+    ≡ gather (λ q. unitSteps firsts lines bounds kinds slots (getD equated (getD order q 0) 0)) (length order) 0
 unfolding orderedSteps gather
-ordered-gather equated lines bounds kinds slots [] = refl
-ordered-gather equated lines bounds kinds slots (r ∷ order) =
-    ap (λ l. stepsOf lines bounds kinds slots (getD equated r 0) ++ l)
-    (ordered-gather equated lines bounds kinds slots order
-    ∙ sym (gather-shift (λ q. stepsOf lines bounds kinds slots (getD equated (getD (r ∷ order) q 0) 0))
+ordered-gather equated firsts lines bounds kinds slots [] = refl
+ordered-gather equated firsts lines bounds kinds slots (r ∷ order) =
+    ap (λ l. unitSteps firsts lines bounds kinds slots (getD equated r 0) ++ l)
+    (ordered-gather equated firsts lines bounds kinds slots order
+    ∙ sym (gather-shift (λ q. unitSteps firsts lines bounds kinds slots (getD equated (getD (r ∷ order) q 0) 0))
     (length order) 0))
 
 -- a count of records goes on by what a kind adds

@@ -12,7 +12,8 @@ CountsRecords kinds r = r ≡ recordCount kinds
 
 -- `put_program`: of the program's records as many as there is room for stand at the front, the other bytes are as lent;
 -- how many bytes these are
-abbrev pub PutsProgram : List ℕ → List ℕ → List ℕ → List ℕ → List ℕ → List ℕ → List ℕ → List ℕ → ℕ → List ℕ → Type 0
-PutsProgram places equated lines bounds kinds slots order out r o =
-    let q = fitting (length out) (writtenProgram places equated lines bounds kinds slots order) in
+abbrev pub PutsProgram : List ℕ → List ℕ → List ℕ → List ℕ → List ℕ → List ℕ → List ℕ → List ℕ → List ℕ → ℕ → List ℕ
+    → Type 0
+PutsProgram places equated firsts lines bounds kinds slots order out r o =
+    let q = fitting (length out) (writtenProgram places equated firsts lines bounds kinds slots order) in
     (r ≡ length q) × (o ≡ sets out 0 q)

@@ -1,16 +1,17 @@
--- The program: first all of kind 1 in text order, then all of kind 2 likewise, then each ordered statement in postfix.
+-- The program: first all of kind 1 in text order, then all of kind 2 likewise, then each ordered unit in postfix.
 use Prim.Native.Nat.{ℕ}
-use mathlib.Core.Bool.{Bool, true, false, cond}
+use mathlib.Core.Bool.{cond}
 use mathlib.Core.List.{List, [], _∷_, _++_, map}
 use lib.Dec.{eqb}
 use lib.Ieee.{Float, nan}
 use Rattle.laws.specs.Lists.{concat-map}
 use Rattle.drafts.specs.Tree.{Two, plus, minus, times, over, compar, Three, insw, limit, Initial, plain, from}
 use Rattle.drafts.specs.Items.{Item, push, fetch, clock, negate, apply-two, apply-three, postfix}
-use Rattle.model.specs.Definitions.{What, constant, assigned, integral, Def, slotIn, Equation, equationAt}
+use Rattle.blocks.specs.Units.{Target, stores, restores, rates, Equation, TextUnit, OrderUnit}
+use Rattle.model.specs.Definitions.{What, constant, assigned, hidden, integral, Def, definitions, slotIn, unitAt}
 use Rattle.records.specs.declared.Instr.{Instr}
 use Rattle.records.specs.declared.Instr.the-variants.{Constant, Initial as Start, Value, Slot, Add, Sub, Mul, Div, Neg}
-use Rattle.records.specs.declared.Instr.the-variants.{Insw, Limit, Compar, Store, Deriv}
+use Rattle.records.specs.declared.Instr.the-variants.{Insw, Limit, Compar, Store, Deriv, StoreAgain}
 use Rattle.records.specs.Record.{Rec, rec}
 
 -- ---- items as instructions
@@ -39,8 +40,9 @@ instrItem slot (apply-three o) = instrThree o
 
 abbrev pub constantValue : ℕ → ℕ → What → Float → Float
 constantValue j k (constant x) y = cond (eqb j k) x y
-constantValue j k (assigned e) y = y
-constantValue j k (integral i e) y = y
+constantValue j k assigned y = y
+constantValue j k hidden y = y
+constantValue j k (integral i) y = y
 
 -- the value of the constant j
 unfoldable pub valueIn : List Def → ℕ → Float
@@ -55,30 +57,38 @@ module _ (ds : List Def) where
   -- kind 1, of a constant (slot, value)
   abbrev pub constantRecs : Def → What → List Rec
   constantRecs d (constant x) = rec (d .line) (Constant (slotIn ds (d .key)) x) ∷ []
-  constantRecs d (assigned e) = []
-  constantRecs d (integral i e) = []
+  constantRecs d assigned = []
+  constantRecs d hidden = []
+  constantRecs d (integral i) = []
 
   -- kind 2, of a state (slot, value)
   abbrev pub initialRecs : Def → What → List Rec
   initialRecs d (constant x) = []
-  initialRecs d (assigned e) = []
-  initialRecs d (integral i e) = rec (d .line) (Start (slotIn ds (d .key)) (initialValue ds i)) ∷ []
+  initialRecs d assigned = []
+  initialRecs d hidden = []
+  initialRecs d (integral i) = rec (d .line) (Start (slotIn ds (d .key)) (initialValue ds i)) ∷ []
 
-  -- the last record of an equation: kind 13, or kind 14 of a state
-  abbrev pub lastInstr : Bool → ℕ → Instr
-  lastInstr false s = Store s
-  lastInstr true s = Deriv s
+  -- the last record of an equation: kind 13, kind 15 of a name that is set again, or kind 14 of a state
+  abbrev pub lastInstr : Target → ℕ → Instr
+  lastInstr stores s = Store s
+  lastInstr restores s = StoreAgain s
+  lastInstr rates s = Deriv s
 
   -- an equation in postfix, operands left to right, with its store or derivative
   abbrev pub code : Equation → List Instr
-  code e = map (instrItem (slotIn ds)) (postfix (e .tree)) ++ (lastInstr (e .held) (slotIn ds (e .key)) ∷ [])
+  code e = map (instrItem (slotIn ds)) (postfix (e .tree)) ++ (lastInstr (e .target) (slotIn ds (e .key)) ∷ [])
 
   abbrev pub equationRecs : Equation → List Rec
   equationRecs e = map (rec (e .line)) (code e)
 
-  -- with the equations in the order q
-  unfoldable pub program : List ℕ → List Rec
-  program q =
-      concat-map (λ (d : Def). constantRecs d (d .what)) ds
-      ++
-      (concat-map (λ (d : Def). initialRecs d (d .what)) ds ++ concat-map (λ (i : ℕ). equationRecs (equationAt ds i)) q)
+  -- a unit: what runs, in its order
+  abbrev pub unitRecs : OrderUnit → List Rec
+  unitRecs u = concat-map equationRecs (u .runs)
+
+-- with the units in the order q
+unfoldable pub program : List TextUnit → List ℕ → List Rec
+program us q =
+    let ds = definitions us in
+    concat-map (λ (d : Def). constantRecs ds d (d .what)) ds
+    ++
+    (concat-map (λ (d : Def). initialRecs ds d (d .what)) ds ++ concat-map (λ (i : ℕ). unitRecs ds (unitAt us i)) q)

@@ -10,7 +10,8 @@ use lib.Seq.{sets}
 use Rattle.limits.specs.Limits.{recordBytes}
 use Rattle.laws.specs.Places.{gather}
 use Rattle.bits.specs.Low.{lowBytes}
-use Rattle.drafts.specs.Kinds.{kindConstant, kindInitial, kindFrom, kindPush, kindFetch, kindClock, isStep, writes}
+use Rattle.drafts.specs.Kinds.{kindConstant, kindInitial, kindFrom, kindPush, kindFetch, kindClock, isStep, stepKind}
+use Rattle.drafts.specs.Kinds.{writes}
 use Rattle.drafts.specs.Places.{begins, ends, inStatement, firstKind, homeOf}
 
 -- the sixteen bytes of a record
@@ -40,7 +41,8 @@ settingAt phase places kinds slots line i =
 abbrev pub stepBytes : ℕ → ℕ → ℕ → List ℕ
 stepBytes kind arg line =
     cond (eqb kind kindPush) (fieldBytes kindPush 0 line arg)
-    (cond (eqb kind kindClock) (fieldBytes kindFetch 0 line 0) (cond (isStep kind) (fieldBytes kind arg line 0) []))
+    (cond (eqb kind kindClock) (fieldBytes kindFetch 0 line 0)
+    (cond (isStep kind) (fieldBytes (stepKind kind) arg line 0) []))
 
 abbrev pub stepAt : List ℕ → List ℕ → ℕ → ℕ → List ℕ
 stepAt kinds slots line i = stepBytes (getD kinds i 0) (getD slots i 0) line
@@ -59,19 +61,24 @@ settingsOf phase places lines bounds kinds slots j =
 abbrev pub stepsOf : List ℕ → List ℕ → List ℕ → List ℕ → ℕ → List ℕ
 stepsOf lines bounds kinds slots j = inStatement bounds (stepAt kinds slots (getD lines j 0)) j
 
--- of the ordered statements: order gives places in equated
-unfoldable pub orderedSteps : List ℕ → List ℕ → List ℕ → List ℕ → List ℕ → List ℕ → List ℕ
-orderedSteps equated lines bounds kinds slots [] = []
-orderedSteps equated lines bounds kinds slots (r ∷ order) =
-    stepsOf lines bounds kinds slots (getD equated r 0) ++ orderedSteps equated lines bounds kinds slots order
+-- of a unit: those of its statements, of which firsts names the first
+abbrev pub unitSteps : List ℕ → List ℕ → List ℕ → List ℕ → List ℕ → ℕ → List ℕ
+unitSteps firsts lines bounds kinds slots j = inStatement firsts (stepsOf lines bounds kinds slots) j
 
--- first all constants in text order, then all initials likewise, then each ordered statement
-unfoldable pub writtenProgram : List ℕ → List ℕ → List ℕ → List ℕ → List ℕ → List ℕ → List ℕ → List ℕ
-writtenProgram places equated lines bounds kinds slots order =
+-- of the ordered units: order gives places in equated
+unfoldable pub orderedSteps : List ℕ → List ℕ → List ℕ → List ℕ → List ℕ → List ℕ → List ℕ → List ℕ
+orderedSteps equated firsts lines bounds kinds slots [] = []
+orderedSteps equated firsts lines bounds kinds slots (r ∷ order) =
+    unitSteps firsts lines bounds kinds slots (getD equated r 0)
+    ++ orderedSteps equated firsts lines bounds kinds slots order
+
+-- first all constants in text order, then all initials likewise, then each ordered unit
+unfoldable pub writtenProgram : List ℕ → List ℕ → List ℕ → List ℕ → List ℕ → List ℕ → List ℕ → List ℕ → List ℕ
+writtenProgram places equated firsts lines bounds kinds slots order =
     gather (settingsOf kindConstant places lines bounds kinds slots) (length lines) 0
     ++
     (gather (settingsOf kindInitial places lines bounds kinds slots)
-    (length lines) 0 ++ orderedSteps equated lines bounds kinds slots order)
+    (length lines) 0 ++ orderedSteps equated firsts lines bounds kinds slots order)
 
 -- ---- what a function that writes says of the bytes that it is lent
 

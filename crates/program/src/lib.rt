@@ -4,8 +4,9 @@ ghost use Prim.Native.Nat.{_-_, _≤_, _<_};
 ghost use lib.ListN.{length};
 ghost use lib.Seq.{sets};
 ghost use Rattle.laws.specs.Places.{gather};
+ghost use Rattle.drafts.specs.Kinds.{stepKind};
 ghost use Rattle.program.specs.Written.{fieldBytes, headOf, valueAt, settingAt, reach, settingsOf, stepBytes};
-ghost use Rattle.program.specs.Written.{stepsOf, orderedSteps, Fills};
+ghost use Rattle.program.specs.Written.{stepsOf, unitSteps, orderedSteps, Fills};
 ghost use Rattle.program.specs.Contract.{CountsRecords, PutsProgram};
 use bits::put_eight;
 use bits::reads::byte_at;
@@ -15,9 +16,12 @@ use drafts::CLOCK;
 use drafts::CONSTANT;
 use drafts::FETCH;
 use drafts::FROM;
+use drafts::GIVEN;
 use drafts::INITIAL;
+use drafts::OWN;
 use drafts::PUSH;
-use drafts::RATE;
+use drafts::READ;
+use drafts::STORE;
 use drafts::home_of;
 use drafts::records_of;
 use limits::RECORD_BYTES;
@@ -171,6 +175,18 @@ fn put_all_settings(
     w
 }
 
+// The kind of the record of a step: the draft's own, but for the first settings in a block and for what is read there.
+fn step_kind(kind: u8) -> u8
+    ensures { λ r. ⌜ r ≡ stepKind kind ⌝ }
+{
+    match kind {
+        GIVEN => STORE,
+        OWN => STORE,
+        READ => FETCH,
+        _ => kind,
+    }
+}
+
 // Writes the record of a draft of an expression, or of a store or derivative.
 fn put_step(kind: u8, arg: u64, line: u64, out: &mut [u8], w: usize) -> usize
     requires { ⌜ w ≤ length (now out) ⌝ }
@@ -185,10 +201,13 @@ fn put_step(kind: u8, arg: u64, line: u64, out: &mut [u8], w: usize) -> usize
     if kind < FETCH {
         return w;
     }
-    if RATE < kind {
+    if READ < kind {
         return w;
     }
-    put_record(kind, arg, line, 0, out, w)
+    if kind == FROM {
+        return w;
+    }
+    put_record(step_kind(kind), arg, line, 0, out, w)
 }
 
 // Writes the steps of a statement.
@@ -217,9 +236,37 @@ fn put_steps(
     w
 }
 
-// Writes the ordered statements.
+// Writes the steps of the statements of a unit.
+fn put_unit(
+    firsts: &[u16],
+    lines: &[u16],
+    bounds: &[u16],
+    kinds: &[u8],
+    slots: &[u64],
+    j: usize,
+    out: &mut [u8],
+    at: usize,
+) -> usize
+    requires { ⌜ (j < 65536) × (at ≤ length (now out)) ⌝ }
+    ensures { λ r. ⌜
+        Fills (unitSteps (now (firsts .entry)) (now (lines .entry)) (now (bounds .entry)) (now (kinds .entry))
+        (now (slots .entry)) j)
+        at r (now (out .entry)) (now (out .exit)) ⌝ }
+{
+    let end = short_at(firsts, j + 1);
+    let mut i = short_at(firsts, j);
+    let mut w = at;
+    while i < end {
+        w = put_steps(lines, bounds, kinds, slots, i, &mut *out, w);
+        i += 1;
+    }
+    w
+}
+
+// Writes the ordered units.
 fn put_ordered(
     equated: &[u16],
+    firsts: &[u16],
     lines: &[u16],
     bounds: &[u16],
     kinds: &[u8],
@@ -230,15 +277,15 @@ fn put_ordered(
 ) -> usize
     requires { ⌜ at ≤ length (now out) ⌝ }
     ensures { λ r. ⌜
-        Fills (orderedSteps (now (equated .entry)) (now (lines .entry)) (now (bounds .entry)) (now (kinds .entry))
-        (now (slots .entry)) (now (order .entry)))
+        Fills (orderedSteps (now (equated .entry)) (now (firsts .entry)) (now (lines .entry)) (now (bounds .entry))
+        (now (kinds .entry)) (now (slots .entry)) (now (order .entry)))
         at r (now (out .entry)) (now (out .exit)) ⌝ }
 {
     let mut w = at;
     let mut q: usize = 0;
     while q < order.len() {
         let j = short_at(equated, short_at(order, q));
-        w = put_steps(lines, bounds, kinds, slots, j, &mut *out, w);
+        w = put_unit(firsts, lines, bounds, kinds, slots, j, &mut *out, w);
         q += 1;
     }
     w
@@ -248,6 +295,7 @@ fn put_ordered(
 pub fn put_program(
     places: &[u16],
     equated: &[u16],
+    firsts: &[u16],
     lines: &[u16],
     bounds: &[u16],
     kinds: &[u8],
@@ -255,11 +303,11 @@ pub fn put_program(
     order: &[u16],
     out: &mut [u8],
 ) -> usize
-    ensures { λ r. ⌜ PutsProgram (now (places .entry)) (now (equated .entry)) (now (lines .entry))
-        (now (bounds .entry)) (now (kinds .entry)) (now (slots .entry)) (now (order .entry)) (now (out .entry))
-        r (now (out .exit)) ⌝ }
+    ensures { λ r. ⌜ PutsProgram (now (places .entry)) (now (equated .entry)) (now (firsts .entry))
+        (now (lines .entry)) (now (bounds .entry)) (now (kinds .entry)) (now (slots .entry)) (now (order .entry))
+        (now (out .entry)) r (now (out .exit)) ⌝ }
 {
     let a = put_all_settings(CONSTANT, places, lines, bounds, kinds, slots, &mut *out, 0);
     let b = put_all_settings(INITIAL, places, lines, bounds, kinds, slots, &mut *out, a);
-    put_ordered(equated, lines, bounds, kinds, slots, order, out, b)
+    put_ordered(equated, firsts, lines, bounds, kinds, slots, order, out, b)
 }

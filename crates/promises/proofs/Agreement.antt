@@ -7,6 +7,7 @@ use Rattle.grammar.proofs.Agreement as of-grammar
 use Rattle.order.proofs.Agreement as of-order
 use Rattle.records.proofs.Agreement as of-records
 use Rattle.sheet.proofs.Agreement as of-sheet
+use Rattle.blocks.proofs.Agreement as of-blocks
 use Rattle.model.proofs.Agreement as of-model
 use Rattle.program.proofs.Agreement as of-program
 use Rattle.evaluator.proofs.Agreement as of-evaluator
@@ -14,7 +15,8 @@ use Rattle.translator.proofs.Agreement as of-translator
 use Rattle.listing_text.proofs.Agreement as of-listing
 use Rattle.floesedge.proofs.Agreement as of-library
 use Rattle.tally.proofs.Agreement as of-tally
-use Rattle.promises.specs.Agreement.{Bits, Deck, Tokens, Drafts, Grammar, Order, Records, Sheets, Model, Program}
+use Rattle.promises.specs.Agreement.{Bits, Deck, Tokens, Drafts, Grammar, Order, Records, Sheets, Blocks, Model}
+use Rattle.promises.specs.Agreement.{Program}
 use Rattle.promises.specs.Agreement.{Evaluator, Translator, Listing, Library, Counting}
 
 pub bits : Bits
@@ -52,6 +54,7 @@ drafts =
     record {
       is-defining = of-drafts.is-defining;
       is-asking = of-drafts.is-asking;
+      is-use = of-drafts.is-use;
       is-named = of-drafts.is-named;
       is-closing = of-drafts.is-closing;
       records-of = of-drafts.records-of;
@@ -69,6 +72,9 @@ records = record { read = of-records.read; decode = of-records.decode }
 
 pub sheet : Sheets
 sheet = record { put-fault = of-sheet.put-fault }
+
+pub blocks : Blocks
+blocks = record { group = of-blocks.group }
 
 pub model : Model
 model = record { plan = of-model.plan }

@@ -11,7 +11,7 @@ use Rattle.drafts.specs.Items.{postfix, peak}
 use Rattle.grammar.specs.Grammar.{expr, Der, of-assignment}
 use Rattle.grammar.proofs.Stack.{stack-of}
 use Rattle.model.specs.Faults.{orderOf}
-use Rattle.model.specs.Text.{textDefinitions}
+use Rattle.model.specs.Text.{textUnits}
 use Rattle.records.specs.Record.{instrs}
 use Rattle.program.specs.Program.{instrItem, program}
 use Rattle.translator.specs.Verdict.{Decision, verdictOf}
@@ -40,9 +40,9 @@ depth-height d w e slot a =
 pub enough : (text : List ℕ) (f p : ℕ) → heightOf (verdictOf text f p) ≤ stackPlaces
 unfolding highest
 enough text f p =
-    let ds = textDefinitions text in
-    let xs = instrs (program ds (orderOf ds)) in
-    let h : highest 0 (xs ++ []) ≤ max stackPlaces 0 = program-level ds (orderOf ds) (text-low text) [] in
+    let us = textUnits text in
+    let xs = instrs (program us (orderOf us)) in
+    let h : highest 0 (xs ++ []) ≤ max stackPlaces 0 = program-level us (orderOf us) (text-low text) [] in
     verdict-ind (λ (v : Decision). heightOf v ≤ stackPlaces) (λ n _. omega arith) (λ n x ys _. omega arith) text f p
     (rw append-nil at h)
 

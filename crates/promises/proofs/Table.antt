@@ -20,13 +20,17 @@ use Rattle.tokens.specs.Row.{rowFrom, rowOf}
 use Rattle.drafts.specs.Tree.{names}
 use Rattle.drafts.specs.Items.{postfix}
 use Rattle.grammar.specs.Look.{next, rest, byteOf, give-to, factorStart, startOf}
-use Rattle.grammar.specs.Parser.{bind, parse, signedNumber, many, initially, assigned, integrated, statement, entire}
-use Rattle.grammar.specs.Parser.{readRow}
+use Rattle.grammar.specs.Parser.{bind, parse, signedNumber, many, initially, assigned, integrated, manyNames, headed}
+use Rattle.grammar.specs.Parser.{statement, entire, readRow}
 use Rattle.sheet.specs.Reader.{told, sheetOf}
 use Rattle.order.specs.Order.{any, chained}
 use Rattle.order.specs.Greedy.{all, first, ready, leastReady, place, order}
 use Rattle.model.specs.Definitions.{placeIn}
-use Rattle.model.specs.Faults.{again, faults21, within, modelFaults}
+use Rattle.blocks.specs.Tests.{again, within}
+use Rattle.blocks.specs.Pairing.{pairsFrom, nested, faults25From}
+use Rattle.blocks.specs.Inside.{setInside, faults26From, blockFaults}
+use Rattle.blocks.specs.Members.{unitsFrom}
+use Rattle.model.specs.Faults.{faults21, meets, modelFaults}
 use Rattle.program.specs.Program.{valueIn, program}
 use Rattle.translator.specs.Verdict.{decided, verdictOf}
 use Rattle.listing_text.specs.Listing.{figuresIn, listingOf, listing}
@@ -41,8 +45,9 @@ unfolding trials listing listingOf figuresIn verdictOf decided linesOf trimmed d
     nameAt tokenAt cutAt
     lookUp symbolNamed rowFrom rowOf
     names postfix next rest byteOf give-to factorStart startOf bind parse signedNumber many initially assigned
-    integrated statement entire readRow
-    any chained all first ready leastReady place order placeIn again faults21 within modelFaults valueIn program ofBits
+    integrated manyNames headed statement entire readRow
+    any chained all first ready leastReady place order placeIn again faults21 within meets modelFaults valueIn program
+    pairsFrom nested faults25From setInside faults26From blockFaults unitsFrom ofBits
     ofInt mul div neg round
     units size climb span odd
 tried = refl
@@ -61,8 +66,9 @@ unfolding highest verdictOf decided linesOf trimmed dotted passed after ended le
     nameAt tokenAt cutAt
     lookUp symbolNamed rowFrom rowOf names
     postfix next rest byteOf give-to factorStart startOf bind parse signedNumber many initially assigned integrated
-    statement entire readRow any chained
-    all first ready leastReady place order placeIn again faults21 within modelFaults valueIn program ofBits ofInt mul
+    manyNames headed statement entire readRow any chained
+    all first ready leastReady place order placeIn again faults21 within meets modelFaults valueIn program pairsFrom
+    nested faults25From setInside faults26From blockFaults unitsFrom ofBits ofInt mul
     div neg round units size climb
     span odd
-computed = (refl, refl, (refl, refl), refl, (refl, refl))
+computed = (refl, refl, (refl, refl, refl), refl, (refl, refl, refl))

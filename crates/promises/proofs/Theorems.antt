@@ -18,10 +18,14 @@ use Rattle.drafts.specs.Tree.{Tree}
 use Rattle.drafts.specs.Items.{postfix, peak}
 use Rattle.grammar.specs.Grammar.{expr, Der}
 use Rattle.grammar.specs.Meaning.{Front, Means, deepest}
-use Rattle.sheet.specs.Reader.{faultsOf, Faulted}
+use Rattle.sheet.specs.Sheet.{said}
+use Rattle.sheet.specs.Reader.{sheetOf, faultsOf, Faulted}
 use Rattle.sheet.specs.Numbers.{faultsFrom, closedOf}
 use Rattle.sheet.specs.StatementMeans.{StatementMeans}
-use Rattle.model.specs.Text.{textDefinitions}
+use Rattle.blocks.specs.Units.{Inner, block, TextUnit}
+use Rattle.blocks.specs.Said.{GroupedIn}
+use Rattle.blocks.specs.Sound.{freeNames}
+use Rattle.model.specs.Text.{textUnits}
 use Rattle.records.specs.Record.{Rec, programBytes, decoded}
 use Rattle.program.specs.Program.{instrItem}
 use Rattle.translator.specs.declared.Verdict.{Verdict}
@@ -37,8 +41,9 @@ use Rattle.evaluator.specs.Judge.{answer, judge}
 use Rattle.evaluator.specs.Evaluate.{refusal, runOutcome, evaluated, started, stepped, RefusedUnwritten}
 use Rattle.floesedge.specs.declared.CVerdict.{CVerdict}
 use Rattle.floesedge.specs.Contract.{TranslatesFixed}
-use Rattle.meaning.specs.Statements.{Solution}
-use Rattle.meaning.specs.Faithful.{saidIn, handedOn, HasSlots, Faithful}
+use Rattle.meaning.specs.Statements.{slotOf, Solution}
+use Rattle.meaning.specs.BlockFunction.{BlockFunction}
+use Rattle.meaning.specs.Faithful.{handedOn, HasSlots, Faithful}
 use Rattle.meaning.specs.ReadSlots.{shapes, SameRead, SameWritten, ReadsStates}
 use Rattle.meaning.specs.Depth.{highest, heightOf}
 use Rattle.meaning.proofs.Acceptance as acceptance
@@ -90,7 +95,7 @@ pub decided : (text : List ℕ) (f p : ℕ) → Unrefused text f p → Decided t
 decided = demand-two.decided
 
 pub decided-for : (text f p f′ p′ : List ℕ) (r : Verdict) → Translates text f p r f′ p′
-    → Unrefused text (length f) (length p) → DecidedFor (textDefinitions text) r f′ p p′
+    → Unrefused text (length f) (length p) → DecidedFor (textUnits text) r f′ p p′
 decided-for = demand-two.decided-for
 
 pub tank-unrefused : Unrefused (bytes tank) faultRoom programRoom
@@ -198,9 +203,20 @@ pub linked-text : (text f p : List ℕ) (r : CVerdict) (f′ p′ : List ℕ) �
     → Faithful text (handedOn (r .count) p′)
 linked-text = wall.linked-text
 
+pub statements-kept : (text : List ℕ) (faults room : ℕ) (rs : List Rec) (ls : List ℕ)
+    → verdictOf text faults room ≡ translated rs ls → GroupedIn (textUnits text) (said (sheetOf text))
+statements-kept = wall.statements-kept
+
+pub block-is-function : (text : List ℕ) (faults room : ℕ) (rs : List Rec) (ls : List ℕ)
+    → verdictOf text faults room ≡ translated rs ls
+    → (u : TextUnit) → List·Memᴰ u (textUnits text) → (os is : List ℕ) (ns : List Inner) (z : ℕ)
+    → u .body ≡ block os is ns z
+    → BlockFunction (slotOf (textUnits text)) (freeNames (textUnits text)) is ns
+block-is-function = wall.block-is-function
+
 pub solutions-alike : (text program : List ℕ) → Faithful text program
     → (v d w e : List Float) → HasSlots v d → HasSlots w e → SameRead (shapes program) v w
-    → (v₁ d₁ w₁ e₁ : List Float) → Solution (saidIn text) v d v₁ d₁ → Solution (saidIn text) w e w₁ e₁
+    → (v₁ d₁ w₁ e₁ : List Float) → Solution (textUnits text) v d v₁ d₁ → Solution (textUnits text) w e w₁ e₁
     → SameWritten (shapes program) (runOutcome (answer 0 0) v₁ d₁) (runOutcome (answer 0 0) w₁ e₁)
 solutions-alike = wall.solutions-alike
 
@@ -257,6 +273,9 @@ records = agreement.records
 
 pub sheet : agree.Sheets
 sheet = agreement.sheet
+
+pub blocks : agree.Blocks
+blocks = agreement.blocks
 
 pub model : agree.Model
 model = agreement.model

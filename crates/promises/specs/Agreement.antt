@@ -10,11 +10,14 @@ use Rattle.bits.specs.Contract.{PutsLow, PutsEight, GivesFloat, GivesBits}
 use Rattle.deck.specs.declared.Cursor.{Cursor}
 use Rattle.deck.specs.Contract.{FindsNext, CountsLines, Surveys, CodesSize, Joins}
 use Rattle.tokens.specs.Contract.{TakesCut, WritesRow}
-use Rattle.drafts.specs.Contract.{WhetherDefining, WhetherAsking, WhetherNamed, WhetherClosing, CountsDraft, FindsHome}
+use Rattle.drafts.specs.Contract.{WhetherDefining, WhetherUse, WhetherAsking, WhetherNamed, WhetherClosing}
+use Rattle.drafts.specs.Contract.{CountsDraft, FindsHome}
 use Rattle.grammar.specs.Contract.{ParsesRow}
 use Rattle.order.specs.Contract.{Sorts}
 use Rattle.records.specs.Contract.{ReadsRecord, Decodes}
 use Rattle.sheet.specs.Contract.{PutsFault}
+use Rattle.blocks.specs.Grouped.{UnitArrays}
+use Rattle.blocks.specs.Contract.{Groups}
 use Rattle.model.specs.Plan.{Lent}
 use Rattle.model.specs.Contract.{Plans}
 use Rattle.program.specs.Contract.{CountsRecords, PutsProgram}
@@ -57,6 +60,7 @@ pub record Tokens : Type 0 where
 pub record Drafts : Type 0 where
   pub is-defining : (kind : ℕ) → Agree (WhetherDefining kind)
   pub is-asking : (kind : ℕ) → Agree (WhetherAsking kind)
+  pub is-use : (kind : ℕ) → Agree (WhetherUse kind)
   pub is-named : (kind : ℕ) → Agree (WhetherNamed kind)
   pub is-closing : (kind : ℕ) → Agree (WhetherClosing kind)
   pub records-of : (kind : ℕ) → Agree (CountsDraft kind)
@@ -80,16 +84,21 @@ pub record Records : Type 0 where
 pub record Sheets : Type 0 where
   pub put-fault : (list : List ℕ) (count line code : ℕ) → Agree (PutsFault list count line code)
 
--- a sheet planned
+-- statements grouped
+pub record Blocks : Type 0 where
+  pub group : (lines bounds kinds args faults : List ℕ) (a : UnitArrays)
+      → Agree4 (Groups lines bounds kinds args faults a)
+
+-- units planned
 pub record Model : Type 0 where
-  pub plan : (lines bounds kinds args used faults : List ℕ) (l : Lent)
-      → Agree5 (Plans lines bounds kinds args used faults l)
+  pub plan : (lines bounds ulines ubounds kinds args used faults : List ℕ) (l : Lent)
+      → Agree5 (Plans lines bounds ulines ubounds kinds args used faults l)
 
 -- a program counted and written
 pub record Program : Type 0 where
   pub count-records : (kinds : List ℕ) → Agree (CountsRecords kinds)
-  pub put-program : (places equated lines bounds kinds slots order out : List ℕ)
-      → Agree2 (PutsProgram places equated lines bounds kinds slots order out)
+  pub put-program : (places equated firsts lines bounds kinds slots order out : List ℕ)
+      → Agree2 (PutsProgram places equated firsts lines bounds kinds slots order out)
 
 -- a program run
 pub record Evaluator : Type 0 where

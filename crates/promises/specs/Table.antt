@@ -1,5 +1,5 @@
--- The texts of the paper's table that are marked P, with their verdicts and listings; and the texts that are computed
--- for the stack and for demand 2.
+-- The texts of the paper's table that are marked P, and texts with procedural blocks, with their verdicts and listings;
+-- and the texts that are computed for the stack and for demand 2.
 use Prim.Native.Nat.{ℕ}
 use Prim.Native.String.{String}
 use mathlib.Core.Path.{_≡_}
@@ -10,10 +10,13 @@ use Rattle.limits.specs.Limits.{faultRoom, programRoom}
 use Rattle.deck.specs.Faults.{Place, at-start, at-token, at-end}
 use Rattle.sheet.specs.Sheet.{Fault, said}
 use Rattle.sheet.specs.Reader.{sheetOf}
+use Rattle.blocks.specs.Units.{statedIn}
+use Rattle.blocks.specs.Inside.{blockFaults}
+use Rattle.model.specs.Definitions.{definitions}
 use Rattle.model.specs.Faults.{faults21, nameFaults}
-use Rattle.model.specs.Text.{textDefinitions}
-use Rattle.records.specs.declared.Instr.the-variants.{Constant, Initial, Value, Slot, Sub, Mul, Neg, Limit, Store}
-use Rattle.records.specs.declared.Instr.the-variants.{Deriv}
+use Rattle.model.specs.Text.{textUnits}
+use Rattle.records.specs.declared.Instr.the-variants.{Constant, Initial, Value, Slot, Add, Sub, Mul, Neg, Limit}
+use Rattle.records.specs.declared.Instr.the-variants.{Store, Deriv, StoreAgain}
 use Rattle.records.specs.Shape.{zero64, one64}
 use Rattle.records.specs.Record.{Rec, rec}
 use Rattle.translator.specs.Verdict.{Decision, faulty, translated, verdictOf, numberOf}
@@ -64,7 +67,38 @@ tankRecords =
     ∷ rec 4 (Deriv 3)
     ∷ []
 
--- the texts marked P, and the listing's second text
+-- a block with two outputs, of which one is set twice
+abbrev pub valve : String
+valve = "PARAM K=2\nPROCED A,B=VALVE(C)\nA=C*K\nB=A+1\nA=A-B\nENDPRO\nC=TIME\nX=INTGRL(0,A+B)\n"
+
+-- its 20 records: the constant, the initial, then C (line 7), the block (lines 3, 4 and 5) and X (line 8). The slots
+-- are
+-- 1 K, 2 A, 3 B, 4 C, 5 X
+abbrev valveRecords : List Rec
+valveRecords =
+    rec 1 (Constant 1 two64)
+    ∷ rec 8 (Initial 5 zero64)
+    ∷ rec 7 (Slot 0)
+    ∷ rec 7 (Store 4)
+    ∷ rec 3 (Slot 4)
+    ∷ rec 3 (Slot 1)
+    ∷ rec 3 Mul
+    ∷ rec 3 (Store 2)
+    ∷ rec 4 (Slot 2)
+    ∷ rec 4 (Value one64)
+    ∷ rec 4 Add
+    ∷ rec 4 (Store 3)
+    ∷ rec 5 (Slot 2)
+    ∷ rec 5 (Slot 3)
+    ∷ rec 5 Sub
+    ∷ rec 5 (StoreAgain 2)
+    ∷ rec 8 (Slot 2)
+    ∷ rec 8 (Slot 3)
+    ∷ rec 8 Add
+    ∷ rec 8 (Deriv 5)
+    ∷ []
+
+-- the texts marked P, the listing's second text, and those of procedural blocks
 unfoldable pub trials : List Trial
 trials =
     trial "" (translated [] []) "OK 0\n"
@@ -84,6 +118,33 @@ trials =
     (translated (rec 1 (Value three64) ∷ rec 1 (Value two64) ∷ rec 1 Mul ∷ rec 1 (Store 1) ∷ []) (1 ∷ [])) "OK 4\n1\n"
     ∷ trial "ABCDEFG=1" (faulty 5 (fault 1 15 (at-token 0) ∷ [])) "NO 5\n1 15\n"
     ∷ trial "ABCDEF=1" (translated (rec 1 (Value one64) ∷ rec 1 (Store 1) ∷ []) (1 ∷ [])) "OK 2\n1\n"
+    -- procedural blocks: sorted as one, what stands inside in its order
+    ∷ trial valve (translated valveRecords (7 ∷ 2 ∷ 8 ∷ [])) "OK 20\n7\n2\n8\n"
+    ∷ trial "D=B\nPROCED B=P(A)\nB=A\nENDPRO\nA=1"
+    (translated
+    (rec 5 (Value one64)
+    ∷ rec 5 (Store 3)
+    ∷ rec 3 (Slot 3)
+    ∷ rec 3 (Store 2)
+    ∷ rec 1 (Slot 2)
+    ∷ rec 1 (Store 1)
+    ∷ []) (5 ∷ 2 ∷ 1 ∷ [])) "OK 6\n5\n2\n1\n"
+    -- 25: an end alone; a header that nothing ends; a header inside a pair
+    ∷ trial "ENDPRO" (faulty 7 (fault 1 25 at-start ∷ [])) "NO 7\n1 25\n"
+    ∷ trial "PROCED A=P(B)\nPROCED C=Q(D)\nENDPRO" (faulty 7 (fault 1 25 at-start ∷ [])) "NO 7\n1 25\n"
+    ∷ trial "PROCED A=P(B)\nPROCED C=Q(D)\nENDPRO\nENDPRO" (faulty 7 (fault 2 25 at-start ∷ [])) "NO 7\n2 25\n"
+    -- 26: an output that nothing sets; an input assigned, and a name that is not allowed
+    ∷ trial "PROCED A=P(B)\nENDPRO" (faulty 7 (fault 1 26 at-start ∷ [])) "NO 7\n1 26\n"
+    ∷ trial "PROCED A=P(B)\nB=1\nA=X\nA=A+1\nENDPRO"
+    (faulty 7 (fault 2 26 at-start ∷ fault 3 26 at-start ∷ [])) "NO 7\n2 26\n3 26\n"
+    -- 21 at a later statement outside, and none where a name is set again inside
+    ∷ trial "PROCED A=P(B)\nA=B\nA=A+B\nENDPRO\nB=1\nA=2" (faulty 7 (fault 6 21 at-start ∷ [])) "NO 7\n6 21\n"
+    -- 22 at the header for its input, and outside for a name of the block's own
+    ∷ trial "PROCED A=P(B)\nC=B\nA=C\nENDPRO\nD=C" (faulty 7 (fault 1 22 at-start ∷ fault 5 22 at-start ∷ []))
+    "NO 7\n1 22\n5 22\n"
+    -- 24 at the header alone
+    ∷ trial "PROCED A=P(B)\nA=B\nENDPRO\nB=A" (faulty 7 (fault 1 24 at-start ∷ fault 4 24 at-start ∷ []))
+    "NO 7\n1 24\n4 24\n"
     ∷ []
 
 -- a text's verdict, with the room that the listing program lends, and its listing
@@ -111,9 +172,12 @@ deck =
 abbrev pub loop : List ℕ
 loop = bytes "A=B\nB=A\nD=A\n"
 
--- no fault 21, and none of 22 and 23
+-- no fault 25 or 26, no 21, and none of 22 and 23
 abbrev pub Plain : List ℕ → Type 0
-Plain text = (faults21 [] (said (sheetOf text)) ≡ []) × (nameFaults (textDefinitions text) (textDefinitions text) ≡ [])
+Plain text =
+    (blockFaults (said (sheetOf text)) ≡ [])
+    × (faults21 [] (statedIn (textUnits text)) ≡ [])
+    × (nameFaults (definitions (textUnits text)) (textUnits text) ≡ [])
 
 -- the number of a text's verdict, with the room that the listing program lends
 abbrev pub numberFor : List ℕ → ℕ

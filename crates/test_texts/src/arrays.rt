@@ -20,22 +20,22 @@ fn shorts(t0: Tally, s: &[u16], a: usize, b: usize, c: usize) -> Tally {
     tally::number(t, short_at(s, 2), c)
 }
 
-// The plan has this number, and these counts of faults, definitions and equations.
+// The plan has this number, and these counts of faults, definitions and units of the order.
 fn planned(
     t0: Tally,
     p: Plan,
     number: usize,
     faults: usize,
     definitions: usize,
-    equations: usize,
+    units: usize,
 ) -> Tally {
     let mut t = tally::number(t0, p.number as usize, number);
     t = tally::number(t, p.count, faults);
     t = tally::number(t, p.definitions, definitions);
-    tally::number(t, p.equations, equations)
+    tally::number(t, p.units, units)
 }
 
-// A constant amid an equation is a definition like any other.
+// A constant amid an assignment is a definition like any other.
 fn amid(t0: Tally) -> Tally {
     let lines = [1u16; 1];
     let bounds = [0u16, 3];
@@ -47,6 +47,8 @@ fn amid(t0: Tally) -> Tally {
     let mut equated = [170u16; STATEMENTS];
     let mut order = [170u16; STATEMENTS];
     let p = model::plan(
+        &lines,
+        &bounds,
         &lines,
         &bounds,
         &kinds,
@@ -78,6 +80,8 @@ fn amid_twice(t0: Tally) -> Tally {
     let p = model::plan(
         &lines,
         &bounds,
+        &lines,
+        &bounds,
         &kinds,
         &mut args,
         &mut used,
@@ -90,7 +94,7 @@ fn amid_twice(t0: Tally) -> Tally {
     tally::right(t, check::same(&faults, b"\x01\x00\x15\x00"))
 }
 
-// A name in the expression of a statement that is no equation is resolved, and is no use.
+// A name in the expression of a statement that is no unit of the order is resolved, and is no use.
 fn unused(t0: Tally) -> Tally {
     let lines = [1u16, 2];
     let bounds = [0u16, 1, 3];
@@ -102,6 +106,8 @@ fn unused(t0: Tally) -> Tally {
     let mut equated = [170u16; STATEMENTS];
     let mut order = [170u16; STATEMENTS];
     let p = model::plan(
+        &lines,
+        &bounds,
         &lines,
         &bounds,
         &kinds,
@@ -124,6 +130,7 @@ fn unused(t0: Tally) -> Tally {
 fn little_room(t0: Tally) -> Tally {
     let places = [0u16, 2];
     let equated = [0u16; 1];
+    let firsts = [0u16, 1];
     let lines = [1u16; 1];
     let bounds = [0u16, 4];
     let kinds = [1u8, 0, 1, 0];
@@ -133,6 +140,7 @@ fn little_room(t0: Tally) -> Tally {
     let n = program::put_program(
         &places,
         &equated[..0],
+        &firsts,
         &lines,
         &bounds,
         &kinds,

@@ -1,7 +1,8 @@
-// Translates the texts that no table proves: the other texts of the paper's table, the slips to shut out, and texts at
-// each limit. Verdict, faults, records and untouched bytes are compared with what the paper says. Then arrays that no
-// text gives.
+// Translates the texts that no table proves: the other texts of the paper's table, the slips to shut out, texts with
+// procedural blocks, and texts at each limit. Verdict, faults, records and untouched bytes are compared with what the
+// paper says. Then arrays that no text gives.
 mod arrays;
+mod block_texts;
 mod limits_met;
 mod slips;
 mod table;
@@ -12,6 +13,7 @@ fn main() {
     let mut t = tally::none();
     t = table::all(t);
     t = slips::all(t);
+    t = block_texts::all(t);
     t = limits_met::all(t);
     t = arrays::all(t);
     tally::finish(t);

@@ -11,8 +11,8 @@ use Rattle.laws.proofs.Tests.{cond-ind}
 use Rattle.limits.specs.Limits.{nameBytes}
 use Rattle.bits.specs.Low.{lowWord}
 use Rattle.tokens.specs.declared.step.Held.{Held}
-use Rattle.tokens.specs.Symbol.{Role, CONSTANTS, INTGRL, TIME, INSW, LIMIT, COMPAR, Reserved, reserved}
-use Rattle.tokens.specs.Symbol.{lookUp, Symbol, name, word, keyOf, symbolNamed}
+use Rattle.tokens.specs.Symbol.{Role, CONSTANTS, INTGRL, TIME, INSW, LIMIT, COMPAR, PROCED, ENDPRO, Reserved}
+use Rattle.tokens.specs.Symbol.{reserved, lookUp, Symbol, name, word, keyOf, symbolNamed}
 use Rattle.tokens.specs.Kinds.{nameKind, wordKind}
 use Rattle.tokens.specs.Held.{symbolKind, argOf, threeOf, kindNamed, symbolOf}
 use Rattle.tokens.specs.Steps.{heldAs}
@@ -55,6 +55,8 @@ symbol-word TIME a = refl
 symbol-word INSW a = refl
 symbol-word LIMIT a = refl
 symbol-word COMPAR a = refl
+symbol-word PROCED a = refl
+symbol-word ENDPRO a = refl
 
 -- and not a name's
 no-name : (w : Role) → wordKind w ≡ nameKind → ⊥

@@ -11,7 +11,7 @@ use Rattle.bits.specs.Low.{lowWord}
 -- what a reserved word is to the grammar, where words of one role are the same. CONSTANTS is that of the words before
 -- constants; each of the others has the name of a word
 pub data Role : Type 0 where
-  CONSTANTS INTGRL TIME INSW LIMIT COMPAR : Role
+  CONSTANTS INTGRL TIME INSW LIMIT COMPAR PROCED ENDPRO : Role
 
 -- a reserved word: its bytes and its role
 pub record Reserved : Type 0 where
@@ -32,6 +32,8 @@ reserved =
     ∷ spelled "INSW" INSW
     ∷ spelled "LIMIT" LIMIT
     ∷ spelled "COMPAR" COMPAR
+    ∷ spelled "PROCED" PROCED
+    ∷ spelled "ENDPRO" ENDPRO
     ∷ []
 
 -- f of the role of the word that bytes spell, compared byte by byte with each of a list of words; another where they

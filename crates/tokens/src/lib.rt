@@ -90,6 +90,10 @@ pub const LIMIT: u8 = 7;
 
 pub const COMPAR: u8 = 8;
 
+pub const PROCED: u8 = 9;
+
+pub const ENDPRO: u8 = 10;
+
 // How a row ends: no room for it; the count of its tokens; or the first bad token's code and place, behind so many good
 // ones.
 pub enum RowEnd {

@@ -34,6 +34,8 @@ pub fn kind_of(name: &[u8]) -> u8
     ensures { λ r. ⌜ r ≡ kindNamed (now (name .entry)) ⌝ }
 {
     let mut k = crate::NAME;
+    k = kind_or(name, b"ENDPRO", crate::ENDPRO, k);
+    k = kind_or(name, b"PROCED", crate::PROCED, k);
     k = kind_or(name, b"COMPAR", crate::COMPAR, k);
     k = kind_or(name, b"LIMIT", crate::LIMIT, k);
     k = kind_or(name, b"INSW", crate::INSW, k);

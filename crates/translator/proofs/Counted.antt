@@ -1,8 +1,8 @@
 -- How large a count is: at most one fault for each statement, so that the list holds them all, no more records than
--- there may be, and no more ordered statements.
+-- there may be, and no more ordered units.
 use Prim.Native.Nat.{ℕ, zero, suc, _+_, _/_, _≤_}
 use mathlib.Core.Path.{_≡_, refl, ap}
-use mathlib.Core.Bool.{Bool, true, false, _||_}
+use mathlib.Core.Bool.{Bool, true, false, not, _||_}
 use mathlib.Core.List.{List, [], _∷_, _++_, map}
 use native.Mathlib.Omega.{arith}
 use borrow.Author.Tests.{ltb-false}
@@ -14,19 +14,28 @@ use Rattle.laws.specs.Lists.{concat-map, numbers}
 use Rattle.laws.proofs.Bools.{or-false}
 use Rattle.laws.proofs.Tests.{cond-ind}
 use Rattle.deck.specs.Lines.{linesOf}
+use Rattle.drafts.specs.Tree.{Says, constants as constantsSaid, assignment as assignmentSaid, state as stateSaid}
+use Rattle.drafts.specs.Tree.{header, ending}
+use Rattle.drafts.specs.Kinds.{writes}
 use Rattle.sheet.specs.Sheet.{Told, says, faulty, Sheet, Numbered, Fault, said, saidBy, faultBy, statementFaults}
 use Rattle.sheet.specs.Reader.{sheetOf}
 use Rattle.order.specs.Greedy.{order}
 use Rattle.order.specs.Order.{unsortable}
 use Rattle.order.proofs.Sorting.{place-length}
-use Rattle.model.specs.Definitions.{What, constant, assigned, integral, Def, keys, definedBy, definitions, equationOf}
-use Rattle.model.specs.Definitions.{equationAt, equationCount}
-use Rattle.model.specs.Faults.{faultIf, again, faults21, within, namedBy, initialOf, constantKeys, nameFault}
-use Rattle.model.specs.Faults.{nameFaultOf, nameFaults}
-use Rattle.model.specs.Faults.{usesIn, fault24, faults24, orElse, modelFaults, orderOf}
+use Rattle.blocks.specs.Units.{Single, constants, assignment, state, UnitBody, single, block, TextUnit, Stated}
+use Rattle.blocks.specs.Units.{statedBy, statedIn, unitOfOne, orderUnitOf}
+use Rattle.blocks.specs.Tests.{faultIf, orElse, again, within}
+use Rattle.blocks.specs.Pairing.{Pair, bracketOf, unpaired, faults25From, pairs, brackets, faults25}
+use Rattle.blocks.specs.Inside.{headWrong, innerRight, Spot, outer, enclosed, setInside, innerFault, fault26, spotNext}
+use Rattle.blocks.specs.Inside.{freeKnown, faults26From, faults26, blockFaults}
+use Rattle.blocks.specs.Members.{settings, unitsOf}
+use Rattle.blocks.proofs.StatedFew.{stated-few}
+use Rattle.model.specs.Definitions.{Def, keys, definedBy, definitions, unitAt, unitCount}
+use Rattle.model.specs.Faults.{faults21, namedBy, initialOf, outsideKeys, constantKeys, nameFault, nameFaultOf}
+use Rattle.model.specs.Faults.{nameFaults, usesIn, fault24, faults24, modelFaults, orderOf}
+use Rattle.model.specs.Text.{modelFaultsIn}
 use Rattle.records.specs.Record.{Rec}
 use Rattle.program.specs.Program.{program}
-use Rattle.drafts.specs.Kinds.{writes}
 use Rattle.program.specs.Written.{recordCount}
 use Rattle.translator.specs.Verdict.{Decision, refused, ifFaults, fitted, modelled, decided, verdictOf, countOf}
 use Rattle.translator.specs.Verdict.{faulty as flawed, translated}
@@ -44,74 +53,136 @@ one-if : (b : Bool) (l c : ℕ) → length (faultIf b l c) ≤ 1
 one-if true l c = omega arith
 one-if false l c = omega arith
 
-doubles-few : (seen : List ℕ) (ss : List Numbered) → length (faults21 seen ss) ≤ length ss
+doubles-few : (seen : List ℕ) (ts : List Stated) → length (faults21 seen ts) ≤ length ts
 unfolding faults21
 doubles-few seen [] = omega arith
-doubles-few seen (s ∷ ss) =
-    let ks = keys (definedBy (s .line) (s .says)) in
-    let more = faults21 (seen ++ ks) ss in
+doubles-few seen (t ∷ ts) =
+    let ks = keys (definedBy (t .line) (t .stood)) in
+    let more = faults21 (seen ++ ks) ts in
     omega (
       arith,
-      one-if (again seen ks) (s .line) 21,
-      doubles-few (seen ++ ks) ss,
-      length-append (faultIf (again seen ks) (s .line) 21) more,
+      one-if (again seen ks) (t .line) 21,
+      doubles-few (seen ++ ks) ts,
+      length-append (faultIf (again seen ks) (t .line) 21) more,
     )
 
-names-few : (ds es : List Def) → length (nameFaults ds es) ≤ length es
-names-few ds es =
+names-few : (ds : List Def) (us : List TextUnit) → length (nameFaults ds us) ≤ length us
+names-few ds us =
     concat-few (nameFaultOf ds)
-    (λ d. one (within (namedBy (d .what)) (keys ds)) (within (initialOf (d .what)) (constantKeys ds)) (d .line)) es
+    (λ u. one (within (namedBy (u .body)) (outsideKeys ds)) (within (initialOf (u .body)) (constantKeys ds)) (u .line))
+    us
   where
     one : (a b : Bool) (l : ℕ) → length (nameFault a b l) ≤ 1
     one false b l = omega arith
     one true false l = omega arith
     one true true l = omega arith
 
--- no more equations than definitions
-pub equations-few : (ds : List Def) → equationCount ds ≤ length ds
-equations-few ds = concat-few _ (λ d. one (d .line) (d .key) (d .what)) ds
+-- constants take no part in the order, every other unit once
+units-few : (us : List TextUnit) → unitCount us ≤ length us
+units-few us = concat-few (λ (u : TextUnit). orderUnitOf (u .line) (u .body)) (λ u. one (u .line) (u .body)) us
   where
-    one : (l k : ℕ) (w : What) → length (equationOf l k w) ≤ 1
-    one l k (constant x) = omega arith
-    one l k (assigned e) = omega arith
-    one l k (integral i e) = omega arith
+    alone : (l : ℕ) (x : Single) → length (unitOfOne l x) ≤ 1
+    alone l (constants cs) = omega arith
+    alone l (assignment k e) = omega arith
+    alone l (state k i e) = omega arith
 
--- .. so no more are ordered
-order-few : (ds : List Def) → length (map (λ (i : ℕ). equationAt ds i .line) (orderOf ds)) ≤ length ds
-unfolding order
-order-few ds =
-    let n = equationCount ds in
+    one : (l : ℕ) (x : UnitBody) → length (orderUnitOf l x) ≤ 1
+    one l (single x) = alone l x
+    one l (block os is ns z) = omega arith
+
+-- each unit has a statement
+pub stated-many : (us : List TextUnit) → length us ≤ length (statedIn us)
+unfolding concat-map
+stated-many [] = omega arith
+stated-many (u ∷ us) =
     omega (
       arith,
-      equations-few ds,
-      place-length n (usesIn ds) n [],
-      length-map (orderOf ds) (λ (i : ℕ). equationAt ds i .line),
+      one (u .line) (u .body),
+      stated-many us,
+      length-append (statedBy (u .line) (u .body)) (statedIn us),
     )
+  where
+    one : (l : ℕ) (x : UnitBody) → 1 ≤ length (statedBy l x)
+    one l (single x) = omega arith
+    one l (block os is ns z) = omega arith
+
+-- the order names each at most once
+order-few : (us : List TextUnit) → length (map (λ (i : ℕ). unitAt us i .line) (orderOf us)) ≤ unitCount us
+unfolding order
+order-few us =
+    let n = unitCount us in
+    omega (arith, place-length n (usesIn us) n [], length-map (orderOf us) (λ (i : ℕ). unitAt us i .line))
 
 numbers-many : (k i : ℕ) → length (numbers k i) ≡ k
 unfolding numbers
 numbers-many zero i = refl
 numbers-many (suc k) i = ap suc (numbers-many k (suc i))
 
-loops-few : (ds : List Def) → length (faults24 ds) ≤ length ds
-loops-few ds =
-    let n = equationCount ds in
-    let each =
-    concat-few (fault24 ds) (λ i. one-if (unsortable (equationCount ds) (usesIn ds) i) (equationAt ds i .line) 24)
-    (numbers n 0) in
-    omega (arith, each, numbers-many n 0, equations-few ds)
+loops-few : (us : List TextUnit) → length (faults24 us) ≤ unitCount us
+loops-few us =
+    let n = unitCount us in
+    let one : (i : ℕ) → length (fault24 us i) ≤ 1 = λ i. one-if (unsortable n (usesIn us) i) (unitAt us i .line) 24 in
+    let each = concat-few (fault24 us) one (numbers n 0) in
+    omega (arith, each, numbers-many n 0)
 
--- of m statements with at most m definitions
-model-few : (ss : List Numbered) (m : ℕ) → length ss ≤ m → length (definitions ss) ≤ m → length (modelFaults ss) ≤ m
+-- the one or the other
+either-few : (m : ℕ) (f g : List Fault) → length f ≤ m → length g ≤ m → length (orElse f g) ≤ m
+either-few m [] g a b = b
+either-few m (x ∷ f) g a b = a
+
+-- of units with m statements
+model-few : (us : List TextUnit) (m : ℕ) → length (statedIn us) ≤ m → length (modelFaults us) ≤ m
 unfolding modelFaults
-model-few ss m h k =
-    let ds = definitions ss in
-    either (faults21 [] ss) _ (omega (arith, doubles-few [] ss))
-    (either (nameFaults ds ds) (faults24 ds) (omega (arith, names-few ds ds)) (omega (arith, loops-few ds)))
-  where
-    either : (f g : List Fault) → length f ≤ m → length g ≤ m → length (orElse f g) ≤ m
-    either [] g a b = b
-    either (x ∷ f) g a b = a
+model-few us m h =
+    either-few m (faults21 [] (statedIn us)) _ (omega (arith, doubles-few [] (statedIn us)))
+    (either-few m (nameFaults (definitions us) us) (faults24 us)
+    (omega (arith, names-few (definitions us) us, stated-many us))
+    (omega (arith, loops-few us, units-few us, stated-many us)))
+
+-- ---- the faults of blocks
+unpaired-few : (ps : List Pair) (i : ℕ) (ss : List Numbered) → length (faults25From ps i ss) ≤ length ss
+unfolding faults25From
+unpaired-few ps i [] = omega arith
+unpaired-few ps i (s ∷ ss) =
+    let wrong = unpaired ps i (bracketOf (s .says)) in
+    omega (
+      arith,
+      one-if wrong (s .line) 25,
+      unpaired-few ps (suc i) ss,
+      length-append (faultIf wrong (s .line) 25) (faults25From ps (suc i) ss),
+    )
+
+-- of one statement at its spot
+inner-one : (free : List ℕ) (p : Spot) (s : Numbered) → length (innerFault free p s) ≤ 1
+inner-one free outer s = omega arith
+inner-one free (enclosed is above) s = one-if (not (innerRight free is above (s .says))) (s .line) 26
+
+spot-one : (free ks : List ℕ) (p : Spot) (s : Numbered) (x : Says) → length (fault26 free ks p s x) ≤ 1
+spot-one free ks p s (constantsSaid cs) = inner-one free p s
+spot-one free ks p s (assignmentSaid k e) = inner-one free p s
+spot-one free ks p s (stateSaid k i e) = inner-one free p s
+spot-one free ks p s (header os is) = one-if (headWrong os ks) (s .line) 26
+spot-one free ks p s ending = omega arith
+
+inside-few : (free : List ℕ) (p : Spot) (ss : List Numbered) → length (faults26From free p ss) ≤ length ss
+unfolding faults26From
+inside-few free p [] = omega arith
+inside-few free p (s ∷ ss) =
+    let own = fault26 free (setInside ss) p s (s .says) in
+    let more = faults26From free (spotNext p (s .says)) ss in
+    omega (
+      arith,
+      spot-one free (setInside ss) p s (s .says),
+      inside-few free (spotNext p (s .says)) ss,
+      length-append own more,
+    )
+
+-- of all statements
+blocks-few : (ss : List Numbered) → length (blockFaults ss) ≤ length ss
+unfolding blockFaults
+blocks-few ss =
+    either-few (length ss) (faults25 ss) (faults26 ss) (unpaired-few (pairs (brackets ss)) 0 ss)
+    (inside-few (freeKnown ss) outer ss)
 
 -- ---- the statements' faults, and what is said
 
@@ -132,7 +203,7 @@ faults-few sheet = omega (arith, counts sheet)
 
 -- ---- the verdict
 
--- faults are at most one for each statement; records, and ordered statements, as many as there may be
+-- faults are at most one for each statement; records, and ordered units, as many as there may be
 abbrev Few : Decision → Type 0
 Few (refused n) = Unit {0}
 Few (flawed n fs) = length fs ≤ mostStatements
@@ -154,12 +225,13 @@ few-fitted room rs ls h =
 
 few-modelled : (room : ℕ) (ss : List Numbered) → length ss ≤ mostStatements → Few (modelled room ss)
 few-modelled room ss h =
-    let ds = definitions ss in
-    cond-ind Few (ltb mostDefinitions (length ds)) (refused 6) _ (λ _. tt)
-    (λ e.
-    let few : length ds ≤ mostDefinitions = ltb-false mostDefinitions (length ds) e in
-    few-if 7 (modelFaults ss) _ (model-few ss mostStatements h (omega (arith, few)))
-    (few-fitted room (program ds (orderOf ds)) _ (omega (arith, few, order-few ds))))
+    let us = unitsOf ss in
+    let few : length (statedIn us) ≤ mostStatements = omega (arith, stated-few ss) in
+    cond-ind Few (ltb mostDefinitions (length (settings ss))) (refused 6) _ (λ _. tt)
+    (λ _. few-if 7 (modelFaultsIn ss) _
+    (either-few mostStatements (blockFaults ss) (modelFaults us) (omega (arith, blocks-few ss))
+    (model-few us mostStatements few))
+    (few-fitted room (program us (orderOf us)) _ (omega (arith, order-few us, units-few us, stated-many us))))
 
 few-decided : (room : ℕ) (sheet : Sheet) → Few (decided room sheet)
 unfolding decided

@@ -14,9 +14,12 @@ use Rattle.limits.specs.Limits.{recordBytes}
 use Rattle.deck.specs.Lines.{linesOf}
 use Rattle.sheet.specs.Sheet.{Numbered, Fault, said}
 use Rattle.sheet.specs.Reader.{sheetOf, faultsOf, Faulted}
+use Rattle.blocks.specs.Units.{statedIn}
+use Rattle.blocks.specs.Inside.{blockFaults}
+use Rattle.blocks.specs.Members.{settings, unitsOf}
 use Rattle.model.specs.Definitions.{definitions}
 use Rattle.model.specs.Faults.{faults21, nameFaults, faults24, modelFaults, GoodOrder, orderOf}
-use Rattle.model.specs.Text.{textDefinitions, lineAt}
+use Rattle.model.specs.Text.{textUnits, lineAt, modelFaultsIn}
 use Rattle.model.specs.Orders.{NoOrder}
 use Rattle.model.proofs.NoModelFault.{order-good}
 use Rattle.model.proofs.Orders.{no-loops}
@@ -66,10 +69,11 @@ module _ (text : List ℕ) (f p : ℕ) (room : faultRoom ≤ f) (ok : Admitted (
 -- the model gives no 5
 model-number : (room : ℕ) (ss : List Numbered) → numberOf (modelled room ss) ≡ 5 → ⊥
 model-number room ss =
-    let rs = program (definitions ss) (orderOf (definitions ss)) in
+    let us = unitsOf ss in
+    let rs = program us (orderOf us) in
     let Other : Decision → Type 0 = λ (v : Decision). numberOf v ≡ 5 → ⊥ in
-    cond-ind Other (ltb mostDefinitions (length (definitions ss))) (refused 6) _ (λ _ e. omega arith)
-    (λ _. given (modelFaults ss) _
+    cond-ind Other (ltb mostDefinitions (length (settings ss))) (refused 6) _ (λ _ e. omega arith)
+    (λ _. given (modelFaultsIn ss) _
     (cond-ind Other (ltb mostRecords (length rs) || ltb (room / recordBytes) (length rs)) (refused 8) _
     (λ _ e. omega arith) (λ _ e. omega arith)))
   where
@@ -111,17 +115,16 @@ module _ (P : Decision → Type 0) (refuses : (n : ℕ) → 0 < n → P (refused
   -- what holds of each of them holds of every text's verdict
   pub verdict-ind : (text : List ℕ) (f p : ℕ)
       → P
-      (translated (program (textDefinitions text) (orderOf (textDefinitions text)))
-      (map (lineAt (textDefinitions text)) (orderOf (textDefinitions text))))
+      (translated (program (textUnits text) (orderOf (textUnits text)))
+      (map (lineAt (textUnits text)) (orderOf (textUnits text))))
       → P (verdictOf text f p)
   verdict-ind text f p h =
       let ss = said (sheetOf text) in
-      let ds = textDefinitions text in
-      let rs = program ds (orderOf ds) in
+      let rs = program (unitsOf ss) (orderOf (unitsOf ss)) in
       sizes-ind text f p
       (faults-ind 5 (faultsOf text) _ (omega arith)
-      (test-ind (ltb mostDefinitions (length ds)) 6 _ (omega arith)
-      (faults-ind 7 (modelFaults ss) _ (omega arith)
+      (test-ind (ltb mostDefinitions (length (settings ss))) 6 _ (omega arith)
+      (faults-ind 7 (modelFaultsIn ss) _ (omega arith)
       (test-ind (ltb mostRecords (length rs) || ltb (p / recordBytes) (length rs)) 8 _ (omega arith) h))))
 
   -- .. and of a text with a statement fault, which is not translated
@@ -141,19 +144,19 @@ no-faults-given n (x ∷ fs) v h = absurd (h refl)
 
 module _ (text : List ℕ) (f p : ℕ) (w : Unrefused text f p) where
   -- not 5 and not 6: so it is 7 where a model fault stands
-  by-model : verdictOf text f p ≡ ifFaults 7 (modelFaults (said (sheetOf text))) (programmed p (textDefinitions text))
+  by-model : verdictOf text f p ≡ ifFaults 7 (modelFaultsIn (said (sheetOf text))) (programmed p (textUnits text))
   by-model =
       let a = by-faults text f p (w .room) (w .size) in
       let next = modelled p (said (sheetOf text)) in
       let b = a ∙ no-faults-given 5 (faultsOf text) next (λ e. w .not-five (ap numberOf a ∙ e)) in
-      let c =
-      not-given 6 (ltb mostDefinitions (length (textDefinitions text))) _ (λ e. w .not-six (ap numberOf b ∙ e)) in
+      let over = ltb mostDefinitions (length (settings (said (sheetOf text)))) in
+      let c = not-given 6 over _ (λ e. w .not-six (ap numberOf b ∙ e)) in
       rw c at b
 
-  -- no 21, no 22 and no 23: so it is 7 where a 24 stands, and else the program's
-  by-loops : verdictOf text f p ≡ ifFaults 7 (faults24 (textDefinitions text)) (programmed p (textDefinitions text))
+  -- no 25, no 26, no 21, no 22 and no 23: so it is 7 where a 24 stands, and else the program's
+  by-loops : verdictOf text f p ≡ ifFaults 7 (faults24 (textUnits text)) (programmed p (textUnits text))
   unfolding modelFaults
-  by-loops = by-model ∙ rw (w .no-double, w .no-nameless)
+  by-loops = by-model ∙ rw (w .no-block, w .no-double, w .no-nameless)
 
 -- a program's verdict is 0 or 8
 pub fitted-number : (room : ℕ) (rs : List Rec) (ls : List ℕ) → numberOf (fitted room rs ls) ≡ 7 → ⊥
@@ -164,12 +167,13 @@ fitted-number room rs ls =
 
 -- ---- with an order or without
 
--- no earlier refusal where the number is 0 or 7 and there is no fault 21, 22 or 23
+-- no earlier refusal where the number is 0 or 7 and there is no fault 25, 26, 21, 22 or 23
 pub unrefused : (text : List ℕ) (f p : ℕ) → faultRoom ≤ f
     → (numberOf (verdictOf text f p) ≡ 0) ⊎ (numberOf (verdictOf text f p) ≡ 7)
-    → faults21 [] (said (sheetOf text)) ≡ [] → nameFaults (textDefinitions text) (textDefinitions text) ≡ []
+    → blockFaults (said (sheetOf text)) ≡ [] → faults21 [] (statedIn (textUnits text)) ≡ []
+    → nameFaults (definitions (textUnits text)) (textUnits text) ≡ []
     → Unrefused text f p
-unrefused text f p room c doubles nameless =
+unrefused text f p room c unblocked doubles nameless =
     let other : (k : ℕ) → 0 < k → k < 7 → numberOf (verdictOf text f p) ≡ k → ⊥ =
     λ k a b h. ⊎-elim (λ z. omega arith) (λ z. omega arith) c in
     record {
@@ -182,6 +186,7 @@ unrefused text f p room c doubles nameless =
           };
       not-five = other 5 (omega arith) (omega arith);
       not-six = other 6 (omega arith) (omega arith);
+      no-block = unblocked;
       no-double = doubles;
       no-nameless = nameless;
     }
@@ -193,17 +198,17 @@ some-or-none (x ∷ fs) = inl (λ n v. refl)
 
 module _ (text : List ℕ) (f p : ℕ) (w : Unrefused text f p) where
   -- without an order 24 stands
-  pub unordered : NoOrder (textDefinitions text) → verdictOf text f p ≡ faulty 7 (faults24 (textDefinitions text))
+  pub unordered : NoOrder (textUnits text) → verdictOf text f p ≡ faulty 7 (faults24 (textUnits text))
   unordered none =
-      let ds = textDefinitions text in
+      let us = textUnits text in
       by-loops text f p w
-      ∙ ⊎-elim (λ g. g 7 (programmed p ds)) (λ e. absurd (none (orderOf ds) (order-good ds e)))
-      (some-or-none (faults24 ds))
+      ∙ ⊎-elim (λ g. g 7 (programmed p us)) (λ e. absurd (none (orderOf us) (order-good us e)))
+      (some-or-none (faults24 us))
 
   -- with one the program is written in the first
-  pub in-order : (r : List ℕ) → GoodOrder (textDefinitions text) r
-      → verdictOf text f p ≡ programmed p (textDefinitions text)
-  in-order r g = by-loops text f p w ∙ rw (no-loops (textDefinitions text) r g)
+  pub in-order : (r : List ℕ) → GoodOrder (textUnits text) r
+      → verdictOf text f p ≡ programmed p (textUnits text)
+  in-order r g = by-loops text f p w ∙ rw (no-loops (textUnits text) r g)
 
 -- ---- the number of a verdict is that of the first test that holds
 
@@ -222,10 +227,10 @@ some (x ∷ fs) = true
 -- the tests, in their order
 abbrev pub tests : List ℕ → ℕ → ℕ → List Bool
 tests text f p =
-    let rs = program (textDefinitions text) (orderOf (textDefinitions text)) in
+    let rs = program (textUnits text) (orderOf (textUnits text)) in
     ltb f faultRoom ∷ ltb textBytes (length text) ∷ ltb textLines (length (linesOf text))
     ∷ ltb mostStatements (length (sheetOf text)) ∷ some (faultsOf text)
-    ∷ ltb mostDefinitions (length (textDefinitions text)) ∷ some (modelFaults (said (sheetOf text)))
+    ∷ ltb mostDefinitions (length (settings (said (sheetOf text)))) ∷ some (modelFaultsIn (said (sheetOf text)))
     ∷ (ltb mostRecords (length rs) || ltb (p / recordBytes) (length rs)) ∷ []
 
 -- a test and what follows it
@@ -256,8 +261,8 @@ number-first text f p =
     (number-test (ltb textLines (length (linesOf text))) 3 _ _
     (number-test (ltb mostStatements (length (sheetOf text))) 4 _ _
     (number-faults (faultsOf text) 5 _ _
-    (number-test (ltb mostDefinitions (length (textDefinitions text))) 6 _ _
-    (number-faults (modelFaults (said (sheetOf text))) 7 _ _ (number-test _ 8 _ [] (no-test 9))))))))
+    (number-test (ltb mostDefinitions (length (settings (said (sheetOf text))))) 6 _ _
+    (number-faults (modelFaultsIn (said (sheetOf text))) 7 _ _ (number-test _ 8 _ [] (no-test 9))))))))
 
 -- none holds, or the one at place i does and none before it
 abbrev pub NoneOrFirst : ℕ → List Bool → Type 0

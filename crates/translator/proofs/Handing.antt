@@ -1,4 +1,4 @@
--- The order handed out: how its loop writes it, and that it is that of the definitions.
+-- The order handed out: how its loop writes it, and that it is that of the units.
 use Prim.Native.Nat.{ℕ, _+_, _≤_, _<_}
 use mathlib.Core.Path.{_≡_, refl, sym, _∙_}
 use mathlib.Core.List.{List, [], map}
@@ -7,15 +7,15 @@ use lib.ListN.{length, getD, set, drop, length-set, drop-of-length-le}
 use lib.Seq.{sets, drop-cons}
 use Rattle.laws.proofs.Concats.{map-same-in}
 use Rattle.laws.proofs.Sets.{sets-out}
-use Rattle.sheet.specs.Sheet.{Numbered}
-use Rattle.sheet.specs.Layout.{Laid}
+use Rattle.blocks.specs.Units.{TextUnit, OrderUnit}
+use Rattle.blocks.specs.Layout.{UnitsLaid}
 use Rattle.order.proofs.Sorting.{perm-below}
-use Rattle.model.specs.Definitions.{Equation, definitions, equationAt, equationCount}
+use Rattle.model.specs.Definitions.{unitAt, unitCount}
 use Rattle.model.specs.Faults.{usesIn, modelFaults, orderOf}
-use Rattle.model.specs.Places.{equatedIn}
+use Rattle.model.specs.Places.{orderedIn}
 use Rattle.model.proofs.NoModelFault.{no-faults, order-good}
-use Rattle.model.proofs.SheetWalk.{sheetLines}
-use Rattle.model.proofs.SheetEquations.{equated-lines, equated-at, equated-length}
+use Rattle.model.proofs.SheetWalk.{unitLines}
+use Rattle.model.proofs.SheetOrdered.{ordered-lines, ordered-at, ordered-length}
 use Rattle.translator.specs.Working.{orderedLines}
 
 -- ---- the loop: the lines before place i are written, and those from it on are left
@@ -46,15 +46,14 @@ module _ {equated lines order : List ℕ} {i : ℕ} {buf₀ buf : List ℕ} (h :
 
 -- ---- what it means
 
--- THE ORDER: of arrays that hold the statements ss, which have no model fault
-pub order-handed : (ss : List Numbered) (kinds args lines bounds : List ℕ) → Laid ss kinds args lines bounds
-    → modelFaults ss ≡ []
-    → orderedLines (equatedIn (length lines) bounds kinds) lines (orderOf (definitions ss))
-    ≡ map (λ (i : ℕ). equationAt (definitions ss) i .line) (orderOf (definitions ss))
-order-handed ss kinds args lines bounds laid clean =
-    let ds = definitions ss in
-    let below = perm-below (equationCount ds) (usesIn ds) (orderOf ds) (order-good ds (no-faults ss clean .2) .perm) in
-    rw (laid .kinds-held, laid .lines-held, laid .bounds-held)
-    (map-same-in _ _ (orderOf ds)
-    (λ r h. equated-at ss (λ j. getD (sheetLines ss) j 0) (λ (e : Equation). e .line) (equated-lines ss) r
-    (rw (equated-length ss) (below r h))))
+-- THE ORDER: of arrays that hold the units us, which have no model fault
+pub order-handed : (us : List TextUnit) (kinds args lines bounds ulines ubounds firsts : List ℕ)
+    → UnitsLaid us kinds args lines bounds ulines ubounds firsts → modelFaults us ≡ []
+    → orderedLines (orderedIn (length ulines) ubounds kinds) ulines (orderOf us)
+    ≡ map (λ (i : ℕ). unitAt us i .line) (orderOf us)
+order-handed us kinds args lines bounds ulines ubounds firsts laid clean =
+    let below = perm-below (unitCount us) (usesIn us) (orderOf us) (order-good us (no-faults us clean .2) .perm) in
+    rw (laid .kinds-held, laid .unit-lines-held, laid .unit-bounds-held)
+    (map-same-in _ _ (orderOf us)
+    (λ r h. ordered-at us (λ j. getD (unitLines us) j 0) (λ (o : OrderUnit). o .line) (ordered-lines us) r
+    (rw (ordered-length us) (below r h))))

@@ -5,6 +5,7 @@ mod Parsing
 mod Turns
 mod Handing
 mod Concluding
+mod Grouping
 pub mod Deciding
 pub mod Counted
 mod Writing

@@ -21,7 +21,8 @@ use Rattle.translator.specs.declared.Verdict.the-variants.{Faulty}
 use Rattle.translator.specs.Contract.{ordered, orderedReply, orderedReplyOf}
 use Rattle.translator.specs.Verdict.{ifFaults, modelled, decided}
 use Rattle.translator.specs.Working.{ReadThrough, ArraysReady, Concludes, Taken, Room, Decides}
-use Rattle.model.proofs.LaidFits.{bounds-many, laid-fits}
+use Rattle.blocks.proofs.TextHeaded.{text-headed}
+use Rattle.blocks.proofs.SheetFits.{bounds-many, laid-groups}
 use Rattle.translator.proofs.Counted.{counts}
 
 module _ {text list₀ kinds₀ args₀ lines₀ bounds₀ : List ℕ} (room : Room text list₀ kinds₀ args₀ lines₀ bounds₀)
@@ -53,13 +54,6 @@ module _ {text list₀ kinds₀ args₀ lines₀ bounds₀ : List ℕ} (room : R
     listed-none : list ≡ list₀
     unfolding faultList concat-map
     listed-none = r .listed ∙ ap (λ (fs : List Fault). sets list₀ 0 (faultList fs)) clean
-
-    -- the model decides
-    pub says-model : (v : Ordered) (p o : List ℕ) {f′ p′ o′ : List ℕ}
-        → Concludes (said (sheetOf text)) list p o v f′ p′ o′
-        → Decides text list₀ p o v f′ p′ o′
-    unfolding decided
-    says-model v p o w = rw (few, clean, ← listed-none) w
 
   -- no more statements than there may be
   pub statements-few : n .statements ≤ mostStatements
@@ -108,12 +102,24 @@ module _ {text list₀ kinds₀ args₀ lines₀ bounds₀ : List ℕ} (room : R
       record {
         statements = said (sheetOf text);
         laid = bounds-laid;
+        headed = text-headed text;
         fits =
-            laid-fits (said (sheetOf text)) _ _ _ _ bounds-laid _ _ _ (omega (arith, statements-few, r .statements))
+            laid-groups (said (sheetOf text)) _ _ _ _ bounds-laid _ _ _ _ _
+            (omega (arith, statements-few, r .statements))
             (omega (arith, kinds-many, r .within, room .taken .brief)) (omega (arith, kinds-many, args-many))
-            (omega (arith, kinds-many, r .within, uses))
-            (omega (arith, statements-few, r .statements, long, room .taken .list-room));
+            (omega (arith, statements-few, r .statements, long, room .taken .list-room))
+            (omega (arith, statements-few, r .statements)) (omega (arith, statements-few, r .statements))
+            (omega (arith, statements-few, r .statements));
+        uses-room = omega (arith, kinds-many, r .within, uses);
       }
+
+  -- the model decides
+  pub says-model : n .faults ≤ 0 → (v : Ordered) (p o : List ℕ) {used f′ p′ o′ : List ℕ} → length text ≤ length used
+      → ((s : ArraysReady (take (n .statements) lines) (take (n .statements + 1) bounds) (take (n .drafts) kinds)
+      (take (n .drafts) args) used list) → Concludes (s .statements) list p o v f′ p′ o′)
+      → Decides text list₀ p o v f′ p′ o′
+  unfolding decided ready-so
+  says-model none v p o uses w = rw (few, clean none, ← (listed-none none)) (w (ready-so uses))
 
 -- a room: k places for drafts, and a place for each statement that there may be
 pub room-of : {text list : List ℕ} (k : ℕ) → Taken text list → length text ≤ k

@@ -13,10 +13,10 @@ use Rattle.limits.specs.Limits.{faultRoom, textBytes, textLines, mostStatements
 use Rattle.limits.specs.Limits.{recordBytes}
 use Rattle.deck.specs.Lines.{linesOf}
 use Rattle.deck.specs.Reports.{report}
-use Rattle.sheet.specs.Sheet.{Fault}
+use Rattle.sheet.specs.Sheet.{Fault, said}
 use Rattle.sheet.specs.Reader.{told, sheetOf, faultsOf}
 use Rattle.sheet.specs.Numbers.{statementsOf}
-use Rattle.model.specs.Text.{textDefinitions}
+use Rattle.blocks.specs.Members.{settings}
 use Rattle.translator.specs.Verdict.{Decision, refused, faulty, translated, ifFaults, decided, verdictOf}
 use Rattle.translator.specs.Verdict.{numberOf}
 use Rattle.translator.specs.Verdict.{faultsAfter, programAfter, translation}
@@ -193,7 +193,7 @@ module _ (text f p : List ℕ) where
   wrote-all : Wrote (verdictOf text (length f) (length p))
   unfolding verdictOf decided
   wrote-all =
-      let ds = textDefinitions text in
+      let ss = said (sheetOf text) in
       let rs = recordsOf text in
       wrote-test (ltb (length f) faultRoom) 1 _ (λ e. omega arith) (λ e. omega arith) (λ e. omega arith)
       (wrote-test (ltb textBytes (length text)) 2 _ (λ e. omega arith) (λ e. omega arith) (λ e. omega arith)
@@ -201,7 +201,8 @@ module _ (text f p : List ℕ) where
       (wrote-test (ltb mostStatements (length (sheetOf text))) 4 _ (λ e. omega arith) (λ e. omega arith)
       (λ e. omega arith)
       (wrote-five (faultsOf text) _ refl
-      (wrote-test (ltb mostDefinitions (length ds)) 6 _ (λ e. omega arith) (λ e. omega arith) (λ e. omega arith)
+      (wrote-test (ltb mostDefinitions (length (settings ss))) 6 _ (λ e. omega arith) (λ e. omega arith)
+      (λ e. omega arith)
       (wrote-seven (modelFaultsOf text) _ refl
       (wrote-test (ltb mostRecords (length rs) || ltb (length p / recordBytes) (length rs)) 8 _ (λ e. omega arith)
       (λ e. omega arith) (λ e. omega arith) (wrote-translated _))))))))

@@ -1,36 +1,36 @@
 -- From a plan to the program: what the plan's arrays hold, and the answer of each path.
-use Prim.Native.Nat.{ℕ, _*_, _/_, _≤_}
-use mathlib.Core.Path.{_≡_, refl, sym, ap, _∙_}
+use Prim.Native.Nat.{ℕ, _+_, _*_, _/_, _≤_}
+use mathlib.Core.Path.{_≡_, refl, sym, ap, ap₂, _∙_}
 use mathlib.Core.Bool.{Bool, true, false, _||_}
 use mathlib.Core.List.{List, []}
 use native.Mathlib.Omega.{arith}
 use native.Mathlib.Nat.{zero-add}
 use borrow.Author.Tests.{leb-true, ltb-true, ltb-false}
-use lib.Dec.{leb, ltb}
+use lib.Dec.{eqb, leb, ltb}
 use lib.ListN.{length, take, replicate, length-map, length-replicate}
 use lib.Seq.{sets, length-sets, take-all}
 use Rattle.limits.specs.Limits.{mostDefinitions, mostStatements, mostRecords, recordBytes}
 use Rattle.laws.proofs.Tests.{and-true}
 use Rattle.laws.proofs.Bools.{or-false}
-use Rattle.sheet.specs.Sheet.{Numbered}
-use Rattle.sheet.specs.Layout.{Laid}
-use Rattle.model.specs.Definitions.{Def, definitions, equationCount}
+use Rattle.blocks.specs.Units.{TextUnit}
+use Rattle.model.specs.Definitions.{definitions, unitCount}
 use Rattle.model.specs.Faults.{modelFaults, orderOf}
-use Rattle.model.specs.Places.{placesIn, equatedIn}
+use Rattle.model.specs.Places.{placesIn, orderedIn}
 use Rattle.model.specs.Plan.{lent as arrays, PlanOutcome, planOutcome, fit}
 use Rattle.model.specs.Contract.{Plans}
 use Rattle.model.specs.declared.answer.Plan.{Plan}
 use Rattle.model.proofs.NoModelFault.{no-faults}
 use Rattle.model.proofs.PlanStages.{equated-few}
-use Rattle.model.proofs.ArraysMean.{places-meant, equated-meant}
+use Rattle.model.proofs.ArraysMean.{places-meant, ordered-meant}
 use Rattle.program.specs.Written.{recordCount, writtenProgram, fitting}
 use Rattle.translator.specs.declared.Ordered.{Ordered}
 use Rattle.translator.specs.declared.Verdict.the-variants.{Refused, Faulty, Translated}
-use Rattle.translator.specs.Contract.{ordered}
-use Rattle.translator.specs.Working.{unfilled, padded, ArraysReady, Planned, orderedLines, Concludes}
+use Rattle.translator.specs.Contract.{ordered, OrderedReply, orderedReply}
+use Rattle.translator.specs.Working.{unfilled, padded, UnitsReady, Planned, orderedLines}
+use Rattle.translator.specs.Working.{UnitsConclude}
 use Rattle.translator.proofs.Progress.{take-sets}
 use Rattle.translator.proofs.Concluding.{Conclusion, concluded, soundPlan, all-placed}
-use Rattle.translator.proofs.Deciding.{written, handed, decides-six, decides-seven, decides-sound, decides-eight}
+use Rattle.translator.proofs.Deciding.{written, handed, decides-seven, decides-sound, decides-eight}
 use Rattle.translator.proofs.Deciding.{decides-eight′, decides-zero}
 use Rattle.translator.proofs.Deciding.{program-long}
 
@@ -45,30 +45,31 @@ length-padded : (m : ℕ) (l : List ℕ) → length (padded m l) ≡ m
 length-padded m l = length-sets (replicate m 0) 0 l ∙ length-replicate {A = ℕ} m 0
 
 -- ---- the plan of a sound model
-module _ {p : Plan} {places equated order lines bounds kinds args : List ℕ}
-    (s : Planned p places equated order lines bounds kinds args) where
-  abbrev ds : List Def
-  ds = definitions (s .statements)
+module _ {p : Plan} {places equated order lines bounds ulines firsts kinds args : List ℕ}
+    (s : Planned p places equated order lines bounds ulines firsts kinds args) where
+  abbrev us : List TextUnit
+  us = s .units
 
-  few : length ds ≤ mostDefinitions
-  few = omega (arith, ltb-false mostDefinitions (length ds) (s .few))
+  -- the units of the order
+  abbrev units : List ℕ
+  units = orderedIn (length ulines) (s .ubounds) kinds
 
-  places-many : length (placesIn kinds) ≡ length ds
-  places-many = places-meant (s .statements) kinds (s .unresolved) lines bounds (s .laid)
+  places-many : length (placesIn kinds) ≡ length (definitions us)
+  places-many = places-meant us kinds (s .unresolved) lines bounds ulines (s .ubounds) firsts (s .laid)
 
-  equated-many : length (equatedIn (length lines) bounds kinds) ≡ equationCount ds
-  equated-many = equated-meant (s .statements) kinds (s .unresolved) lines bounds (s .laid)
+  equated-many : length units ≡ unitCount us
+  equated-many = ordered-meant us kinds (s .unresolved) lines bounds ulines (s .ubounds) firsts (s .laid)
 
-  order-many : length (orderOf ds) ≡ equationCount ds
-  order-many = all-placed ds (no-faults (s .statements) (s .clean) .2)
+  order-many : length (orderOf us) ≡ unitCount us
+  order-many = all-placed us (no-faults us (s .clean) .2)
 
   places-short : length (placesIn kinds) ≤ mostDefinitions
-  places-short = omega (arith, places-many, few)
+  places-short = omega (arith, places-many, s .few)
 
-  equated-short : length (equatedIn (length lines) bounds kinds) ≤ mostStatements
-  equated-short = omega (arith, equated-few (length lines) bounds kinds, s .short)
+  equated-short : length units ≤ mostStatements
+  equated-short = omega (arith, equated-few (length ulines) (s .ubounds) kinds, s .short)
 
-  order-short : length (orderOf ds) ≤ mostStatements
+  order-short : length (orderOf us) ≤ mostStatements
   order-short = omega (arith, order-many, equated-many, equated-short)
 
   -- the three rows, cut from their arrays
@@ -76,37 +77,40 @@ module _ {p : Plan} {places equated order lines bounds kinds args : List ℕ}
   places-room = rw (s .places-held, length-padded mostDefinitions (placesIn kinds))
       (omega (arith, s .definitions-counted, places-short))
 
-  pub equated-room : p .equations ≤ length equated
-  equated-room = rw (s .equated-held, length-padded mostStatements (equatedIn (length lines) bounds kinds))
-      (omega (arith, s .equations-counted, equated-short))
+  pub equated-room : p .units ≤ length equated
+  equated-room = rw (s .equated-held, length-padded mostStatements units)
+      (omega (arith, s .units-counted, equated-short))
 
-  pub order-room : p .equations ≤ length order
+  pub order-room : p .units ≤ length order
   order-room =
-      rw (s .order-held, length-padded mostStatements (orderOf ds)) (omega (arith, s .equations-counted, equated-short))
+      rw (s .order-held, length-padded mostStatements (orderOf us)) (omega (arith, s .units-counted, equated-short))
 
   pub places-cut : take (p .definitions) places ≡ placesIn kinds
   places-cut =
       rw (s .places-held)
       (take-padded mostDefinitions (placesIn kinds) (p .definitions) (s .definitions-counted) places-short)
 
-  pub equated-cut : take (p .equations) equated ≡ equatedIn (length lines) bounds kinds
+  pub equated-cut : take (p .units) equated ≡ units
   equated-cut =
       rw (s .equated-held)
-      (take-padded mostStatements (equatedIn (length lines) bounds kinds) (p .equations)
-      (s .equations-counted) equated-short)
+      (take-padded mostStatements units (p .units)
+      (s .units-counted) equated-short)
 
-  pub order-cut : take (p .equations) order ≡ orderOf ds
+  pub order-cut : take (p .units) order ≡ orderOf us
   order-cut =
-      rw (s .order-held)
-      (take-padded mostStatements (orderOf ds) (p .equations)
-      (s .equations-counted ∙ equated-many ∙ sym order-many) order-short)
+      ap (take (p .units)) (s .order-held)
+      ∙ take-padded mostStatements (orderOf us) (p .units)
+      (s .units-counted ∙ equated-many ∙ sym order-many) order-short
 
   -- what is written is the program's bytes
-  pub written-cut : {r₁ r₂ r₃ : List ℕ} → r₁ ≡ take (p .definitions) places → r₂ ≡ take (p .equations) equated
-      → r₃ ≡ take (p .equations) order
-      → writtenProgram r₁ r₂ lines bounds kinds args r₃ ≡ written (s .statements) kinds (s .unresolved) lines bounds
-      (s .laid) [] [] [] []
-  written-cut e₁ e₂ e₃ = rw (e₁, e₂, e₃, places-cut, equated-cut, order-cut, s .args-resolved)
+  pub written-cut : {r₁ r₂ r₃ : List ℕ} → r₁ ≡ take (p .definitions) places → r₂ ≡ take (p .units) equated
+      → r₃ ≡ take (p .units) order
+      → writtenProgram r₁ r₂ firsts lines bounds kinds args r₃
+      ≡ written us kinds (s .unresolved) lines bounds ulines (s .ubounds) firsts (s .laid) [] [] [] []
+  written-cut e₁ e₂ e₃ =
+      rw (e₁, e₂, e₃, places-cut, equated-cut, order-cut)
+      (ap (λ (a : List ℕ). writtenProgram (placesIn kinds) units firsts lines bounds kinds a (orderOf us))
+      (s .args-resolved))
 
   -- ---- the answers
   module _ (out lent : List ℕ) {over : Bool}
@@ -114,23 +118,23 @@ module _ {p : Plan} {places equated order lines bounds kinds args : List ℕ}
     where
       -- the records are too many, or too many for the room
       pub says-eight : over ≡ true → (f : List ℕ)
-          → Concludes (s .statements) f out lent (ordered (Refused 8) 0) f out lent
+          → UnitsConclude us f out lent (ordered (Refused 8) 0) f out lent
       says-eight t f = go (ltb mostRecords (recordCount kinds)) refl (sym tested ∙ t)
         where
           go : (b : Bool) → ltb mostRecords (recordCount kinds) ≡ b
               → (b || ltb (length out / recordBytes) (recordCount kinds)) ≡ true
-              → Concludes (s .statements) f out lent (ordered (Refused 8) 0) f out lent
+              → UnitsConclude us f out lent (ordered (Refused 8) 0) f out lent
           go true e _ =
-              decides-eight (s .statements) kinds (s .unresolved) lines bounds (s .laid) [] f out lent (s .few)
+              decides-eight us kinds (s .unresolved) lines bounds ulines (s .ubounds) firsts (s .laid) [] f out lent
               (s .clean) (ltb-true mostRecords (recordCount kinds) e)
           go false e h =
-              decides-eight′ (s .statements) kinds (s .unresolved) lines bounds (s .laid) [] f out lent (s .few)
+              decides-eight′ us kinds (s .unresolved) lines bounds ulines (s .ubounds) firsts (s .laid) [] f out lent
               (s .clean) (ltb-true (length out / recordBytes) (recordCount kinds) h)
               (ltb-false mostRecords (recordCount kinds) e)
 
       -- or they are not, and the program is written
-      module _ {r₁ r₂ r₃ : List ℕ} (e₁ : r₁ ≡ take (p .definitions) places) (e₂ : r₂ ≡ take (p .equations) equated)
-          (e₃ : r₃ ≡ take (p .equations) order) (z : over ≡ false) where
+      module _ {r₁ r₂ r₃ : List ℕ} (e₁ : r₁ ≡ take (p .definitions) places) (e₂ : r₂ ≡ take (p .units) equated)
+          (e₃ : r₃ ≡ take (p .units) order) (z : over ≡ false) where
         under : (recordCount kinds ≤ mostRecords) × (recordCount kinds ≤ length out / recordBytes)
         under =
             let over-most = ltb mostRecords (recordCount kinds) in
@@ -141,100 +145,117 @@ module _ {p : Plan} {places equated order lines bounds kinds args : List ℕ}
             )
 
         -- its bytes tell how many records it has
-        counted : {n : ℕ} → n ≡ length (writtenProgram r₁ r₂ lines bounds kinds args r₃)
+        counted : {n : ℕ} → n ≡ length (writtenProgram r₁ r₂ firsts lines bounds kinds args r₃)
             → n / recordBytes ≡ recordCount kinds
         counted e =
             let many =
-            program-long (s .statements) kinds (s .unresolved) lines bounds (s .laid) [] [] out [] (s .few)
+            program-long us kinds (s .unresolved) lines bounds ulines (s .ubounds) firsts (s .laid) [] [] out []
             (s .clean) in
             rw (e, written-cut e₁ e₂ e₃) (omega (arith, many))
 
         -- there is room for all of them
-        all-fits : fitting (length out) (writtenProgram r₁ r₂ lines bounds kinds args r₃)
-            ≡ writtenProgram r₁ r₂ lines bounds kinds args r₃
+        all-fits : fitting (length out) (writtenProgram r₁ r₂ firsts lines bounds kinds args r₃)
+            ≡ writtenProgram r₁ r₂ firsts lines bounds kinds args r₃
         all-fits =
             let many =
-            program-long (s .statements) kinds (s .unresolved) lines bounds (s .laid) [] [] out [] (s .few)
+            program-long us kinds (s .unresolved) lines bounds ulines (s .ubounds) firsts (s .laid) [] [] out []
             (s .clean) in
             rw (written-cut e₁ e₂ e₃)
             (take-all (recordBytes * (length out / recordBytes))
-            (written (s .statements) kinds (s .unresolved) lines bounds (s .laid) [] [] [] [])
+            (written us kinds (s .unresolved) lines bounds ulines (s .ubounds) firsts (s .laid) [] [] [] [])
             (omega (arith, many, under .1)))
 
         -- the order is that of the definitions, and so long
-        handed-cut : orderedLines r₂ lines r₃
-            ≡ handed (s .statements) kinds (s .unresolved) lines bounds (s .laid) [] [] [] []
+        handed-cut : orderedLines r₂ ulines r₃
+            ≡ handed us kinds (s .unresolved) lines bounds ulines (s .ubounds) firsts (s .laid) [] [] [] []
         handed-cut = rw (e₂, e₃, equated-cut, order-cut)
 
-        handed-many : p .equations
-            ≡ length (handed (s .statements) kinds (s .unresolved) lines bounds (s .laid) [] [] [] [])
-        handed-many = s .equations-counted ∙ equated-many ∙ sym order-many ∙ sym (length-map (orderOf ds) _)
+        handed-many : p .units
+            ≡ length (handed us kinds (s .unresolved) lines bounds ulines (s .ubounds) firsts (s .laid) [] [] [] [])
+        handed-many = s .units-counted ∙ equated-many ∙ sym order-many ∙ sym (length-map (orderOf us) _)
 
         pub says-zero : {n : ℕ} {out′ lent′ : List ℕ}
-            → (n ≡ length (fitting (length out) (writtenProgram r₁ r₂ lines bounds kinds args r₃)))
-            × (out′ ≡ sets out 0 (fitting (length out) (writtenProgram r₁ r₂ lines bounds kinds args r₃)))
-            → lent′ ≡ sets lent 0 (orderedLines r₂ lines r₃)
+            → (n ≡ length (fitting (length out) (writtenProgram r₁ r₂ firsts lines bounds kinds args r₃)))
+            × (out′ ≡ sets out 0 (fitting (length out) (writtenProgram r₁ r₂ firsts lines bounds kinds args r₃)))
+            → lent′ ≡ sets lent 0 (orderedLines r₂ ulines r₃)
             → (f : List ℕ)
-            → Concludes (s .statements) f out lent (ordered (Translated (n / recordBytes)) (p .equations)) f out′ lent′
-        says-zero e g f =
-            rw (
-              counted (e .0 ∙ ap length all-fits),
-              e .1 ∙ ap (sets out 0) all-fits,
-              written-cut e₁ e₂ e₃,
-              g ∙ ap (sets lent 0) handed-cut,
-              handed-many,
-            )
-            (decides-zero (s .statements) kinds (s .unresolved) lines bounds (s .laid) [] f out lent (s .few) (s .clean)
-            (under .0) (under .1))
+            → UnitsConclude us f out lent (ordered (Translated (n / recordBytes)) (p .units)) f out′ lent′
+        says-zero {n} {out′} {lent′} e g f =
+            let count = counted (e .0 ∙ ap length all-fits) in
+            let bytes = e .1 ∙ ap (sets out 0) (all-fits ∙ written-cut e₁ e₂ e₃) in
+            let lines-out = g ∙ ap (sets lent 0) handed-cut in
+            let many : ℕ =
+            length (handed us kinds (s .unresolved) lines bounds ulines (s .ubounds) firsts (s .laid) [] [] [] []) in
+            let Reply : ℕ → ℕ → List ℕ → List ℕ → OrderedReply = λ k u o l. orderedReply
+            (ordered (Translated k) u) f o l in
+            ap (λ (k : ℕ). Reply k (p .units) out′ lent′) count
+            ∙ ap (λ (u : ℕ). Reply (recordCount kinds) u out′ lent′) handed-many
+            ∙ ap₂ (λ (o l : List ℕ). Reply (recordCount kinds) many o l) bytes lines-out
+            ∙ decides-zero us kinds (s .unresolved) lines bounds ulines (s .ubounds) firsts (s .laid) [] f out lent
+            (s .clean) (under .0) (under .1)
 
--- ---- what is planned of statements that are laid out
-module _ {lines bounds kinds args used faults : List ℕ} (ready : ArraysReady lines bounds kinds args used faults)
+-- ---- what is planned of units that are laid out
+module _ {lines bounds ulines ubounds firsts kinds args used faults : List ℕ}
+    (ready : UnitsReady lines bounds ulines ubounds firsts kinds args used faults)
     {p : Plan} {args′ used′ faults′ places equated order : List ℕ}
-    (plans : Plans lines bounds kinds args used faults unfilled p args′ used′ faults′ (arrays places equated order))
-    (ss : List Numbered) (laid : Laid ss kinds args lines bounds) (out lent : List ℕ) where
+    (plans : Plans lines bounds ulines ubounds kinds args used faults unfilled p args′ used′ faults′
+    (arrays places equated order)) (out lent : List ℕ) where
+  abbrev of : List TextUnit
+  of = ready .units
+
   abbrev reached : PlanOutcome
   reached = planOutcome p args′ used′ faults′ (arrays places equated order)
 
-  conclusion : Conclusion ss kinds args lines bounds laid used faults reached
-  conclusion = rw plans (concluded ss kinds args lines bounds laid used faults (ready .fits))
+  conclusion : Conclusion of kinds args lines bounds ulines ubounds firsts (ready .laid) used faults reached
+  conclusion =
+      rw plans
+      (concluded of kinds args lines bounds ulines ubounds firsts (ready .laid) used faults (ready .sound) (ready .few)
+      (ready .fits))
 
-  lines-short : length lines ≤ mostStatements
+  ulines-short : length ulines ≤ mostStatements
   unfolding fit
-  lines-short = leb-true _ _ (and-true (leb (length lines) mostStatements) _ (ready .fits) .0)
+  ulines-short =
+      let a = and-true (leb (length lines) mostStatements) _ (ready .fits) in
+      let b = and-true (eqb (length bounds) (length lines + 1)) _ (a .1) in
+      let c = and-true (leb (length ulines) (length lines)) _ (b .1) in
+      omega (arith, leb-true (length lines) mostStatements (a .0), leb-true (length ulines) (length lines) (c .0))
 
-  pub says-six : p .number ≡ 6 → Concludes ss faults out lent (ordered (Refused 6) 0) faults′ out lent
-  says-six e = decides-six ss kinds args lines bounds laid used faults out lent reached conclusion e
+  pub says-seven : p .number ≡ 7
+      → UnitsConclude of faults out lent (ordered (Faulty 7 (p .count)) 0) faults′ out lent
+  says-seven e =
+      decides-seven of kinds args lines bounds ulines ubounds firsts (ready .laid) used faults out lent reached
+      conclusion e
 
-  pub says-seven : p .number ≡ 7 → Concludes ss faults out lent (ordered (Faulty 7 (p .count)) 0) faults′ out lent
-  says-seven e = decides-seven ss kinds args lines bounds laid used faults out lent reached conclusion e
+  -- another number: the model is sound, the fault list untouched
+  module _ (not-seven : p .number ≡ 7 → ⊥) where
+    sound : (modelFaults of ≡ [])
+        × (reached ≡ soundPlan of kinds args lines bounds ulines ubounds firsts (ready .laid) used faults)
+    sound =
+        decides-sound of kinds args lines bounds ulines ubounds firsts (ready .laid) used faults out lent reached
+        conclusion not-seven
 
-  -- neither number: the model is sound, the fault list untouched
-  module _ (not-six : p .number ≡ 6 → ⊥) (not-seven : p .number ≡ 7 → ⊥) where
-    sound : (ltb mostDefinitions (length (definitions ss)) ≡ false) × (modelFaults ss ≡ [])
-        × (reached ≡ soundPlan ss kinds args lines bounds laid used faults)
-    sound = decides-sound ss kinds args lines bounds laid used faults out lent reached conclusion not-six not-seven
-
-    pub planned-so : Planned p places equated order lines bounds kinds args′
+    pub planned-so : Planned p places equated order lines bounds ulines firsts kinds args′
     planned-so =
-        let e = sound .2 in
+        let e = sound .1 in
         record {
-          statements = ss;
+          units = of;
           unresolved = args;
-          laid = laid;
-          few = sound .0;
-          clean = sound .1;
+          ubounds = ubounds;
+          laid = ready .laid;
+          few = ready .few;
+          clean = sound .0;
           args-resolved = ap (λ (o : PlanOutcome). o .args) e;
           definitions-counted = ap (λ (o : PlanOutcome). o .plan .definitions) e;
-          short = lines-short;
-          equations-counted = ap (λ (o : PlanOutcome). o .plan .equations) e;
+          short = ulines-short;
+          units-counted = ap (λ (o : PlanOutcome). o .plan .units) e;
           places-held = ap (λ (o : PlanOutcome). o .arrays .places) e;
           equated-held = ap (λ (o : PlanOutcome). o .arrays .equated) e;
           order-held = ap (λ (o : PlanOutcome). o .arrays .order) e;
         }
 
     pub says-rest : (r : Ordered) {out′ lent′ : List ℕ}
-        → ((s : Planned p places equated order lines bounds kinds args′) (f : List ℕ)
-        → Concludes (s .statements) f out lent r f out′ lent′)
-        → Concludes ss faults out lent r faults′ out′ lent′
+        → ((s : Planned p places equated order lines bounds ulines firsts kinds args′) (f : List ℕ)
+        → UnitsConclude (s .units) f out lent r f out′ lent′)
+        → UnitsConclude of faults out lent r faults′ out′ lent′
     unfolding planned-so
-    says-rest r w = rw (ap (λ (o : PlanOutcome). o .faults) (sound .2)) (w planned-so faults)
+    says-rest r w = rw (ap (λ (o : PlanOutcome). o .faults) (sound .1)) (w planned-so faults)

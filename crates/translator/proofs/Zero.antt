@@ -14,8 +14,13 @@ use Rattle.laws.proofs.Bools.{or-false}
 use Rattle.deck.specs.Lines.{linesOf}
 use Rattle.sheet.specs.Sheet.{Sheet, Fault, said, statementFaults}
 use Rattle.sheet.specs.Reader.{sheetOf}
+use Rattle.blocks.specs.Inside.{blockFaults}
+use Rattle.blocks.specs.Members.{settings}
 use Rattle.model.specs.Definitions.{definitions}
 use Rattle.model.specs.Faults.{modelFaults, orderOf}
+use Rattle.model.specs.Text.{textUnits, modelFaultsIn}
+use Rattle.model.proofs.NoModelFault.{or-else-none}
+use Rattle.model.proofs.DefinitionsFew.{definitions-few}
 use Rattle.records.specs.Record.{Rec}
 use Rattle.program.specs.Program.{program}
 use Rattle.translator.specs.Verdict.{Decision, refused, faulty, translated, ifFaults, programmed}
@@ -24,9 +29,10 @@ use Rattle.translator.specs.Verdict.{modelled, decided, verdictOf, numbe
 -- no statement fault, no model fault, not too many definitions; the program is that of the order, and has room
 pub record Clear (text : List ℕ) (room : ℕ) (rs : List Rec) : Type 0 where
   pub sound : statementFaults (sheetOf text) ≡ []
-  pub few : length (definitions (said (sheetOf text))) ≤ mostDefinitions
-  pub clean : modelFaults (said (sheetOf text)) ≡ []
-  pub written : rs ≡ program (definitions (said (sheetOf text))) (orderOf (definitions (said (sheetOf text))))
+  pub few : length (definitions (textUnits text)) ≤ mostDefinitions
+  pub unblocked : blockFaults (said (sheetOf text)) ≡ []
+  pub clean : modelFaults (textUnits text) ≡ []
+  pub written : rs ≡ program (textUnits text) (orderOf (textUnits text))
   pub short : length rs ≤ mostRecords
   pub fits : length rs ≤ room / recordBytes
 
@@ -48,20 +54,22 @@ module _ (text : List ℕ) (room : ℕ) where
   known-faults n (x ∷ fs) next h f = h
 
   -- 8
-  known-fitted : statementFaults sheet ≡ [] → length (definitions (said sheet)) ≤ mostDefinitions
-      → modelFaults (said sheet) ≡ []
-      → Known text room (programmed room (definitions (said sheet)))
+  known-fitted : statementFaults sheet ≡ [] → length (settings (said sheet)) ≤ mostDefinitions
+      → modelFaultsIn (said sheet) ≡ []
+      → Known text room (programmed room (textUnits text))
   known-fitted a b c =
-      let ds = definitions (said sheet) in
-      let rs = program ds (orderOf ds) in
+      let us = textUnits text in
+      let rs = program us (orderOf us) in
+      let none = or-else-none (blockFaults (said sheet)) (modelFaults us) c in
       cond-ind (Known text room) (ltb mostRecords (length rs) || ltb (room / recordBytes) (length rs)) (refused 8)
       (translated rs _) (λ _. lit< tt)
       (λ t.
       let p = or-false (ltb mostRecords (length rs)) (ltb (room / recordBytes) (length rs)) t in
       record {
         sound = a;
-        few = b;
-        clean = c;
+        few = omega (arith, b, definitions-few (said sheet));
+        unblocked = none .0;
+        clean = none .1;
         written = refl;
         short = ltb-false mostRecords (length rs) (p .0);
         fits = ltb-false (room / recordBytes) (length rs) (p .1);
@@ -70,10 +78,10 @@ module _ (text : List ℕ) (room : ℕ) where
   -- 6 and 7
   known-modelled : statementFaults sheet ≡ [] → Known text room (modelled room (said sheet))
   known-modelled a =
-      let ds = definitions (said sheet) in
-      cond-ind (Known text room) (ltb mostDefinitions (length ds)) (refused 6) _ (λ _. lit< tt)
-      (λ t. known-faults 7 (modelFaults (said sheet)) (programmed room ds) (lit< tt)
-      (known-fitted a (ltb-false mostDefinitions (length ds) t)))
+      let ss = said sheet in
+      cond-ind (Known text room) (ltb mostDefinitions (length (settings ss))) (refused 6) _ (λ _. lit< tt)
+      (λ t. known-faults 7 (modelFaultsIn ss) (programmed room (textUnits text)) (lit< tt)
+      (known-fitted a (ltb-false mostDefinitions (length (settings ss)) t)))
 
   -- 4 and 5
   known-decided : Known text room (decided room sheet)

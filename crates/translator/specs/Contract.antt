@@ -46,17 +46,17 @@ replyOf v f p = reply (answerOf v) (faultsAfter v f) (programAfter v p)
 abbrev pub Translates : List ℕ → List ℕ → List ℕ → Verdict → List ℕ → List ℕ → Type 0
 Translates text f p r f′ p′ = reply r f′ p′ ≡ replyOf (verdictOf text (length f) (length p)) f p
 
--- ---- the same with the order of the statements handed out
+-- ---- the same with the order of the units handed out
 
--- the first lines of the ordered statements, which verdict 0 names; no other names any
+-- the first lines of the ordered units, which verdict 0 names; no other names any
 abbrev pub linesIn : Decision → List ℕ
 linesIn (refused n) = []
 linesIn (faulty n fs) = []
 linesIn (translated rs ls) = ls
 
--- a verdict's answer, with so many ordered statements
+-- a verdict's answer, with so many ordered units
 abbrev pub ordered : Verdict → ℕ → Ordered
-ordered v n = record { verdict = v; statements = n }
+ordered v n = record { verdict = v; units = n }
 
 -- the answer, and what the three lent buffers then hold
 pub record OrderedReply : Type 0 where

@@ -11,19 +11,20 @@ use Rattle.deck.specs.Lines.{linesOf}
 use Rattle.sheet.specs.Sheet.{Fault, said, faultList}
 use Rattle.sheet.specs.Reader.{sheetOf, faultsOf, Faulted}
 use Rattle.sheet.specs.Numbers.{statementsOf}
-use Rattle.model.specs.Faults.{modelFaults, orderOf}
-use Rattle.model.specs.Text.{textDefinitions}
+use Rattle.blocks.specs.Members.{settings}
+use Rattle.model.specs.Faults.{orderOf}
+use Rattle.model.specs.Text.{textUnits, modelFaultsIn}
 use Rattle.records.specs.Record.{Rec, programBytes}
 use Rattle.program.specs.Program.{program}
 use Rattle.translator.specs.Verdict.{verdictOf, numberOf, translation}
 
 -- the records that a text needs
 abbrev pub recordsOf : List ℕ → List Rec
-recordsOf text = program (textDefinitions text) (orderOf (textDefinitions text))
+recordsOf text = program (textUnits text) (orderOf (textUnits text))
 
 -- its model faults
 abbrev pub modelFaultsOf : List ℕ → List Fault
-modelFaultsOf text = modelFaults (said (sheetOf text))
+modelFaultsOf text = modelFaultsIn (said (sheetOf text))
 
 -- what each number stands for
 module _ (text : List ℕ) (f p : ℕ) where
@@ -35,7 +36,7 @@ module _ (text : List ℕ) (f p : ℕ) where
     statements : mostStatements < length (statementsOf text) → Reason 4
     -- 5 a statement fault stands; 6 too many definitions, doubles counted; 7 a model fault stands
     statement-fault : Faulted text → Reason 5
-    definitions : mostDefinitions < length (textDefinitions text) → Reason 6
+    definitions : mostDefinitions < length (settings (said (sheetOf text))) → Reason 6
     model-fault : (modelFaultsOf text ≡ [] → ⊥) → Reason 7
     -- 8 more records are needed than there may be, or than fit the lent bytes
     records : (mostRecords < length (recordsOf text)) ⊎ (p / recordBytes < length (recordsOf text)) → Reason 8

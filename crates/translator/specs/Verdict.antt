@@ -10,13 +10,16 @@ use Rattle.limits.specs.Limits.{recordBytes}
 use Rattle.deck.specs.Lines.{linesOf}
 use Rattle.sheet.specs.Sheet.{Sheet, Numbered, Fault, said, statementFaults, faultList}
 use Rattle.sheet.specs.Reader.{sheetOf}
-use Rattle.model.specs.Definitions.{Def, definitions, equationAt}
-use Rattle.model.specs.Faults.{modelFaults, orderOf}
+use Rattle.blocks.specs.Units.{TextUnit}
+use Rattle.blocks.specs.Members.{settings, unitsOf}
+use Rattle.model.specs.Definitions.{unitAt}
+use Rattle.model.specs.Faults.{orderOf}
+use Rattle.model.specs.Text.{modelFaultsIn}
 use Rattle.records.specs.Record.{Rec, programBytes}
 use Rattle.program.specs.Program.{program}
 
 -- refused with a number, nothing written; faulty with 5 or 7, the fault list written; translated, 0, the program
--- written. The last also names the first line of each ordered statement
+-- written. The last also names the first line of each ordered unit
 pub data Decision : Type 0 where
   refused : ℕ → Decision
   faulty : ℕ → List Fault → Decision
@@ -32,16 +35,16 @@ abbrev pub fitted : ℕ → List Rec → List ℕ → Decision
 fitted room rs ls =
     cond (ltb mostRecords (length rs) || ltb (room / recordBytes) (length rs)) (refused 8) (translated rs ls)
 
--- the program of the definitions in their order, with the ordered statements' first lines
-abbrev pub programmed : ℕ → List Def → Decision
-programmed room ds = fitted room (program ds (orderOf ds)) (map (λ (i : ℕ). equationAt ds i .line) (orderOf ds))
+-- the program of the units in their order, with their first lines
+abbrev pub programmed : ℕ → List TextUnit → Decision
+programmed room us = fitted room (program us (orderOf us)) (map (λ (i : ℕ). unitAt us i .line) (orderOf us))
 
--- 6: over mostDefinitions definitions, doubles counted; 7: a model fault stands
+-- 6: over mostDefinitions definitions, doubles counted, and every setting inside blocks; 7: a model fault stands
 abbrev pub modelled : ℕ → List Numbered → Decision
 modelled room ss =
-    let next = programmed room (definitions ss) in
-    let faults = ifFaults 7 (modelFaults ss) next in
-    cond (ltb mostDefinitions (length (definitions ss))) (refused 6) faults
+    let next = programmed room (unitsOf ss) in
+    let faults = ifFaults 7 (modelFaultsIn ss) next in
+    cond (ltb mostDefinitions (length (settings ss))) (refused 6) faults
 
 -- 4: over mostStatements statements; 5: a statement fault stands. By the sheet alone, whatever the reader was
 unfoldable pub decided : ℕ → Sheet → Decision

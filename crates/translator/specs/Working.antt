@@ -1,9 +1,8 @@
 -- What the parts of `translate` meet.
 use Prim.Native.Nat.{ℕ, suc, _+_, _-_, _*_, _/_, _≤_, _<_}
 use mathlib.Core.Path.{_≡_}
-use mathlib.Core.Bool.{Bool, true, false}
+use mathlib.Core.Bool.{Bool, true}
 use mathlib.Core.List.{List, [], _∷_, _++_, map}
-use lib.Dec.{ltb}
 use lib.ListN.{length, getD, take, drop, set, replicate}
 use lib.Seq.{sets}
 use Rattle.limits.specs.Limits.{mostStatements, mostDefinitions, textBytes, faultRoom, faultBytes}
@@ -18,14 +17,19 @@ use Rattle.drafts.specs.Drafts.{draftsOf}
 use Rattle.sheet.specs.Sheet.{Told, says, faulty, Sheet, Numbered, said, statementFaults, entryOf, faultList}
 use Rattle.sheet.specs.Reader.{told, sheetOf}
 use Rattle.sheet.specs.Layout.{draftsIn, draftKinds, draftArgs, boundsFrom, Laid}
+use Rattle.blocks.specs.Units.{TextUnit}
+use Rattle.blocks.specs.Pairing.{Headed}
+use Rattle.blocks.specs.Grouped.{UnitArrays, unitArrays, groupFit}
+use Rattle.blocks.specs.Sound.{UnitsSound}
+use Rattle.blocks.specs.Layout.{UnitsLaid}
 use Rattle.model.specs.Definitions.{definitions}
 use Rattle.model.specs.Faults.{modelFaults, orderOf}
-use Rattle.model.specs.Places.{keysIn, placesIn, resolved, equatedIn}
+use Rattle.model.specs.Places.{keysIn, placesIn, resolved, orderedIn}
 use Rattle.model.specs.Plan.{Lent, lent, fit}
 use Rattle.model.specs.declared.answer.Plan.{Plan}
 use Rattle.translator.specs.declared.Ordered.{Ordered}
 use Rattle.translator.specs.Contract.{orderedReply, orderedReplyOf}
-use Rattle.translator.specs.Verdict.{modelled, decided}
+use Rattle.translator.specs.Verdict.{ifFaults, programmed, modelled, decided}
 use Rattle.translator.specs.declared.Told.{Told as Answer}
 use Rattle.translator.specs.declared.Told.the-variants.{Says, Faulty}
 use Rattle.translator.specs.declared.SoFar.{SoFar}
@@ -173,40 +177,60 @@ pub record ReadThrough (text list₀ : List ℕ) (n : SoFar) (kinds args lines b
 abbrev pub padded : ℕ → List ℕ → List ℕ
 padded n l = sets (replicate n 0) 0 l
 
--- the three arrays that are lent to the plan: a place for each definition, for each statement, and for the order of
--- these
+-- the three arrays that are lent to the plan: a place for each definition, for each unit, and for the order of these
 abbrev pub unfilled : Lent
 unfilled = lent (replicate mostDefinitions 0) (replicate mostStatements 0) (replicate mostStatements 0)
 
--- the arrays hold some statements, and fit
+-- the three arrays that are lent for the units: a place for each statement, and one more
+abbrev pub unitless : UnitArrays
+unitless =
+    unitArrays (replicate (mostStatements + 1) 0) (replicate (mostStatements + 1) 0) (replicate (mostStatements + 1) 0)
+
+-- the arrays hold some statements, whose headers name outputs, and fit
 pub record ArraysReady (lines bounds kinds args used faults : List ℕ) : Type 0 where
   pub statements : List Numbered
   pub laid : Laid statements kinds args lines bounds
-  pub fits : fit lines bounds kinds (length args) (length used)
+  pub headed : Headed statements
+  pub fits : groupFit lines bounds kinds (length args) (length faults) (mostStatements + 1) (mostStatements + 1)
+      (mostStatements + 1) ≡ true
+  pub uses-room : length kinds ≤ length used
+
+-- the arrays hold some units whose blocks are sound and which are not too many, and fit
+pub record UnitsReady (lines bounds ulines ubounds firsts kinds args used faults : List ℕ) : Type 0 where
+  pub units : List TextUnit
+  pub laid : UnitsLaid units kinds args lines bounds ulines ubounds firsts
+  pub sound : UnitsSound units
+  pub few : length (definitions units) ≤ mostDefinitions
+  pub fits : fit lines bounds ulines ubounds kinds (length args) (length used)
       (length faults) mostDefinitions mostStatements mostStatements ≡ true
 
--- the arrays held some statements whose model is sound; the names of their arguments are resolved, and the plan is
--- theirs
-pub record Planned (p : Plan) (places equated order lines bounds kinds args : List ℕ) : Type 0 where
-  pub statements : List Numbered
+-- the arrays held some units whose model is sound; the names of their arguments are resolved, and the plan is theirs
+pub record Planned (p : Plan) (places equated order lines bounds ulines firsts kinds args : List ℕ) : Type 0 where
+  pub units : List TextUnit
   pub unresolved : List ℕ
-  pub laid : Laid statements kinds unresolved lines bounds
-  pub few : ltb mostDefinitions (length (definitions statements)) ≡ false
-  pub clean : modelFaults statements ≡ []
+  pub ubounds : List ℕ
+  pub laid : UnitsLaid units kinds unresolved lines bounds ulines ubounds firsts
+  pub few : length (definitions units) ≤ mostDefinitions
+  pub clean : modelFaults units ≡ []
   pub args-resolved : args ≡ resolved (keysIn kinds unresolved) kinds unresolved
   pub definitions-counted : p .definitions ≡ length (placesIn kinds)
-  pub equations-counted : p .equations ≡ length (equatedIn (length lines) bounds kinds)
-  pub short : length lines ≤ mostStatements
+  pub units-counted : p .units ≡ length (orderedIn (length ulines) ubounds kinds)
+  pub short : length ulines ≤ mostStatements
   pub places-held : places ≡ padded mostDefinitions (placesIn kinds)
-  pub equated-held : equated ≡ padded mostStatements (equatedIn (length lines) bounds kinds)
-  pub order-held : order ≡ padded mostStatements (orderOf (definitions statements))
+  pub equated-held : equated ≡ padded mostStatements (orderedIn (length ulines) ubounds kinds)
+  pub order-held : order ≡ padded mostStatements (orderOf units)
 
--- the first lines of the ordered statements: order gives places in equated, and these the statements
+-- the first lines of the ordered units: order gives places in equated, and these the units
 abbrev pub orderedLines : List ℕ → List ℕ → List ℕ → List ℕ
 orderedLines equated lines order = map (λ (r : ℕ). getD lines (getD equated r 0) 0) order
 
--- the answer r and the buffers f′, p′ and o′ are what the verdict on the model of the statements gives for the buffers
--- f, p and o
+-- the answer r and the buffers f′, p′ and o′ are what the verdict on the model of units gives for the buffers f, p and
+-- o
+abbrev pub UnitsConclude : List TextUnit → List ℕ → List ℕ → List ℕ → Ordered → List ℕ → List ℕ → List ℕ → Type 0
+UnitsConclude us f p o r f′ p′ o′ =
+    orderedReply r f′ p′ o′ ≡ orderedReplyOf (ifFaults 7 (modelFaults us) (programmed (length p) us)) f p o
+
+-- and on that of statements
 abbrev pub Concludes : List Numbered → List ℕ → List ℕ → List ℕ → Ordered → List ℕ → List ℕ → List ℕ → Type 0
 Concludes ss f p o r f′ p′ o′ = orderedReply r f′ p′ o′ ≡ orderedReplyOf (modelled (length p) ss) f p o
 

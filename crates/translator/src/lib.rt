@@ -32,10 +32,10 @@ pub enum Verdict {
     Translated(usize),
 }
 
-// A verdict, and for 0 how many statements are ordered.
+// A verdict, and for 0 how many units are ordered: single statements and blocks.
 pub struct Ordered {
     pub verdict: Verdict,
-    pub statements: usize,
+    pub units: usize,
 }
 
 // What reading one statement gives: the place behind its drafts, or its fault.
@@ -266,7 +266,7 @@ fn read_all(
 // ---- the entries
 
 // The verdict on a text: its number, the count, and the fault list or the program written to the front of what is lent;
-// and the order of its statements, handed out by their first lines. Few bytes or few lines have few statements, which
+// and the order of its units, handed out by their first lines. Few bytes or few lines have few statements, which
 // are not counted then.
 pub fn translate_in_order(
     text: &[u8],
@@ -280,13 +280,13 @@ pub fn translate_in_order(
     if faults.len() < FAULT_ROOM {
         return Ordered {
             verdict: Verdict::Refused(1),
-            statements: 0,
+            units: 0,
         };
     }
     if TEXT_BYTES < text.len() {
         return Ordered {
             verdict: Verdict::Refused(2),
-            statements: 0,
+            units: 0,
         };
     }
     if text.len() <= room::SMALL {
@@ -299,13 +299,13 @@ pub fn translate_in_order(
     if TEXT_LINES < sizes.lines {
         return Ordered {
             verdict: Verdict::Refused(3),
-            statements: 0,
+            units: 0,
         };
     }
     if STATEMENTS < sizes.statements {
         return Ordered {
             verdict: Verdict::Refused(4),
-            statements: 0,
+            units: 0,
         };
     }
     room::in_large_room(text, faults, program, ordered)

@@ -44,7 +44,7 @@ fn decide(
     if 0 < n.faults {
         return Ordered {
             verdict: Verdict::Faulty(5, n.faults),
-            statements: 0,
+            units: 0,
         };
     }
     let s = n.statements;
@@ -52,7 +52,7 @@ fn decide(
     conclude(
         &lines[..s],
         &bounds[..s + 1],
-        &kinds[..d],
+        &mut kinds[..d],
         &mut args[..d],
         used,
         faults,

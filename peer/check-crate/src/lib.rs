@@ -3,6 +3,7 @@
 
 #![forbid(unsafe_code)]
 
+pub mod blocks;
 pub mod library;
 pub mod programs;
 pub mod random;

@@ -207,6 +207,8 @@ fn statement(random: &mut Random, records: &mut Vec<Record>, set: &[u16], pushes
 
 /// The number of rules that `broken` can break.
 const RULES: usize = 22;
+/// The one of kind 15 for a slot that no kind 13 set: many in one.
+const AGAIN_UNSET: usize = 19;
 
 /// An accepted program with exactly one rule broken somewhere.
 fn broken(random: &mut Random) -> Vec<u8> {
@@ -214,7 +216,11 @@ fn broken(random: &mut Random) -> Vec<u8> {
     if program.records.is_empty() || program.unset.len() < 3 {
         return pack(&program.records);
     }
-    let rule = random.below(RULES);
+    let rule = if random.once_in(10) {
+        AGAIN_UNSET
+    } else {
+        random.below(RULES)
+    };
     break_rule(random, &mut program, rule);
     pack(&program.records)
 }
@@ -223,6 +229,20 @@ fn broken(random: &mut Random) -> Vec<u8> {
 fn place(random: &mut Random, records: &[Record], fits: impl Fn(&Record) -> bool) -> Option<usize> {
     let places: Vec<usize> = (0..records.len()).filter(|&i| fits(&records[i])).collect();
     (!places.is_empty()).then(|| random.pick(&places))
+}
+
+/// The same, every other time a record of kind 15 if there is any.
+fn often_again(
+    random: &mut Random,
+    records: &[Record],
+    fits: impl Fn(&Record) -> bool,
+) -> Option<usize> {
+    let again = if random.once_in(2) {
+        place(random, records, |r| r.kind == 15)
+    } else {
+        None
+    };
+    again.or_else(|| place(random, records, fits))
 }
 
 /// Breaks one rule if the program has a place for it.
@@ -237,8 +257,11 @@ fn break_rule(random: &mut Random, program: &mut Accepted, rule: usize) {
     match rule {
         // Unknown kind.
         0 => records[any].kind = random.pick(&[0, 16, 17, 31, 128, 255]),
-        // Byte 1 not 0.
-        1 => records[any].one = random.pick(&[1, 2, 128, 255]),
+        // Byte 1 not 0, often of kind 15.
+        1 => {
+            let at = often_again(random, records, |_| true).unwrap_or(any);
+            records[at].one = random.pick(&[1, 2, 128, 255]);
+        }
         // An unused operand not 0.
         2 => {
             if let Some(at) = place(random, records, |r| {
@@ -249,13 +272,14 @@ fn break_rule(random: &mut Random, program: &mut Accepted, rule: usize) {
         }
         // An unused value not 0.
         3 => {
-            if let Some(at) = place(random, records, |r| r.kind >= 4) {
+            if let Some(at) = often_again(random, records, |r| r.kind >= 4) {
                 records[at].bits = 1 << random.below(64);
             }
         }
         // Slot over 255.
         4 => {
-            if let Some(at) = place(random, records, |r| matches!(r.kind, 1 | 2 | 4 | 13..=15)) {
+            let has_slot = |r: &Record| matches!(r.kind, 1 | 2 | 4 | 13..=15);
+            if let Some(at) = often_again(random, records, has_slot) {
                 records[at].operand += random.pick(&[256, 512, 0x8000, 0xff00]);
             }
         }
@@ -380,7 +404,7 @@ fn break_rule(random: &mut Random, program: &mut Accepted, rule: usize) {
             }
         }
         // Kind 15 for a slot that no kind 13 set, or only a later one.
-        19 => {
+        AGAIN_UNSET => {
             if let Some(at) = place(random, records, |r| r.kind >= 13) {
                 let operand_of = |kind: u8, random: &mut Random, part: &[Record]| {
                     place(random, part, |r| r.kind == kind).map_or(fresh, |i| part[i].operand)

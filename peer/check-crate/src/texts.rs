@@ -1,19 +1,20 @@
 //! Texts on which the two translators are compared: valid decks, decks near
 //! each limit, decks damaged in every way that the paper names, and raw bytes.
 
+use crate::blocks;
 use crate::random::Random;
 
 /// The tokens of one statement.
-type Tokens = Vec<String>;
+pub(crate) type Tokens = Vec<String>;
 
-const RESERVED: [&str; 8] = [
-    "CONST", "PARAM", "INCON", "INTGRL", "TIME", "INSW", "LIMIT", "COMPAR",
+const RESERVED: [&str; 10] = [
+    "CONST", "PARAM", "INCON", "INTGRL", "TIME", "INSW", "LIMIT", "COMPAR", "PROCED", "ENDPRO",
 ];
 const ALPHABET: &[u8] = b"ABCDEIKLMNOPRSTWXZ0123456789.. =(),+-*/ \n\n";
 
 /// A text of a random family.
 pub fn text(random: &mut Random) -> Vec<u8> {
-    match random.below(46) {
+    match random.below(76) {
         0..=4 => valid(random, Size::Small),
         5 => valid(random, Size::Large),
         6..=10 => damaged(random),
@@ -37,13 +38,20 @@ pub fn text(random: &mut Random) -> Vec<u8> {
         39 => tiny(random),
         41 => each_byte(random),
         44 | 45 => dense(random),
+        46..=75 => blocks::text(random),
         _ => tricky(random),
     }
 }
 
+/// Whether headers or ends of blocks may stand in a text.
+pub fn has_blocks(text: &[u8]) -> bool {
+    let stands = |word: &[u8]| text.windows(word.len()).any(|part| part == word);
+    stands(b"PROCED") || stands(b"ENDPRO")
+}
+
 /// How big a deck is wanted.
 #[derive(Clone, Copy)]
-enum Size {
+pub(crate) enum Size {
     Small,
     Large,
 }
@@ -51,7 +59,7 @@ enum Size {
 // Names and numbers.
 
 /// A name that is no reserved word.
-fn name(random: &mut Random) -> String {
+pub(crate) fn name(random: &mut Random) -> String {
     loop {
         let length = random.pick(&[1, 1, 2, 2, 3, 4, 5, 6, 6]);
         let mut name = String::new();
@@ -67,10 +75,10 @@ fn name(random: &mut Random) -> String {
 }
 
 /// Names all different, at times close to reserved words.
-fn different_names(random: &mut Random, count: usize) -> Vec<String> {
-    const NEAR: [&str; 12] = [
+pub(crate) fn different_names(random: &mut Random, count: usize) -> Vec<String> {
+    const NEAR: [&str; 16] = [
         "CONSTS", "CONS", "PARAMS", "INCO", "INTGR", "TIMES", "TIM", "INSW1", "LIMITS", "COMPA",
-        "E", "E5",
+        "E", "E5", "PROCE", "PROCES", "ENDPR", "ENDPR0",
     ];
     let mut seen = std::collections::HashSet::new();
     let mut names = Vec::new();
@@ -88,7 +96,7 @@ fn different_names(random: &mut Random, count: usize) -> Vec<String> {
 }
 
 /// A number in range.
-fn number(random: &mut Random) -> String {
+pub(crate) fn number(random: &mut Random) -> String {
     loop {
         let text = match random.below(8) {
             0..=2 => random.below(10).to_string(),
@@ -217,7 +225,7 @@ impl Maker<'_> {
 }
 
 /// An expression over some names.
-fn expression(random: &mut Random, names: &[String], leaves: usize) -> Tokens {
+pub(crate) fn expression(random: &mut Random, names: &[String], leaves: usize) -> Tokens {
     let mut maker = Maker {
         random,
         names,
@@ -228,7 +236,7 @@ fn expression(random: &mut Random, names: &[String], leaves: usize) -> Tokens {
 }
 
 /// Owned tokens of a list.
-fn tokens(list: &[&str]) -> Tokens {
+pub(crate) fn tokens(list: &[&str]) -> Tokens {
     list.iter().map(|token| token.to_string()).collect()
 }
 
@@ -243,7 +251,7 @@ struct Deck {
 }
 
 /// A constants statement.
-fn constants(random: &mut Random, names: &[String]) -> Tokens {
+pub(crate) fn constants(random: &mut Random, names: &[String]) -> Tokens {
     let mut list = tokens(&[random.pick(&["CONST", "PARAM", "INCON"])]);
     for (i, name) in names.iter().enumerate() {
         if i > 0 {
@@ -259,14 +267,19 @@ fn constants(random: &mut Random, names: &[String]) -> Tokens {
 }
 
 /// An assignment.
-fn assignment(random: &mut Random, name: &str, uses: &[String], leaves: usize) -> Tokens {
+pub(crate) fn assignment(
+    random: &mut Random,
+    name: &str,
+    uses: &[String],
+    leaves: usize,
+) -> Tokens {
     let mut list = tokens(&[name, "="]);
     list.extend(expression(random, uses, leaves));
     list
 }
 
 /// A state statement, its initial value at times one of the constants.
-fn state(
+pub(crate) fn state(
     random: &mut Random,
     name: &str,
     constants: &[String],
@@ -420,7 +433,7 @@ fn filler(random: &mut Random) -> String {
 
 /// Lays a deck out. Statements that do not fit four lines are left out,
 /// unless they are wanted.
-fn lay_out(random: &mut Random, statements: &[Tokens], keep_long: bool) -> Vec<u8> {
+pub(crate) fn lay_out(random: &mut Random, statements: &[Tokens], keep_long: bool) -> Vec<u8> {
     let style = style(random);
     let mut text = String::new();
     for list in statements {
@@ -505,7 +518,7 @@ fn damage_bytes(random: &mut Random, text: &mut Vec<u8>) {
 }
 
 /// A token of any kind, good or bad.
-fn any_token(random: &mut Random) -> String {
+pub(crate) fn any_token(random: &mut Random) -> String {
     match random.below(12) {
         0..=4 => random
             .pick(&["=", "(", ")", ",", "+", "-", "*", "/"])
@@ -524,7 +537,7 @@ fn any_token(random: &mut Random) -> String {
 }
 
 /// Changes some tokens of a deck.
-fn damage_tokens(random: &mut Random, statements: &mut Vec<Tokens>) {
+pub(crate) fn damage_tokens(random: &mut Random, statements: &mut Vec<Tokens>) {
     if statements.is_empty() {
         statements.push(vec![any_token(random)]);
     }
@@ -1054,10 +1067,10 @@ fn runs(random: &mut Random) -> Vec<u8> {
 
 /// Names of five to eight characters and names close to reserved words.
 fn names(random: &mut Random) -> Vec<u8> {
-    const NAMES: [&str; 18] = [
+    const NAMES: [&str; 24] = [
         "ABCDE", "ABCDEF", "ABCDEFG", "ABCDEFGH", "A2345", "A23456", "A234567", "INTGRL",
         "INTGRLS", "COMPAR", "COMPARE", "LIMITS", "CONSTS", "PARAM", "TIME", "TIMES", "INSWS",
-        "XINSW",
+        "XINSW", "PROCED", "PROCEDS", "PROCE", "ENDPRO", "ENDPROC", "ENDPR",
     ];
     let mut text = String::new();
     for _ in 0..random.range(1, 5) {
@@ -1075,11 +1088,11 @@ fn names(random: &mut Random) -> Vec<u8> {
 
 /// Statements of random tokens that mostly begin well.
 fn soup(random: &mut Random) -> Vec<u8> {
-    const COMMON: [&str; 22] = [
+    const COMMON: [&str; 24] = [
         "A", "B", "X1", "1", "2.5", "TIME", "(", ")", "(", ")", ",", ",", "+", "-", "*", "/", "=",
-        "INSW", "LIMIT", "COMPAR", "INTGRL", "CONST",
+        "INSW", "LIMIT", "COMPAR", "INTGRL", "CONST", "PROCED", "ENDPRO",
     ];
-    const BEGINS: [&str; 12] = [
+    const BEGINS: [&str; 17] = [
         "A=",
         "B=",
         "A=INTGRL(",
@@ -1091,6 +1104,11 @@ fn soup(random: &mut Random) -> Vec<u8> {
         "A=INSW(",
         "A=COMPAR(1,",
         "A=LIMIT(1,2,",
+        "PROCED ",
+        "PROCED A",
+        "PROCED A=B",
+        "PROCED A,B=X1(A",
+        "ENDPRO",
         "",
     ];
     let mut text = String::new();

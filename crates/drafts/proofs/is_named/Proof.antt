@@ -1,31 +1,43 @@
 -- Each kind whose argument is a name is told apart.
-use mathlib.Core.Path.{sym, _∙_}
-use borrow.Author.Tests.{eq-eqb, ne-eqb}
-use borrow.Author.Needs.{needs}
-use Rattle.laws.proofs.Tests.{or-left, or-skip}
-use Rattle.drafts.specs.Kinds.{kindFetch, kindRate}
+use borrow.Author.Tests.{ne-eqb}
+use Rattle.drafts.specs.Kinds.{kindConstant, kindInitial, kindFetch, kindStore, kindRate, kindAgain, kindFrom}
+use Rattle.drafts.specs.Kinds.{kindGiven, kindOwn, kindRead, kindOutput, kindInput}
 use Rattle.drafts.proofs.is_named.Statement.{statement}
 use Rattle.drafts.proofs.is_named.Tie as tie
 
-returns : tie.Need-returns
-returns c = sym (or-left _ _ (sym (c .before .is-defining .ensures) ∙ c .if1 .taken))
-
-returns-2 : tie.Need-returns-2
-returns-2 c =
-    let other = sym (c .before .before .is-defining .ensures) ∙ c .before .if1 .left in
-    sym (or-left _ _ (eq-eqb _ kindFetch (c .if2 .taken))) ∙ or-skip other
-
-returns-3 : tie.Need-returns-3
-returns-3 c =
-    let other = sym (c .before .before .before .is-defining .ensures) ∙ c .before .before .if1 .left in
-    sym (or-left _ _ (eq-eqb _ kindRate (c .if3 .taken)))
-    ∙ or-skip (ne-eqb _ kindFetch (c .before .if2 .left))
-    ∙ or-skip other
-
-returns-4 : tie.Need-returns-4
-returns-4 c =
-    let other = sym (c .before .before .before .is-defining .ensures) ∙ c .before .before .if1 .left in
-    or-skip (ne-eqb _ kindRate (c .if3 .left)) ∙ or-skip (ne-eqb _ kindFetch (c .before .if2 .left)) ∙ or-skip other
+-- none of them
+returns-13 : tie.Need-returns-13
+returns-13 c =
+    let none = c .match .rest in
+    rw (
+      ne-eqb _ kindConstant (none .0 .0 .0 .0 .0 .0 .0 .0 .0 .0 .0 .1),
+      ne-eqb _ kindInitial (none .0 .0 .0 .0 .0 .0 .0 .0 .0 .0 .1),
+      ne-eqb _ kindFetch (none .0 .0 .0 .0 .0 .0 .0 .0 .0 .1),
+      ne-eqb _ kindStore (none .0 .0 .0 .0 .0 .0 .0 .0 .1),
+      ne-eqb _ kindRate (none .0 .0 .0 .0 .0 .0 .0 .1),
+      ne-eqb _ kindAgain (none .0 .0 .0 .0 .0 .0 .1),
+      ne-eqb _ kindFrom (none .0 .0 .0 .0 .0 .1),
+      ne-eqb _ kindGiven (none .0 .0 .0 .0 .1),
+      ne-eqb _ kindOwn (none .0 .0 .0 .1),
+      ne-eqb _ kindRead (none .0 .0 .1),
+      ne-eqb _ kindOutput (none .0 .1),
+      ne-eqb _ kindInput (none .1),
+    )
 
 pub is-named-spec : {M : Type 1} → statement M
-is-named-spec = tie.close (tie.spec (λ c κs. search needs) returns returns-2 returns-3 returns-4)
+is-named-spec =
+    tie.close
+    (tie.spec
+    (λ c. rw (c .match .keys1))
+    (λ c. rw (c .match .keys2))
+    (λ c. rw (c .match .keys3))
+    (λ c. rw (c .match .keys4))
+    (λ c. rw (c .match .keys5))
+    (λ c. rw (c .match .keys6))
+    (λ c. rw (c .match .keys7))
+    (λ c. rw (c .match .keys8))
+    (λ c. rw (c .match .keys9))
+    (λ c. rw (c .match .keys10))
+    (λ c. rw (c .match .keys11))
+    (λ c. rw (c .match .keys12))
+    returns-13)

@@ -9,7 +9,7 @@ use Rattle.model.proofs.plan.Tie as tie
 
 -- where the function begins, from where it is known whether they fit
 abbrev S : tie.After-fits2 → tie.Start
-S k = k .before .before .before .before .before .before .before .before .before .before
+S k = k .before .before .before .before .before .before .before .before .before .before .before .before
 
 run-requires : tie.Need-run-requires
 run-requires c κs =
@@ -17,7 +17,8 @@ run-requires c κs =
     let k = test .before in
     let a = S k .args in
     let fitting = sym (k .fits2 .ensures) ∙ test .if1 .taken in
-    fit-sound (a .lines .now) (a .bounds .now) (a .kinds .now) (a .used .now) (a .equated .now) (a .order .now)
+    fit-sound (a .lines .now) (a .bounds .now) (a .ulines .now) (a .ubounds .now) (a .kinds .now) (a .used .now)
+    (a .equated .now) (a .order .now)
     (length (a .args .now)) (length (a .faults .now))
     (length (a .places .now)) fitting
 
@@ -28,14 +29,16 @@ returns c =
     let k = test .before in
     let a = S k .args in
     let fitting = sym (k .fits2 .ensures) ∙ test .if1 .taken in
-    planned-fit (a .lines .now) (a .bounds .now) (a .kinds .now) (a .args .now) (a .used .now) (a .faults .now)
+    planned-fit (a .lines .now) (a .bounds .now) (a .ulines .now) (a .ubounds .now) (a .kinds .now)
+    (a .args .now) (a .used .now) (a .faults .now)
     (lent (a .places .now) (a .equated .now) (a .order .now)) fitting (done .run .ensures)
 
 returns-2 : tie.Need-returns-2
 returns-2 c =
     let k = c .before .before in
     let a = S k .args in
-    planned-unfit (a .lines .now) (a .bounds .now) (a .kinds .now) (a .args .now) (a .used .now) (a .faults .now)
+    planned-unfit (a .lines .now) (a .bounds .now) (a .ulines .now) (a .ubounds .now) (a .kinds .now)
+    (a .args .now) (a .used .now) (a .faults .now)
     (lent (a .places .now) (a .equated .now) (a .order .now)) (sym (k .fits2 .ensures) ∙ c .before .if1 .left)
     (c .refusal .ensures)
 

@@ -26,7 +26,7 @@ returns c =
     let t = c .before .before in
     let q = t .before .before .before .before in
     let p = q .before .before .before .before in
-    let a = p .before .before .before .before .before .before .before .before .before .before .args in
+    let a = p .before .before .before .before .before .before .before .before .before .before .before .args in
     let constants =
     whole-all-settings kindConstant (a .places .now) (a .lines .now) (a .bounds .now) (a .kinds .now) (a .slots .now) in
     let initials =

@@ -1,8 +1,9 @@
 use mathlib.Core.Path.{_≡_}
 use borrow.Author.Needs.{needs}
+use Rattle.drafts.specs.Kinds.{stepKind}
 use Rattle.program.specs.Written.{fieldBytes, stepBytes}
 use Rattle.program.proofs.RoomFilled.{fill-as, fill-none}
-use Rattle.program.proofs.StepCases.{step-value, step-clock, step-below, step-above, step-plain}
+use Rattle.program.proofs.StepCases.{step-value, step-clock, step-below, step-above, step-from, step-plain}
 use Rattle.program.proofs.put_step.Statement.{statement}
 use Rattle.program.proofs.put_step.Tie as tie
 
@@ -32,16 +33,26 @@ returns-4 c =
     fill-none (a .w) (a .out .now)
     (step-above (a .kind) (a .arg) (a .line) (t .before .if1 .left) (t .if2 .left) (c .if4 .taken))
 
--- behind all tests the kind is one that is written as it is
-plain : (c : tie.Else4) → let a = c .before .before .before .before .before .args in
-    stepBytes (a .kind) (a .arg) (a .line) ≡ fieldBytes (a .kind) (a .arg) (a .line) 0
-plain c =
-    let t = c .before .before in
-    let a = t .before .before .before .args in
-    step-plain (a .kind) (a .arg) (a .line) (t .before .if1 .left) (t .if2 .left) (c .before .if3 .left) (c .if4 .left)
-
 returns-5 : tie.Need-returns-5
-returns-5 c = fill-as (plain (c .before .before .before .before)) (c .before .before .put-record3 .ensures)
+returns-5 c =
+    let t = c .before .before .before in
+    let a = t .before .before .before .args in
+    fill-none (a .w) (a .out .now)
+    (step-from (a .kind) (a .arg) (a .line) (t .before .if1 .left) (t .if2 .left) (c .if5 .taken))
+
+-- behind all tests the kind is one that is written
+written : (c : tie.Else5) → let a = c .before .before .before .before .before .before .args in
+    stepBytes (a .kind) (a .arg) (a .line) ≡ fieldBytes (stepKind (a .kind)) (a .arg) (a .line) 0
+written c =
+    let t = c .before .before .before in
+    let a = t .before .before .before .args in
+    step-plain (a .kind) (a .arg) (a .line) (t .before .if1 .left) (t .if2 .left) (c .before .before .if3 .left)
+    (c .before .if4 .left) (c .if5 .left)
+
+returns-6 : tie.Need-returns-6
+returns-6 c =
+    let k = c .before .before .before .before in
+    fill-as (written (k .before)) (rw (← (k .step-kind .ensures)) (c .before .before .put-record3 .ensures))
 
 pub put-step-spec : {M : Type 1} → statement M
 put-step-spec =
@@ -55,6 +66,8 @@ put-step-spec =
     returns-2
     returns-3
     returns-4
+    returns-5
+    (λ c κs. search needs)
     (λ c κs. search needs)
     (λ c. search needs)
-    returns-5)
+    returns-6)

@@ -106,6 +106,7 @@ fn cases() -> Vec<Case> {
         translate_case("translate: 255 long expressions", long_deck()),
         translate_case("translate: reversed chain of 255", reversed_chain()),
         translate_case("translate: fault in each of 256 statements", faulty_deck()),
+        translate_case("translate: blocks", blocks_deck()),
         evaluate_case("evaluate: tank", tank_program.clone()),
         evaluate_case(&format!("evaluate: {records} records"), wide.clone()),
         step_case("step: tank", tank_program),
@@ -281,6 +282,66 @@ fn faulty_deck() -> Vec<u8> {
         ));
     }
     text.into_bytes()
+}
+
+/// The zones of the furnace, a block for each.
+const ZONES: usize = 22;
+
+/// A furnace of many zones, just 16,384 bytes: each zone is a block of five to
+/// ten assignments that takes the heat of the one before it. The zones do not
+/// stand in the order of their uses.
+fn blocks_deck() -> Vec<u8> {
+    let mut text = String::from(
+        "CONST CALORI=38.5,DRAFTK=0.35,AIRRAT=14.2,LEAKCO=0.018,RADIAT=5.67E-3\n\
+         CONST CONVEC=12.5,AMBIEN=293.15,HEATMX=4500.0,MASSCP=820.0\n\
+         PARAM SETPNT=1450.0,GAINFB=0.02,FUELLO=0.05,FUELHI=3.5,RAMPUP=600.0\n\
+         INCON START0=300.0\n\
+         SUPPLY=INSW(TIME-60.0,AMBIEN,AMBIEN+150.0)*DRAFTK\n",
+    );
+    for place in 0..ZONES {
+        zone(&mut text, place * 9 % ZONES);
+    }
+    let room = 16_384 - text.len();
+    text.push_str(&format!("*{}\n", "-".repeat(room - 2)));
+    assert_eq!(text.len(), 16_384);
+    program_of(text.as_bytes());
+    text.into_bytes()
+}
+
+/// Adds one zone: its fuel, its block and its temperature.
+fn zone(text: &mut String, zone: usize) {
+    let z = format!("{zone:02}");
+    let before = match zone.checked_sub(1) {
+        Some(last) => format!("HEAT{last:02}"),
+        None => "SUPPLY".into(),
+    };
+    let mut lines = vec![
+        format!("* ZONE {z}: BURNER, GAS, WALL, AND WHAT IT HANDS ON TO THE NEXT ZONE"),
+        format!("FUEL{z}=LIMIT(FUELLO,FUELHI,GAINFB*(SETPNT-TEMP{z})+FUELLO*2.0)"),
+        format!("PROCED HEAT{z},LOSS{z}=ZONE{z}(FUEL{z},{before})"),
+        format!("   FLAM{z}=FUEL{z}*CALORI*LIMIT(0.0,1.0,TIME/RAMPUP)-TEMP{z}/1000.0"),
+        format!("   GASS{z}=(FLAM{z}+{before}*DRAFTK)/(1.0+FUEL{z}*AIRRAT*0.01)"),
+        format!("   HEAT{z}=CONVEC*(GASS{z}-TEMP{z})+RADIAT*(FLAM{z}-GASS{z}/4.0)"),
+        format!("   LOSS{z}=COMPAR(TEMP{z},AMBIEN)*LEAKCO*(TEMP{z}-AMBIEN)*1.25E-2"),
+        format!("   HEAT{z}=HEAT{z}-LIMIT(0.0,HEATMX,LOSS{z}+(GASS{z}-AMBIEN)*0.5)"),
+    ];
+    let more = [
+        format!("   WALL{z}=INSW(GASS{z}-TEMP{z},-LEAKCO*(TEMP{z}-AMBIEN),RADIAT)"),
+        format!("   LOSS{z}=LOSS{z}+WALL{z}*(1.0-DRAFTK)/2.0"),
+        format!("   WALL{z}=LIMIT(-HEATMX,HEATMX,WALL{z}*RADIAT+LOSS{z}-FLAM{z}/8.0)"),
+        format!("   FLAM{z}=FLAM{z}-WALL{z}*0.0625+COMPAR(FLAM{z},GASS{z})*TIME*1E-3"),
+        format!("   HEAT{z}=(HEAT{z}*3.0+FLAM{z}+..."),
+    ];
+    lines.extend_from_slice(&more[..zone % 6]);
+    if zone % 6 == 5 {
+        lines.push(format!("      WALL{z}*(GASS{z}-{before}))/(4.0+RADIAT)"));
+    }
+    lines.push("ENDPRO".into());
+    lines.push(format!(
+        "TEMP{z}=INTGRL(START0,(HEAT{z}-LOSS{z}+{before}*0.5)/MASSCP)"
+    ));
+    text.push_str(&lines.join("\n"));
+    text.push('\n');
 }
 
 /// A deck whose program has about 300 records.

@@ -19,9 +19,25 @@ const MARGIN: usize = 64;
 struct Counts {
     verdicts: BTreeMap<u32, u64>,
     faults: BTreeMap<u8, u64>,
+    /// The same of texts with blocks: verdict 0 under 0, and fault codes.
+    with_blocks: BTreeMap<u8, u64>,
     answers: BTreeMap<u32, u64>,
     reasons: BTreeMap<Reason, u64>,
+    /// Reasons for which a record of kind 15 was bad.
+    again: BTreeMap<Reason, u64>,
 }
+
+/// Why a record of kind 15 may be bad.
+const AGAIN: [Reason; 8] = [
+    Reason::ByteOne,
+    Reason::UnusedField,
+    Reason::SlotOver255,
+    Reason::AgainCount,
+    Reason::AgainUnset,
+    Reason::AgainTime,
+    Reason::AgainConstant,
+    Reason::AgainState,
+];
 
 fn main() -> ExitCode {
     let mut arguments = std::env::args()
@@ -65,14 +81,22 @@ fn report(counts: &Counts) -> bool {
     for number in 0..=8 {
         line(format!("verdict {number}"), counts.verdicts.get(&number));
     }
-    for code in (11..=19).chain(21..=24) {
+    for code in (11..=19).chain(21..=26) {
         line(format!("fault {code}"), counts.faults.get(&code));
+    }
+    let with_blocks = &counts.with_blocks;
+    line("verdict 0 with blocks".into(), with_blocks.get(&0));
+    for code in 21..=26 {
+        line(format!("fault {code} with blocks"), with_blocks.get(&code));
     }
     for number in 0..=4 {
         line(format!("answer {number}"), counts.answers.get(&number));
     }
     for reason in Reason::ALL {
         line(format!("{reason:?}"), counts.reasons.get(&reason));
+    }
+    for reason in AGAIN {
+        line(format!("{reason:?} of kind 15"), counts.again.get(&reason));
     }
     complete
 }
@@ -127,8 +151,15 @@ fn check_text(seed: u64, case: u64, counts: &mut Counts) -> bool {
     let ours = run_text(peer::translate, &text, rooms, pattern);
     let theirs = run_text(library::translate, &text, rooms, pattern);
     *counts.verdicts.entry(ours.0.number).or_default() += 1;
+    let blocks = texts::has_blocks(&text);
+    if blocks && ours.0.number == 0 {
+        *counts.with_blocks.entry(0).or_default() += 1;
+    }
     for code in fault_codes(&ours) {
         *counts.faults.entry(code).or_default() += 1;
+        if blocks {
+            *counts.with_blocks.entry(code).or_default() += 1;
+        }
     }
     if ours == theirs {
         return false;
@@ -302,6 +333,10 @@ fn check_program(seed: u64, case: u64, counts: &mut Counts) -> bool {
     *counts.answers.entry(number).or_default() += 1;
     if let (3 | 4, Err(refusal)) = (number, peer::judge_reason(&program)) {
         *counts.reasons.entry(refusal.reason).or_default() += 1;
+        let kind = refusal.record.map(|record| program[record as usize * 16]);
+        if kind == Some(15) {
+            *counts.again.entry(refusal.reason).or_default() += 1;
+        }
     }
     if ours == theirs {
         return false;

@@ -2,7 +2,8 @@
 use native.Mathlib.Omega.{arith}
 use borrow.Author.Needs.{needs}
 use Rattle.grammar.proofs.Statements.{begins-none, words-enter, begins-words, first-inside, begins-shut}
-use Rattle.grammar.proofs.Statements.{state-enter, begins-state, assign-enter, begins-assignment}
+use Rattle.grammar.proofs.Statements.{state-enter, begins-state, assign-enter, begins-assignment, header-enter}
+use Rattle.grammar.proofs.Statements.{begins-header, ending-room, begins-ending}
 use Rattle.grammar.proofs.forms.any_statement.Statement.{statement}
 use Rattle.grammar.proofs.forms.any_statement.Tie as tie
 
@@ -83,27 +84,69 @@ returns-3 c =
     (at-if2 .if2 .left) (at-byte-at3 .byte-at3 .ensures)
     (at-if3 .if3 .left) (at-assignment .assignment .ensures)
 
-returns-4 : tie.Need-returns-4
-returns-4 c =
-    let at-if1 = c .before in
-    let at-byte-at = at-if1 .before in
-    let start = at-byte-at .before .before .before .before .before in
-    begins-none (start .pre) (at-byte-at .byte-at .ensures) (at-if1 .if1 .left) (c .if4 .taken)
-
-constants-requires : tie.Need-constants-requires
-constants-requires c κs =
+header-requires : tie.Need-header-requires
+header-requires c κs =
     let at-if4 = c .before .before in
     let at-byte-at = at-if4 .before .before in
     let start = at-byte-at .before .before .before .before .before in
-    words-enter (start .pre) (at-byte-at .byte-at .ensures) (at-if4 .if4 .left)
+    header-enter (start .pre) (at-byte-at .byte-at .ensures) (at-if4 .if4 .taken)
+
+returns-4 : tie.Need-returns-4
+returns-4 c =
+    let at-header = c .before .before .before .before in
+    let at-if4 = at-header .before .before .before in
+    let at-byte-at = at-if4 .before .before in
+    let start = at-byte-at .before .before .before .before .before in
+    begins-header (start .pre) (at-byte-at .byte-at .ensures) (at-if4 .if4 .taken) (at-header .header .ensures)
+
+emit-requires : tie.Need-emit-requires
+emit-requires c κs =
+    let at-if5 = c .before .before in
+    let at-byte-at = at-if5 .before .before .before in
+    let start = at-byte-at .before .before .before .before .before in
+    ending-room (start .pre) (at-byte-at .byte-at .ensures) (at-if5 .if5 .taken)
+
+add-t31 : tie.Need-add-t31
+add-t31 c =
+    let at-if5 = c .before .before .before .before .before .before .before in
+    let at-byte-at = at-if5 .before .before .before in
+    let start = at-byte-at .before .before .before .before .before in
+    let h = ending-room (start .pre) (at-byte-at .byte-at .ensures) (at-if5 .if5 .taken) in
+    omega (arith, start .good)
 
 returns-5 : tie.Need-returns-5
 returns-5 c =
-    let at-constants = c .before .before .before .before in
-    let at-if4 = at-constants .before .before .before in
-    let at-byte-at = at-if4 .before .before in
+    let at-emit = c .before .before .before .before in
+    let at-if5 = at-emit .before .before .before in
+    let at-byte-at = at-if5 .before .before .before in
     let start = at-byte-at .before .before .before .before .before in
-    begins-words (start .pre) (at-byte-at .byte-at .ensures) (at-if4 .if4 .left) (at-constants .constants .ensures)
+    begins-ending (start .pre) (at-byte-at .byte-at .ensures) (at-if5 .if5 .taken) (at-emit .emit .ensures .0)
+    (at-emit .emit .ensures .1)
+
+returns-6 : tie.Need-returns-6
+returns-6 c =
+    let at-if5 = c .before in
+    let at-if4 = at-if5 .before in
+    let at-if1 = at-if4 .before in
+    let at-byte-at = at-if1 .before in
+    let start = at-byte-at .before .before .before .before .before in
+    begins-none (start .pre) (at-byte-at .byte-at .ensures) (at-if1 .if1 .left) (at-if4 .if4 .left) (at-if5 .if5 .left)
+    (c .if6 .taken)
+
+constants-requires : tie.Need-constants-requires
+constants-requires c κs =
+    let at-if6 = c .before .before in
+    let at-byte-at = at-if6 .before .before .before .before in
+    let start = at-byte-at .before .before .before .before .before in
+    words-enter (start .pre) (at-byte-at .byte-at .ensures) (at-if6 .if6 .left)
+
+returns-7 : tie.Need-returns-7
+returns-7 c =
+    let at-constants = c .before .before .before .before in
+    let at-if6 = at-constants .before .before .before in
+    let at-byte-at = at-if6 .before .before .before .before in
+    let start = at-byte-at .before .before .before .before .before in
+    begins-words (start .pre) (at-byte-at .byte-at .ensures) (at-if6 .if6 .left) (at-constants .constants .ensures)
 
 pub any-statement-spec : {M : Type 1} → statement M
 any-statement-spec =
@@ -112,4 +155,6 @@ any-statement-spec =
     (λ c κs. search needs) shared-slice-read-state state-requires
     (λ c. search needs) (λ c. search needs) returns-2 shared-slice-read-assignment assignment-requires
     (λ c. search needs) (λ c. search needs)
-    returns-3 returns-4 constants-requires (λ c. search needs) (λ c. search needs) returns-5)
+    returns-3 header-requires (λ c. search needs) (λ c. search needs) returns-4 emit-requires add-t31
+    (λ c. search needs) (λ c. search needs)
+    returns-5 returns-6 constants-requires (λ c. search needs) (λ c. search needs) returns-7)

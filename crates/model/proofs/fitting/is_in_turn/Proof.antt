@@ -1,7 +1,7 @@
 -- The three tests one after the other.
 use mathlib.Core.Path.{sym, _∙_}
 use borrow.Author.Tests.{eq-eqb, ne-eqb}
-use Rattle.model.specs.Plan.{inTurn}
+use Rattle.blocks.specs.Grouped.{inTurn}
 use Rattle.model.proofs.fitting.is_in_turn.Statement.{statement}
 use Rattle.model.proofs.fitting.is_in_turn.Tie as tie
 

@@ -9,7 +9,7 @@ use borrow.Author.Needs.{needs}
 use Rattle.laws.specs.Places.{anyIn}
 use Rattle.laws.proofs.Gathers.{any-stop, any-pass, any-done}
 use Rattle.drafts.specs.Places.{begins, ends}
-use Rattle.model.specs.Plan.{falls}
+use Rattle.blocks.specs.Grouped.{falls}
 use Rattle.model.proofs.fitting.is_rising.Statement.{statement}
 use Rattle.model.proofs.fitting.is_rising.Tie as tie
 

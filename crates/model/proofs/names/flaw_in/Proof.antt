@@ -3,7 +3,6 @@ use Prim.Native.Nat.{_-_}
 use mathlib.Core.Path.{sym, _∙_}
 use mathlib.Core.Logic.{⊎-elim}
 use borrow.Author.Needs.{needs}
-use lib.ListN.{length}
 use Rattle.model.specs.Places.{undefinedAt, unfitAt}
 use Rattle.model.proofs.NamesResolved.{undefined-read, unfit-read, Seeking, seeking-first, seeking-found}
 use Rattle.model.proofs.NamesResolved.{seeking-unfit, seeking-pass, seeking-last}
@@ -12,7 +11,7 @@ use Rattle.model.proofs.names.flaw_in.Tie as tie
 
 abbrev Inv-loop : tie.InvT-loop
 Inv-loop places kinds slots from end flaw₀ i₀ flaw i =
-    Seeking (undefinedAt (length places) kinds slots) (unfitAt places kinds slots) end from i flaw
+    Seeking (undefinedAt places kinds slots) (unfitAt places kinds slots) end from i flaw
 
 abbrev μ-loop : tie.MeasureT-loop
 μ-loop places kinds slots from end flaw₀ i₀ flaw i = end - i
@@ -26,7 +25,9 @@ returns c =
     let test = read .before .before in
     let s = test .before .before .before .before .before in
     let undefined =
-    sym (undefined-read (length (s .args .places .now)) (read .before .byte-at .ensures) (read .word-at .ensures)) in
+    sym
+    (undefined-read (s .args .places .now) (s .args .kinds .now) (read .before .byte-at .ensures)
+    (read .word-at .ensures)) in
     seeking-found (test .before .loop .inv) (test .loop-test .taken)
     (undefined ∙ sym (c .before .is-undefined .ensures) ∙ c .if1 .taken)
 
@@ -36,7 +37,9 @@ loop-again c =
     let test = read .before .before in
     let s = test .before .before .before .before .before in
     let undefined =
-    sym (undefined-read (length (s .args .places .now)) (read .before .byte-at .ensures) (read .word-at .ensures)) in
+    sym
+    (undefined-read (s .args .places .now) (s .args .kinds .now) (read .before .byte-at .ensures)
+    (read .word-at .ensures)) in
     let unfit =
     sym
     (unfit-read (s .args .places .now) (s .args .kinds .now) (read .before .byte-at .ensures)

@@ -23,8 +23,8 @@ loop-holds c =
     let s = c .before .before .before .before .before .before .before .before .before .before .before in
     stating-first (s .args .places .now) (s .args .starts .now) (s .pre .1)
 
-is-equation-requires : tie.Need-is-equation-requires Inv-loop μ-loop
-is-equation-requires c κs =
+is-ordered-requires : tie.Need-is-ordered-requires Inv-loop μ-loop
+is-ordered-requires c κs =
     let at = c .before in
     let s = at .before .before .before .before .before .before .before .before .before .before .before .before in
     omega (arith, c .loop-test .taken, s .pre .1 .sound .few)
@@ -76,7 +76,7 @@ loop-again c =
     let at = test .before in
     let s = at .before .before .before .before .before .before .before .before .before .before .before .before in
     stating-next (s .args .places .now) (s .args .starts .now) (s .pre .1) (at .loop .inv) (test .loop-test .taken)
-    (equation .is-equation .ensures) refl
+    (equation .is-ordered .ensures) refl
     (put .put-if .ensures) (known .all-or-none .ensures .0) (end .before .short-at .ensures .0)
     (end .short-at2 .ensures .0) (search needs)
     (done .resolve-in .ensures .0) (done .resolve-in .ensures .1)
@@ -108,7 +108,7 @@ resolve-spec =
     Inv-loop
     μ-loop
     loop-holds
-    is-equation-requires
+    is-ordered-requires
     put-if-requires
     (λ c κs. search needs)
     slice-aggregate-resolve-in

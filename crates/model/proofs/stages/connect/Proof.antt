@@ -1,27 +1,27 @@
--- The equations are held in an array, the owners of their slots noted, and the names resolved.
+-- The units of the order are held in an array, the owners of their slots noted, and the names resolved.
 use mathlib.Core.Path.{refl}
 use native.Mathlib.Omega.{arith}
 use borrow.Author.Needs.{needs}
 use lib.ListN.{length}
-use Rattle.model.specs.Places.{equatedIn}
+use Rattle.model.specs.Places.{orderedIn}
 use Rattle.model.specs.Working.{Holds}
 use Rattle.model.proofs.PlanStages.{equated-few, holds-put, holds-front, linkable}
 use Rattle.model.proofs.stages.connect.Statement.{statement}
 use Rattle.model.proofs.stages.connect.Tie as tie
 
--- where the function begins, from where the equations are written
-abbrev S : tie.After-collect-equated → tie.Start
+-- where the function begins, from where these are written
+abbrev S : tie.After-collect-ordered → tie.Start
 S k =
     let near = k .before .before .before .before .before .before .before in
     near .before .before .before .before .before .before
 
 -- they are held
-held : (k : tie.After-collect-equated) → Holds (k .collect-equated .last .1 .1 .1 .0) (k .collect-equated .result)
-    (equatedIn (length (S k .args .lines .now)) (S k .args .bounds .now) (S k .args .kinds .now))
+held : (k : tie.After-collect-ordered) → Holds (k .collect-ordered .last .1 .1 .1 .0) (k .collect-ordered .result)
+    (orderedIn (length (S k .args .lines .now)) (S k .args .bounds .now) (S k .args .kinds .now))
 held k =
     let s = S k in
     let few = equated-few (length (s .args .lines .now)) (s .args .bounds .now) (s .args .kinds .now) in
-    holds-put (k .collect-equated .ensures) (omega (arith, few, s .pre .0 .sound .few, s .pre .2))
+    holds-put (k .collect-ordered .ensures) (omega (arith, few, s .pre .0 .sound .few, s .pre .2))
 
 slice-reshare-prefix-note-owners : tie.Need-slice-reshare-prefix-note-owners
 slice-reshare-prefix-note-owners c = held (c .before .before) .room
@@ -53,7 +53,7 @@ returns c =
     let done = c .before .before .before .before .before .before in
     let k = done .before .before .before .before .before .before .before .before .before .before .before .before in
     record {
-      equations-put = k .collect-equated .ensures;
+      units-put = k .collect-ordered .ensures;
       linked = rw (S k .pre .3) at (done .resolve .ensures);
     }
 

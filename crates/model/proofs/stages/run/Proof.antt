@@ -1,5 +1,5 @@
 -- Each stage goes on from what the one before has left: the definitions are collected; no name is defined twice; the
--- names are linked; none of them is flawed; the equations are placed.
+-- names are linked; none of them is flawed; the units are placed.
 use Prim.Native.Nat.{ℕ}
 use mathlib.Core.Path.{refl, _∙_}
 use native.Mathlib.Omega.{arith}
@@ -39,7 +39,7 @@ collected e = e .before .before .before .before
 abbrev start : tie.After-collect → tie.Start
 start k =
     let near = k .before .before .before .before .before .before .before in
-    near .before .before .before .before .before .before
+    near .before .before .before .before .before .before .before .before
 
 abbrev begun : tie.After-connect → tie.Start
 begun l = start (collected (few (hinted (distinct l .before .before .before))))
@@ -49,7 +49,8 @@ returns : tie.Need-returns
 returns c =
     let k = c .before .before .before .before .before in
     let a = start k .args in
-    sheeted-many (k .collect .ensures) (a .lines .now) (a .bounds .now) (a .used .now) (a .faults .now)
+    sheeted-many (k .collect .ensures) (a .lines .now) (a .bounds .now) (a .ulines .now) (a .ubounds .now)
+    (a .used .now) (a .faults .now)
     (a .equated .now)
     (a .placed .now)
     (c .before .if1 .taken) (c .refusal .ensures)
@@ -75,13 +76,13 @@ slice-reshare-prefix-report-doubles : tie.Need-slice-reshare-prefix-report-doubl
 slice-reshare-prefix-report-doubles c =
     let e = few (c .before .before .before .before .before) in
     let k = collected e in
-    places-held (k .collect .ensures) (e .if1 .left) (start k .pre .2) .room
+    places-held (k .collect .ensures) (e .if1 .left) (start k .pre .3) .room
 
 slice-aggregate-report-doubles-4 : tie.Need-slice-aggregate-report-doubles-4
 slice-aggregate-report-doubles-4 c =
     let e = few (c .before .before .before .before .before .before) in
     let k = collected e in
-    places-front (k .collect .ensures) (e .if1 .left) (start k .pre .2)
+    places-front (k .collect .ensures) (e .if1 .left) (start k .pre .3)
 
 report-doubles-requires : tie.Need-report-doubles-requires
 report-doubles-requires c κs =
@@ -90,7 +91,7 @@ report-doubles-requires c κs =
     let k = collected e in
     let s = start k .pre in
     let keys = keys-front (k .collect .ensures) (e .if1 .left) in
-    let places = places-front (k .collect .ensures) (e .if1 .left) (s .2) in
+    let places = places-front (k .collect .ensures) (e .if1 .left) (s .3) in
     (h .note-hints .ensures, omega (arith, keys, places), s .0 .rises, s .0 .few)
 
 returns-2 : tie.Need-returns-2
@@ -100,12 +101,13 @@ returns-2 c =
     let k = collected e in
     let s = start k in
     let a = s .args in
-    let at-hand = keyed (k .collect .ensures) (s .pre .0) (s .pre .1) (s .pre .2) (e .if1 .left) in
+    let at-hand = keyed (k .collect .ensures) (s .pre .1) (s .pre .2) (s .pre .3) (e .if1 .left) in
     let l = lent (k .collect .last .1 .1 .1 .0) (a .equated .now) (a .placed .now) in
-    sheeted-few (k .collect .ensures) (a .lines .now) (a .bounds .now) (a .used .now) (a .faults .now) (a .equated .now)
+    sheeted-few (k .collect .ensures) (a .lines .now) (a .bounds .now) (a .ulines .now) (a .ubounds .now)
+    (a .used .now) (a .faults .now) (a .equated .now)
     (a .placed .now)
     (e .if1 .left)
-    (distinct-fault at-hand (d .report-doubles .ensures) l (c .before .if2 .taken) (c .refusal2 .ensures))
+    (distinct-fault (s .pre .0) at-hand (d .report-doubles .ensures) l (c .before .if2 .taken) (c .refusal2 .ensures))
 
 -- ---- the names linked
 slice-aggregate-connect : tie.Need-slice-aggregate-connect
@@ -117,13 +119,13 @@ slice-reshare-prefix-connect : tie.Need-slice-reshare-prefix-connect
 slice-reshare-prefix-connect c =
     let e = few (hinted (c .before .before .before .before .before .before .before .before)) in
     let k = collected e in
-    places-held (k .collect .ensures) (e .if1 .left) (start k .pre .2) .room
+    places-held (k .collect .ensures) (e .if1 .left) (start k .pre .3) .room
 
 slice-aggregate-connect-4 : tie.Need-slice-aggregate-connect-4
 slice-aggregate-connect-4 c =
     let e = few (hinted (c .before .before .before .before .before .before .before .before .before)) in
     let k = collected e in
-    places-front (k .collect .ensures) (e .if1 .left) (start k .pre .2)
+    places-front (k .collect .ensures) (e .if1 .left) (start k .pre .3)
 
 connect-requires : tie.Need-connect-requires
 connect-requires c κs =
@@ -131,7 +133,7 @@ connect-requires c κs =
     let e = few h in
     let k = collected e in
     let s = start k .pre in
-    (keyed (k .collect .ensures) (s .0) (s .1) (s .2) (e .if1 .left), h .note-hints .ensures, s .3 .equated-room, refl)
+    (keyed (k .collect .ensures) (s .1) (s .2) (s .3) (e .if1 .left), h .note-hints .ensures, s .4 .equated-room, refl)
 
 -- ---- 22 and 23
 slice-reshare-prefix-report-names : tie.Need-slice-reshare-prefix-report-names
@@ -139,7 +141,7 @@ slice-reshare-prefix-report-names c =
     let e =
     few (hinted (distinct (c .before .before .before .before .before .before .before) .before .before .before)) in
     let k = collected e in
-    places-held (k .collect .ensures) (e .if1 .left) (start k .pre .2) .room
+    places-held (k .collect .ensures) (e .if1 .left) (start k .pre .3) .room
 
 slice-aggregate-report-names : tie.Need-slice-aggregate-report-names
 slice-aggregate-report-names c =
@@ -147,7 +149,7 @@ slice-aggregate-report-names c =
     few
     (hinted (distinct (c .before .before .before .before .before .before .before .before) .before .before .before)) in
     let k = collected e in
-    places-front (k .collect .ensures) (e .if1 .left) (start k .pre .2)
+    places-front (k .collect .ensures) (e .if1 .left) (start k .pre .3)
 
 report-names-requires : tie.Need-report-names-requires
 report-names-requires c κs =
@@ -155,8 +157,8 @@ report-names-requires c κs =
     let e = few (hinted (distinct l .before .before .before)) in
     let k = collected e in
     let s = start k .pre in
-    let at-hand = keyed (k .collect .ensures) (s .0) (s .1) (s .2) (e .if1 .left) in
-    searched at-hand (l .connect .ensures) (s .3 .equated-room)
+    let at-hand = keyed (k .collect .ensures) (s .1) (s .2) (s .3) (e .if1 .left) in
+    searched at-hand (l .connect .ensures) (s .4 .equated-room)
 
 returns-3 : tie.Need-returns-3
 returns-3 c =
@@ -168,15 +170,16 @@ returns-3 c =
     let k = collected e in
     let s = start k in
     let a = s .args in
-    let at-hand = keyed (k .collect .ensures) (s .pre .0) (s .pre .1) (s .pre .2) (e .if1 .left) in
+    let at-hand = keyed (k .collect .ensures) (s .pre .1) (s .pre .2) (s .pre .3) (e .if1 .left) in
     let places = k .collect .last .1 .1 .1 .0 in
-    let flawed = tested-fault at-hand (l .connect .ensures) (s .pre .3 .equated-room) (f .report-names .ensures) places
+    let flawed = tested-fault at-hand (l .connect .ensures) (s .pre .4 .equated-room) (f .report-names .ensures) places
     (a .placed .now)
     (c .before .if3 .taken) (c .refusal3 .ensures) in
-    sheeted-few (k .collect .ensures) (a .lines .now) (a .bounds .now) (a .used .now) (a .faults .now) (a .equated .now)
+    sheeted-few (k .collect .ensures) (a .lines .now) (a .bounds .now) (a .ulines .now) (a .ubounds .now)
+    (a .used .now) (a .faults .now) (a .equated .now)
     (a .placed .now)
     (e .if1 .left)
-    (distinct-none at-hand (d .report-doubles .ensures) (lent places (a .equated .now) (a .placed .now))
+    (distinct-none (s .pre .0) at-hand (d .report-doubles .ensures) (lent places (a .equated .now) (a .placed .now))
     (two .if2 .left) flawed)
 
 -- the lengths of what is lent stay
@@ -199,17 +202,17 @@ same-length-10 c =
 
 -- ---- 24
 -- what is placed stands at the front of its arrays
-weighed : (l : tie.After-connect) → Weighs (begun l .args .lines .now) (begun l .args .bounds .now)
+weighed : (l : tie.After-connect) → Weighs (begun l .args .ulines .now) (begun l .args .ubounds .now)
     (begun l .args .kinds .now)
-    (l .connect .last .1 .1 .1 .0) (l .connect .result .equations) (l .connect .result .used)
+    (l .connect .last .1 .1 .1 .0) (l .connect .result .units) (l .connect .result .used)
     (l .connect .last .1 .1 .1 .1 .1 .1 .1 .1 .1 .1 .0) (l .connect .last .1 .1 .1 .1 .0)
     (l .connect .last .1 .1 .1 .1 .1 .1 .1 .1 .1 .0)
 weighed l =
     let e = few (hinted (distinct l .before .before .before)) in
     let k = collected e in
     let s = start k .pre in
-    let at-hand = keyed (k .collect .ensures) (s .0) (s .1) (s .2) (e .if1 .left) in
-    placeable at-hand (l .connect .ensures) (s .3 .equated-room)
+    let at-hand = keyed (k .collect .ensures) (s .1) (s .2) (s .3) (e .if1 .left) in
+    placeable at-hand (l .connect .ensures) (s .4 .equated-room)
 
 add-starts : tie.Need-add-starts
 add-starts c = omega (arith, weighed (linked c) .few-equated)
@@ -232,7 +235,7 @@ slice-aggregate-place-2 c =
 place-requires : tie.Need-place-requires
 place-requires c κs =
     let l = linked (c .before .before .before .before .before) in
-    (weighed-fit (weighed l), holds-front (weighed l .equated-held), begun l .pre .3 .order-room)
+    (weighed-fit (weighed l), holds-front (weighed l .equated-held), begun l .pre .4 .order-room)
 
 same-length-13 : tie.Need-same-length-13
 same-length-13 c =
@@ -269,18 +272,19 @@ returns-4 c =
     let k = collected e in
     let s = start k in
     let a = s .args in
-    let at-hand = keyed (k .collect .ensures) (s .pre .0) (s .pre .1) (s .pre .2) (e .if1 .left) in
+    let at-hand = keyed (k .collect .ensures) (s .pre .1) (s .pre .2) (s .pre .3) (e .if1 .left) in
     let places = k .collect .last .1 .1 .1 .0 in
-    let count = places-front (k .collect .ensures) (e .if1 .left) (s .pre .2) in
+    let count = places-front (k .collect .ensures) (e .if1 .left) (s .pre .3) in
     let placed = weighed-by (weighed l) (k .collect .result) (f .report-names .last .1 .1 .1 .1 .1 .1 .0)
     (a .placed .now) (done .place .ensures) places in
-    let clear = tested-none at-hand (l .connect .ensures) (s .pre .3 .equated-room) (f .report-names .ensures) places
+    let clear = tested-none at-hand (l .connect .ensures) (s .pre .4 .equated-room) (f .report-names .ensures) places
     (a .placed .now) count
     (three .if3 .left) placed in
-    sheeted-few (k .collect .ensures) (a .lines .now) (a .bounds .now) (a .used .now) (a .faults .now) (a .equated .now)
+    sheeted-few (k .collect .ensures) (a .lines .now) (a .bounds .now) (a .ulines .now) (a .ubounds .now)
+    (a .used .now) (a .faults .now) (a .equated .now)
     (a .placed .now)
     (e .if1 .left)
-    (distinct-none at-hand (d .report-doubles .ensures) (lent places (a .equated .now) (a .placed .now))
+    (distinct-none (s .pre .0) at-hand (d .report-doubles .ensures) (lent places (a .equated .now) (a .placed .now))
     (two .if2 .left) clear)
 
 pub run-spec : {M : Type 1} → statement M

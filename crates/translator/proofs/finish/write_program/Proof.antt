@@ -8,7 +8,7 @@ use Rattle.translator.proofs.finish.write_program.Tie as tie
 
 -- where the function begins, from where the records have been compared
 abbrev S : tie.After-is-over → tie.Start
-S c = c .before .before .before .before .before .before .before .before .before .before
+S c = c .before .before .before .before .before .before .before .before .before .before .before .before
 
 returns : tie.Need-returns
 returns c =
@@ -23,22 +23,22 @@ slice-aggregate-put-program c =
 slice-aggregate-put-program-2 : tie.Need-slice-aggregate-put-program-2
 slice-aggregate-put-program-2 c =
     let s = S (c .before .before .before) in
-    prefix-length (s .args .plan .equations) (s .args .equated .now) (equated-room (s .pre))
+    prefix-length (s .args .plan .units) (s .args .equated .now) (equated-room (s .pre))
 
 slice-aggregate-put-program-3 : tie.Need-slice-aggregate-put-program-3
 slice-aggregate-put-program-3 c =
     let s = S (c .before .before .before .before) in
-    prefix-length (s .args .plan .equations) (s .args .order .now) (order-room (s .pre))
+    prefix-length (s .args .plan .units) (s .args .order .now) (order-room (s .pre))
 
 slice-aggregate-put-order : tie.Need-slice-aggregate-put-order
 slice-aggregate-put-order c =
     let s = S (c .before .before .before .before .before .before .before .before .before) in
-    prefix-length (s .args .plan .equations) (s .args .equated .now) (equated-room (s .pre))
+    prefix-length (s .args .plan .units) (s .args .equated .now) (equated-room (s .pre))
 
 slice-aggregate-put-order-2 : tie.Need-slice-aggregate-put-order-2
 slice-aggregate-put-order-2 c =
     let s = S (c .before .before .before .before .before .before .before .before .before .before) in
-    prefix-length (s .args .plan .equations) (s .args .order .now) (order-room (s .pre))
+    prefix-length (s .args .plan .units) (s .args .order .now) (order-room (s .pre))
 
 returns-2 : tie.Need-returns-2
 returns-2 c =

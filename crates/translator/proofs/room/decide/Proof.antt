@@ -1,7 +1,7 @@
 -- The statements are read; a fault stands, or the model decides.
 use mathlib.Core.Path.{sym}
 use borrow.Author.Needs.{needs}
-use Rattle.translator.proofs.Rooms.{says-five, says-model, statements-few, lines-many, lines-enough, bounds-laid}
+use Rattle.translator.proofs.Rooms.{says-five, says-model, statements-few, lines-many, lines-enough}
 use Rattle.translator.proofs.Rooms.{bounds-count, bounds-enough, kinds-many, kinds-enough, args-many}
 use Rattle.translator.proofs.Rooms.{args-enough, ready-so}
 use Rattle.translator.proofs.room.decide.Statement.{statement}
@@ -42,8 +42,8 @@ slice-aggregate-conclude-2 c =
     let r = read (c .before .before) in
     sym (bounds-count (start r .pre .0) (r .read-all .ensures))
 
-slice-reshare-prefix-conclude-3 : tie.Need-slice-reshare-prefix-conclude-3
-slice-reshare-prefix-conclude-3 c =
+slice-relend-prefix-conclude : tie.Need-slice-relend-prefix-conclude
+slice-relend-prefix-conclude c =
     let r = read (c .before .before) in
     kinds-enough (start r .pre .0) (r .read-all .ensures)
 
@@ -52,8 +52,8 @@ slice-aggregate-conclude-3 c =
     let r = read (c .before .before .before) in
     sym (kinds-many (start r .pre .0) (r .read-all .ensures))
 
-slice-relend-prefix-conclude : tie.Need-slice-relend-prefix-conclude
-slice-relend-prefix-conclude c =
+slice-relend-prefix-conclude-2 : tie.Need-slice-relend-prefix-conclude-2
+slice-relend-prefix-conclude-2 c =
     let r = read (c .before .before .before) in
     args-enough (start r .pre .0) (r .read-all .ensures)
 
@@ -69,13 +69,13 @@ conclude-requires c κs =
 
 returns-2 : tie.Need-returns-2
 returns-2 c =
-    let done = c .before .before .before .before .before .before .before .before .before .before in
+    let done = c .before .before .before .before .before .before .before .before .before .before .before .before in
     let clean = done .before .before .before .before .before .before .before .before .before in
     let r = read clean in
     let room = start r .pre .0 in
     let all = r .read-all .ensures in
     says-model room all (clean .if1 .left) (done .conclude .result) (start r .args .program .now)
-    (start r .args .ordered .now) (done .conclude .ensures _ (bounds-laid room all))
+    (start r .args .ordered .now) (start r .pre .1) (done .conclude .ensures)
 
 pub decide-spec : {M : Type 1} → statement M
 decide-spec =
@@ -93,9 +93,9 @@ decide-spec =
     add-conclude
     slice-reshare-prefix-conclude-2
     slice-aggregate-conclude-2
-    slice-reshare-prefix-conclude-3
-    slice-aggregate-conclude-3
     slice-relend-prefix-conclude
+    slice-aggregate-conclude-3
+    slice-relend-prefix-conclude-2
     slice-aggregate-conclude-4
     conclude-requires
     (λ c. search needs)

@@ -1,0 +1,15 @@
+-- Past the end nothing is stored.
+use mathlib.Core.Path.{sym}
+use borrow.Author.Needs.{needs}
+use lib.Seq.{set-out}
+use Rattle.blocks.proofs.lists.put_short.Statement.{statement}
+use Rattle.blocks.proofs.lists.put_short.Tie as tie
+
+returns-2 : tie.Need-returns-2
+returns-2 c = sym (set-out (c .before .args .s .now) (c .before .args .i) _ (c .if1 .left))
+
+pub put-short-spec : {M : Type 1} → statement M
+put-short-spec =
+    tie.close
+    (tie.spec (λ c. search needs) (λ c. search needs) (λ c. search needs) (λ c. search needs)
+    (λ c. search needs) returns-2)

@@ -1,0 +1,58 @@
+-- What the stores before statement j become is noted.
+use Prim.Native.Nat.{_-_}
+use native.Mathlib.Omega.{arith}
+use borrow.Author.Needs.{needs}
+use Rattle.blocks.proofs.KindsRenewed.{Noting, noting-first, noting-next, noting-last}
+use Rattle.blocks.proofs.InsideFound.{spot-low}
+use Rattle.blocks.proofs.rewrite.note_roles.Statement.{statement}
+use Rattle.blocks.proofs.rewrite.note_roles.Tie as tie
+
+abbrev Inv-loop : tie.InvT-loop
+Inv-loop bounds kinds args n roles₀ c₀ j₀ roles c j =
+    Noting bounds kinds args n roles₀ c j roles
+
+abbrev μ-loop : tie.MeasureT-loop
+μ-loop bounds kinds args n roles₀ c₀ j₀ roles c j = n - j
+
+loop-holds : tie.Need-loop-holds Inv-loop μ-loop
+loop-holds c =
+    noting-first _ _ _ _ _
+
+role-at-requires : tie.Need-role-at-requires Inv-loop μ-loop
+role-at-requires c κs =
+    let at = c .before .before .loop in
+    let s = c .before .before .before .before .before .before .before in (
+      omega (arith, at .inv .spot, spot-low (s .args .bounds .now) (s .args .kinds .now) (at .j)),
+      omega (arith, c .before .loop-test .taken, s .pre),
+    )
+
+loop-again : tie.Need-loop-again Inv-loop μ-loop
+loop-again c =
+    noting-next (c .before .before .before .before .before .before .before .loop .inv)
+    (c .before .before .before .before .before .before .loop-test .taken)
+    (c .before .before .before .before .role-at .ensures) (c .before .before .before .put-byte .ensures)
+    (c .spot-behind .ensures)
+
+same-length : tie.Need-same-length Inv-loop μ-loop
+same-length c =
+    c .before .loop .inv .written .long
+
+returns : tie.Need-returns Inv-loop μ-loop
+returns c =
+    noting-last (c .before .loop .inv) (c .loop-test .left)
+
+pub note-roles-spec : {M : Type 1} → statement M
+note-roles-spec =
+    tie.close
+    (tie.spec
+    Inv-loop
+    μ-loop
+    loop-holds
+    role-at-requires
+    (λ c κs. search needs)
+    (λ c κs. search needs)
+    (λ c. search needs)
+    (λ c. search needs)
+    loop-again
+    same-length
+    returns)
