@@ -105,9 +105,9 @@ module _ (lines bounds kinds args : List ℕ) where
     counted-few h e = rw (le-ltb mostDefinitions (length (definingIn kinds)) (omega arith)) e
 
 -- ---- what the passes ask of arrays that fit
-pub follows-small : {lines bounds kinds : List ℕ} {n : ℕ} → SheetFollows lines bounds kinds
-    → n ≡ length (definingIn kinds) → n ≤ mostDefinitions → Small (length lines) kinds
-follows-small f e h = record { few = f .few; small = f .small; defined = omega arith }
+pub follows-small : {lines bounds kinds : List ℕ}
+    → SheetFollows lines bounds kinds × (length (definingIn kinds) ≤ mostDefinitions) → Small (length lines) kinds
+follows-small f = record { few = f .0 .few; small = f .0 .small; defined = f .1 }
 
 pub follows-turned : {lines bounds kinds : List ℕ} → SheetFollows lines bounds kinds → Turned
     (length lines) bounds kinds

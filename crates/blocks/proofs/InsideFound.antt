@@ -9,6 +9,7 @@ use borrow.Author.Tests.{lt-ltb, eq-eqb, ne-eqb}
 use lib.ListN.{length, getD}
 use Rattle.laws.specs.Counts.{has}
 use Rattle.laws.specs.Places.{gather, anyIn}
+use Rattle.laws.proofs.Tests.{or-right}
 use Rattle.laws.proofs.Members.{has-append}
 use Rattle.drafts.specs.Kinds.{kindOutput, kindInput, kindFetch}
 use Rattle.drafts.specs.Places.{begins, ends}
@@ -64,6 +65,9 @@ module _ (free bounds kinds args : List ℕ) (c j key : ℕ) where
 
   allowed-by : has key (allowedAt free bounds kinds args c j) ≡ (has key inputs || (has key free || has key above))
   allowed-by = has-append key inputs (free ++ above) ∙ ap (λ b. has key inputs || b) (has-append key free above)
+
+  pub allowed-hinted : has key free ≡ true → true ≡ has key (allowedAt free bounds kinds args c j)
+  allowed-hinted e = rw (allowed-by, e) (sym (or-right (has key inputs) true refl))
 
   pub allowed-input : {r : Bool} → r ≡ has key inputs → r ≡ true → true ≡ has key (allowedAt free bounds kinds args c j)
   allowed-input p t = rw (allowed-by, sym p ∙ t)

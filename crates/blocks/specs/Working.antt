@@ -2,7 +2,7 @@
 -- arrays of the units.
 use Prim.Native.Nat.{ℕ, zero, suc, max, _+_, _*_, _≤_, _<_}
 use mathlib.Core.Path.{_≡_}
-use mathlib.Core.Bool.{Bool, false, _||_}
+use mathlib.Core.Bool.{Bool, true, false, _||_}
 use mathlib.Core.List.{List, [], _∷_}
 use lib.Dec.{eqb, ltb}
 use lib.ListN.{length, getD, set, replicate}
@@ -28,6 +28,15 @@ pub record SheetFollows (lines bounds kinds : List ℕ) : Type 0 where
   pub rise : (j : ℕ) → j < length lines → begins bounds j ≤ ends bounds j
   pub first : begins bounds 0 ≡ 0
   pub ended : begins bounds (length lines) ≡ length kinds
+
+-- ---- statement j is a header or an end
+abbrev pub isBracket : Bracket → Bool
+isBracket opens = true
+isBracket shuts = true
+isBracket neither = false
+
+abbrev pub bracketed : List ℕ → List ℕ → ℕ → Bool
+bracketed bounds kinds j = isBracket (bracketAt bounds kinds j)
 
 -- ---- mates: at a paired header's place one more than its end's, at a paired end's one more than its header's
 

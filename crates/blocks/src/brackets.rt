@@ -2,10 +2,14 @@
 ghost use mathlib.Core.Path.{_≡_};
 ghost use Prim.Native.Nat.{_≤_};
 ghost use Rattle.limits.specs.Limits.{mostStatements};
-ghost use Rattle.blocks.specs.Places.{leadingKind};
+ghost use Rattle.laws.specs.Places.{anyIn};
+ghost use Rattle.blocks.specs.Places.{leadingKind, bracketKind};
+ghost use Rattle.blocks.specs.Working.{isBracket, bracketed};
 use bits::reads::byte_at;
 use bits::reads::short_at;
+use drafts::ENDING;
 use drafts::NUMBER;
+use drafts::OUTPUT;
 
 // The kind of the first draft of statement j, that of a number where it has none.
 pub(crate) fn leading_kind(bounds: &[u16], kinds: &[u8], j: usize) -> u8
@@ -17,4 +21,30 @@ pub(crate) fn leading_kind(bounds: &[u16], kinds: &[u8], j: usize) -> u8
         return byte_at(kinds, begin);
     }
     NUMBER
+}
+
+// Whether a statement whose first draft is of this kind is a header or an end.
+fn is_bracket(kind: u8) -> bool
+    ensures { λ r. ⌜ r ≡ isBracket (bracketKind kind) ⌝ }
+{
+    match kind {
+        OUTPUT => true,
+        ENDING => true,
+        _ => false,
+    }
+}
+
+// Whether one of n statements is.
+pub(crate) fn has_bracket(bounds: &[u16], kinds: &[u8], n: usize) -> bool
+    requires { ⌜ n ≤ mostStatements ⌝ }
+    ensures { λ r. ⌜ r ≡ anyIn (bracketed (now (bounds .entry)) (now (kinds .entry))) n 0 ⌝ }
+{
+    let mut j: usize = 0;
+    while j < n {
+        if is_bracket(leading_kind(bounds, kinds, j)) {
+            return true;
+        }
+        j += 1;
+    }
+    false
 }

@@ -4,7 +4,7 @@ ghost use mathlib.Core.Path.{_≡_};
 ghost use mathlib.Core.Bool.{not};
 ghost use Prim.Native.Nat.{_+_, _-_, _≤_, _<_};
 ghost use lib.ListN.{length};
-ghost use Rattle.limits.specs.Limits.{mostStatements};
+ghost use Rattle.limits.specs.Limits.{mostStatements, mostDefinitions};
 ghost use Rattle.laws.specs.Counts.{has};
 ghost use Rattle.laws.specs.Places.{anyIn};
 ghost use Rattle.drafts.specs.Kinds.{kindFetch};
@@ -17,6 +17,9 @@ ghost use Rattle.blocks.specs.InsideWorking.{outsideAt, badOutputAt, all
 use super::brackets::leading_kind;
 use super::free::collect_free;
 use super::free::is_among;
+use super::hints::BUCKETS;
+use super::hints::is_hinted;
+use super::hints::note_places;
 use super::names::is_named_by;
 use super::names::is_named_in;
 use super::names::is_set_above;
@@ -85,8 +88,9 @@ fn is_wrong_header(bounds: &[u16], kinds: &[u8], args: &[u64], n: usize, j: usiz
     false
 }
 
-// Whether statement j may use this name, which stands at c.
+// Whether statement j may use this name, which stands at c. Most are names of constants and states: a hint comes first.
 fn is_allowed(
+    hints: &[u16],
     free: &[u64],
     bounds: &[u16],
     kinds: &[u8],
@@ -99,6 +103,9 @@ fn is_allowed(
     ensures { λ r. ⌜ r ≡ has key (allowedAt (now (free .entry)) (now (bounds .entry)) (now (kinds .entry))
         (now (args .entry)) c j) ⌝ }
 {
+    if is_hinted(hints, free, key) {
+        return true;
+    }
     if is_named_by(bounds, kinds, args, INPUT, c - 1, key) {
         return true;
     }
@@ -110,6 +117,7 @@ fn is_allowed(
 
 // Whether place i of statement j uses another name.
 fn is_stranger(
+    hints: &[u16],
     free: &[u64],
     bounds: &[u16],
     kinds: &[u8],
@@ -125,11 +133,12 @@ fn is_stranger(
     if byte_at(kinds, i) != FETCH {
         return false;
     }
-    !is_allowed(free, bounds, kinds, args, c, j, word_at(args, i))
+    !is_allowed(hints, free, bounds, kinds, args, c, j, word_at(args, i))
 }
 
 // Whether statement j does.
 fn has_stranger(
+    hints: &[u16],
     free: &[u64],
     bounds: &[u16],
     kinds: &[u8],
@@ -145,7 +154,7 @@ fn has_stranger(
     let end = short_at(bounds, j + 1);
     let mut i = short_at(bounds, j);
     while i < end {
-        if is_stranger(free, bounds, kinds, args, c, j, i) {
+        if is_stranger(hints, free, bounds, kinds, args, c, j, i) {
             return true;
         }
         i += 1;
@@ -154,7 +163,15 @@ fn has_stranger(
 }
 
 // Whether statement j may stand inside a block, which stands at c.
-fn is_right(free: &[u64], bounds: &[u16], kinds: &[u8], args: &[u64], c: usize, j: usize) -> bool
+fn is_right(
+    hints: &[u16],
+    free: &[u64],
+    bounds: &[u16],
+    kinds: &[u8],
+    args: &[u64],
+    c: usize,
+    j: usize,
+) -> bool
     requires { ⌜ (0 < c) × (c ≤ j) × (j ≤ mostStatements) ⌝ }
     ensures { λ r. ⌜ r ≡ rightAt (now (free .entry)) (now (bounds .entry)) (now (kinds .entry)) (now (args .entry)) c
         j ⌝ }
@@ -164,13 +181,14 @@ fn is_right(free: &[u64], bounds: &[u16], kinds: &[u8], args: &[u64], c: usize, 
         if is_named_by(bounds, kinds, args, INPUT, c - 1, key) {
             return false;
         }
-        return !has_stranger(free, bounds, kinds, args, c, j);
+        return !has_stranger(hints, free, bounds, kinds, args, c, j);
     }
     false
 }
 
 // Whether statement j of n has a fault, which stands at c.
 fn is_wrong(
+    hints: &[u16],
     free: &[u64],
     bounds: &[u16],
     kinds: &[u8],
@@ -193,11 +211,13 @@ fn is_wrong(
     if c == 0 {
         return false;
     }
-    !is_right(free, bounds, kinds, args, c, j)
+    !is_right(hints, free, bounds, kinds, args, c, j)
 }
 
-// Writes the faults 26, where the constants and states are known; how many there are.
-fn report_wrong(
+// Writes the faults 26, statement by statement, where the constants and states are known and where to look for them
+// first; how many there are.
+fn report_each(
+    hints: &[u16],
     free: &[u64],
     lines: &[u16],
     bounds: &[u16],
@@ -213,12 +233,30 @@ fn report_wrong(
     let mut c: usize = 0;
     let mut j: usize = 0;
     while j < lines.len() {
-        let wrong = is_wrong(free, bounds, kinds, args, lines.len(), c, j);
+        let wrong = is_wrong(hints, free, bounds, kinds, args, lines.len(), c, j);
         count = add_fault(wrong, short_at(lines, j), 26, &mut *faults, count);
         c = spot_behind(bounds, kinds, j, c);
         j += 1;
     }
     count
+}
+
+// Writes the faults 26, where the constants and states are known; how many there are.
+fn report_wrong(
+    free: &[u64],
+    lines: &[u16],
+    bounds: &[u16],
+    kinds: &[u8],
+    args: &[u64],
+    faults: &mut [u8],
+) -> usize
+    requires { ⌜ (length (now lines) ≤ mostStatements) × (length (now free) ≤ mostDefinitions) ⌝ }
+    ensures { λ r. ⌜ Reported (faults26With (now (free .entry)) (now (lines .entry)) (now (bounds .entry))
+        (now (kinds .entry)) (now (args .entry))) 0 r (now (faults .entry)) (now (faults .exit)) ⌝ }
+{
+    let mut hints = [0u16; BUCKETS];
+    note_places(free, &mut hints);
+    report_each(&hints, free, lines, bounds, kinds, args, faults)
 }
 
 // Writes the faults 26 to the front of the list; how many there are.

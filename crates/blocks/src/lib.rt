@@ -7,6 +7,7 @@ mod brackets;
 mod definitions;
 mod fitting;
 mod free;
+pub mod hints;
 mod inside;
 mod lists;
 mod names;

@@ -8,9 +8,7 @@ ghost use Rattle.model.specs.Definitions.{placeIn};
 ghost use Rattle.model.specs.Working.{buckets, Hinted};
 use super::lists::put_short;
 use bits::reads::short_at;
-
-// A prime: the keys of two names seldom have the same remainder. The table is zeroed for each text, so it is short.
-pub(crate) const BUCKETS: usize = 1009;
+use blocks::hints::BUCKETS;
 
 // The place of a key's hint.
 fn bucket(key: u64) -> usize

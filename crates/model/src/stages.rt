@@ -11,13 +11,13 @@ ghost use Rattle.model.specs.Working.{Follows, Holds, Wide, Hinted, Keye
 use super::answer::Plan;
 use super::collect::collect;
 use super::doubles::report_doubles;
-use super::hints::BUCKETS;
 use super::hints::note_hints;
 use super::loops::report_loops;
 use super::names::report_names;
 use super::names::resolve;
 use super::units::collect_ordered;
 use super::units::note_owners;
+use blocks::hints::BUCKETS;
 use limits::DEFINITIONS;
 use limits::SLOTS;
 use limits::STATEMENTS;

@@ -1,22 +1,22 @@
 -- What the parts of the program are in each case that code tells apart.
 use Prim.Native.Nat.{ℕ, suc, _+_, _-_, _≤_, _<_}
 use mathlib.Core.Path.{_≡_, refl, sym, ap, _∙_}
-use mathlib.Core.Bool.{Bool, true, false, cond, _&&_}
+use mathlib.Core.Bool.{Bool, true, false, cond}
 use mathlib.Core.Logic.{⊎-elim}
 use mathlib.Core.List.{List, [], _∷_, _++_}
 use native.Mathlib.Numerals.{add-one}
 use native.Mathlib.Omega.{arith}
 use borrow.Author.Tests.{le-leb, lt-leb, eq-eqb, ne-eqb}
-use lib.Dec.{eqb, leb}
+use lib.Dec.{eqb}
 use lib.ListN.{length, getD, drop}
 use lib.Seq.{drop-cons}
 use Rattle.laws.specs.Counts.{once}
 use Rattle.laws.specs.Places.{gather}
-use Rattle.laws.proofs.Tests.{lt-or-ge, cond-ind, and-both, or-left, or-right}
+use Rattle.laws.proofs.Tests.{eq-or-ne, cond-ind}
 use Rattle.laws.proofs.Gathers.{gather-shift}
 use Rattle.drafts.specs.Places.{begins, ends}
-use Rattle.drafts.specs.Kinds.{kindPush, kindFetch, kindClock, kindFrom, kindAgain, kindGiven, kindRead, isStep}
-use Rattle.drafts.specs.Kinds.{stepKind, writes}
+use Rattle.drafts.specs.Kinds.{kindPush, kindFetch, kindClock, kindStore, kindAgain, kindGiven, kindOwn, kindRead}
+use Rattle.drafts.specs.Kinds.{isStep, stepKind, writes}
 use Rattle.program.specs.Written.{fieldBytes, recordCount, valueAt, settingAt, reach, settingsOf, stepBytes}
 use Rattle.program.specs.Written.{stepAt, stepsOf, unitSteps, orderedSteps}
 use Rattle.program.proofs.RoomFilled.{WholeRecords, whole-gather, length-record}
@@ -77,56 +77,47 @@ module _ (phase : ℕ) (places lines bounds kinds slots : List ℕ) (j : ℕ) {i
 
 -- ---- the record of a step, by its kind
 module _ (k x line : ℕ) where
-  -- a number is pushed
-  pub step-value : k ≡ kindPush → stepBytes k x line ≡ fieldBytes kindPush 0 line x
-  step-value e = rw (eq-eqb k kindPush e)
+  -- an operation of an expression, or what is done with its value: a record of that kind
+  pub step-plain : kindFetch ≤ k → k ≤ kindAgain → stepBytes k x line ≡ fieldBytes k x line 0
+  step-plain g h =
+      rw (
+        ne-eqb k kindPush (λ e. omega arith),
+        ne-eqb k kindClock (λ e. omega arith),
+        le-leb kindFetch k g,
+        le-leb k kindAgain h,
+        ne-eqb k kindGiven (λ e. omega arith),
+        ne-eqb k kindOwn (λ e. omega arith),
+        ne-eqb k kindRead (λ e. omega arith),
+      )
 
-  module _ (a : k ≡ kindPush → ⊥) where
-    -- TIME is slot 0
-    pub step-clock : k ≡ kindClock → stepBytes k x line ≡ fieldBytes kindFetch 0 line 0
-    step-clock e = rw (ne-eqb k kindPush a, eq-eqb k kindClock e)
+  -- a first setting in a block: a store
+  pub step-first : kindGiven ≤ k → k ≤ kindOwn → stepBytes k x line ≡ fieldBytes kindStore x line 0
+  step-first g h =
+      ⊎-elim (λ (given : k ≡ kindGiven). rw given)
+      (λ (other : k ≡ kindGiven → ⊥). let own : k ≡ kindOwn = omega (arith, other) in rw own)
+      (eq-or-ne k kindGiven)
 
-    module _ (b : k ≡ kindClock → ⊥) where
-      -- a kind that is no step's writes nothing
-      no-step : isStep k ≡ false → stepBytes k x line ≡ []
-      no-step e = rw (ne-eqb k kindPush a, ne-eqb k kindClock b, e)
+  -- constants, initials and values write nothing here
+  pub step-below : k < kindPush → stepBytes k x line ≡ []
+  step-below h =
+      rw (
+        ne-eqb k kindPush (λ e. omega arith),
+        ne-eqb k kindClock (λ e. omega arith),
+        lt-leb kindFetch k (omega arith),
+        lt-leb kindGiven k (omega arith),
+      )
 
-      -- constants, initials and values write nothing here
-      pub step-below : k < kindFetch → stepBytes k x line ≡ []
-      step-below h = no-step (rw (lt-leb kindFetch k h, lt-leb kindGiven k (omega arith)))
-
-      -- nor do a header's names and an end
-      pub step-above : kindRead < k → stepBytes k x line ≡ []
-      step-above h =
-          no-step (rw (
-            lt-leb k kindRead h,
-            lt-leb k kindAgain (omega arith),
-            le-leb kindFetch k (omega arith),
-            le-leb kindGiven k (omega arith),
-          ))
-
-      -- nor does a constant's name as initial
-      pub step-from : k ≡ kindFrom → stepBytes k x line ≡ []
-      step-from e = rw e
-
-      -- all others write a record of their kind
-      pub step-plain : kindFetch ≤ k → k ≤ kindRead → (k ≡ kindFrom → ⊥)
-          → stepBytes k x line ≡ fieldBytes (stepKind k) x line 0
-      step-plain g h c = rw (ne-eqb k kindPush a, ne-eqb k kindClock b, is-step)
-        where
-          above : kindFrom ≤ k → kindGiven ≤ k
-          above l = omega (arith, a, b, c)
-
-          is-step : isStep k ≡ true
-          is-step =
-              let low = leb kindFetch k && leb k kindAgain in
-              let high = leb kindGiven k && leb k kindRead in
-              ⊎-elim
-              (λ (l : k < kindFrom). or-left low high
-              (and-both (leb kindFetch k) (leb k kindAgain) (le-leb kindFetch k g) (le-leb k kindAgain (omega arith))))
-              (λ (l : kindFrom ≤ k). or-right low high
-              (and-both (leb kindGiven k) (leb k kindRead) (le-leb kindGiven k (above l)) (le-leb k kindRead h)))
-              (lt-or-ge k kindFrom)
+  -- nor do a header's names and an end
+  pub step-above : kindRead < k → stepBytes k x line ≡ []
+  step-above h =
+      rw (
+        ne-eqb k kindPush (λ e. omega arith),
+        ne-eqb k kindClock (λ e. omega arith),
+        le-leb kindFetch k (omega arith),
+        lt-leb k kindAgain (omega arith),
+        le-leb kindGiven k (omega arith),
+        lt-leb k kindRead h,
+      )
 
 -- the steps of the ordered units, gathered over the places of the order
 pub ordered-gather : (equated firsts lines bounds kinds slots order : List ℕ)

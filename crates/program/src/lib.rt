@@ -4,7 +4,6 @@ ghost use Prim.Native.Nat.{_-_, _≤_, _<_};
 ghost use lib.ListN.{length};
 ghost use lib.Seq.{sets};
 ghost use Rattle.laws.specs.Places.{gather};
-ghost use Rattle.drafts.specs.Kinds.{stepKind};
 ghost use Rattle.program.specs.Written.{fieldBytes, headOf, valueAt, settingAt, reach, settingsOf, stepBytes};
 ghost use Rattle.program.specs.Written.{stepsOf, unitSteps, orderedSteps, Fills};
 ghost use Rattle.program.specs.Contract.{CountsRecords, PutsProgram};
@@ -12,6 +11,7 @@ use bits::put_eight;
 use bits::reads::byte_at;
 use bits::reads::short_at;
 use bits::reads::word_at;
+use drafts::AGAIN;
 use drafts::CLOCK;
 use drafts::CONSTANT;
 use drafts::FETCH;
@@ -175,39 +175,19 @@ fn put_all_settings(
     w
 }
 
-// The kind of the record of a step: the draft's own, but for the first settings in a block and for what is read there.
-fn step_kind(kind: u8) -> u8
-    ensures { λ r. ⌜ r ≡ stepKind kind ⌝ }
-{
-    match kind {
-        GIVEN => STORE,
-        OWN => STORE,
-        READ => FETCH,
-        _ => kind,
-    }
-}
-
 // Writes the record of a draft of an expression, or of a store or derivative.
 fn put_step(kind: u8, arg: u64, line: u64, out: &mut [u8], w: usize) -> usize
     requires { ⌜ w ≤ length (now out) ⌝ }
     ensures { λ r. ⌜ Fills (stepBytes kind arg line) w r (now (out .entry)) (now (out .exit)) ⌝ }
 {
-    if kind == PUSH {
-        return put_record(PUSH, 0, line, arg, out, w);
+    match kind {
+        PUSH => put_record(PUSH, 0, line, arg, out, w),
+        FETCH..=AGAIN => put_record(kind, arg, line, 0, out, w),
+        CLOCK => put_record(FETCH, 0, line, 0, out, w),
+        GIVEN..=OWN => put_record(STORE, arg, line, 0, out, w),
+        READ => put_record(FETCH, arg, line, 0, out, w),
+        _ => w,
     }
-    if kind == CLOCK {
-        return put_record(FETCH, 0, line, 0, out, w);
-    }
-    if kind < FETCH {
-        return w;
-    }
-    if READ < kind {
-        return w;
-    }
-    if kind == FROM {
-        return w;
-    }
-    put_record(step_kind(kind), arg, line, 0, out, w)
 }
 
 // Writes the steps of a statement.

@@ -11,17 +11,17 @@ use Rattle.blocks.proofs.inside.has_stranger.Statement.{statement}
 use Rattle.blocks.proofs.inside.has_stranger.Tie as tie
 
 abbrev Inv-loop : tie.InvT-loop
-Inv-loop free bounds kinds args c j end i₀ i =
+Inv-loop hints free bounds kinds args c j end i₀ i =
     anyIn (outsideAt kinds args kindFetch (allowedAt free bounds kinds args c j)) (end - i) i
     ≡ anyIn (outsideAt kinds args kindFetch (allowedAt free bounds kinds args c j)) (ends bounds j - begins bounds j)
     (begins bounds j)
 
 abbrev μ-loop : tie.MeasureT-loop
-μ-loop free bounds kinds args c j end i₀ i = end - i
+μ-loop hints free bounds kinds args c j end i₀ i = end - i
 
 loop-holds : tie.Need-loop-holds Inv-loop μ-loop
 loop-holds c =
-    let s = c .before .before .before .before .before .before .args in
+    let s = c .before .before .before .before .before .before .before .args in
     let strange = outsideAt (s .kinds .now) (s .args .now) kindFetch
     (allowedAt (s .free .now) (s .bounds .now) (s .kinds .now) (s .args .now) (s .c) (s .j)) in
     ap₂ (λ (a b : ℕ). anyIn strange (b - a) a) (c .short-at2 .ensures .0) (c .before .short-at .ensures .0)

@@ -6,7 +6,7 @@ use Rattle.blocks.proofs.inside.is_right.Tie as tie
 
 returns : tie.Need-returns
 returns c =
-    let s = c .before .before .before .before .before .before .before .before .before .before .args in
+    let s = c .before .before .before .before .before .before .before .before .before .before .before .args in
     right-input (s .free .now) (s .bounds .now) (s .kinds .now) (s .args .now) (s .c) (s .j)
     (c .before .before .before .before .before .is-setting .ensures) (c .before .before .before .before .if1 .taken)
     (c .before .before .before .last-of .ensures)
@@ -14,7 +14,7 @@ returns c =
 
 returns-2 : tie.Need-returns-2
 returns-2 c =
-    let s = c .before .before .before .before .before .before .before .before .before .before .before .args in
+    let s = c .before .before .before .before .before .before .before .before .before .before .before .before .args in
     right-names (s .free .now) (s .bounds .now) (s .kinds .now) (s .args .now) (s .c) (s .j)
     (c .before .before .before .before .before .before .is-setting .ensures)
     (c .before .before .before .before .before .if1 .taken) (c .before .before .before .before .last-of .ensures)
@@ -23,7 +23,7 @@ returns-2 c =
 
 returns-3 : tie.Need-returns-3
 returns-3 c =
-    let s = c .before .before .before .before .before .before .args in
+    let s = c .before .before .before .before .before .before .before .args in
     right-none (s .free .now) (s .bounds .now) (s .kinds .now) (s .args .now) (s .c) (s .j)
     (c .before .is-setting .ensures) (c .if1 .left)
 

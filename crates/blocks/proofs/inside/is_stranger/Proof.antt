@@ -8,12 +8,12 @@ use Rattle.blocks.proofs.inside.is_stranger.Tie as tie
 
 returns : tie.Need-returns
 returns c =
-    let s = c .before .before .before .before .before .before .args in
+    let s = c .before .before .before .before .before .before .before .args in
     stranger-other (s .kinds .now) (s .args .now) kindFetch _ (s .i) (c .before .byte-at .ensures) (c .if1 .taken)
 
 returns-2 : tie.Need-returns-2
 returns-2 c =
-    let s = c .before .before .before .before .before .before .before .before .args in
+    let s = c .before .before .before .before .before .before .before .before .before .args in
     stranger-name (s .kinds .now) (s .args .now) kindFetch
     (allowedAt (s .free .now) (s .bounds .now) (s .kinds .now) (s .args .now) (s .c) (s .j)) (s .i)
     (c .before .before .before .byte-at .ensures)

@@ -1,8 +1,9 @@
 -- The constants and states are collected, and the faults reported by them.
 use mathlib.Core.Path.{refl, sym}
+use native.Mathlib.Omega.{arith}
 use borrow.Author.Needs.{needs}
 use lib.Seq.{length-take-le}
-use Rattle.blocks.proofs.FreeCollected.{free-front, free-reported}
+use Rattle.blocks.proofs.FreeCollected.{free-few, free-front, free-reported}
 use Rattle.blocks.proofs.inside.report_inside.Statement.{statement}
 use Rattle.blocks.proofs.inside.report_inside.Tie as tie
 
@@ -25,7 +26,10 @@ slice-aggregate-report-wrong c =
 
 report-wrong-requires : tie.Need-report-wrong-requires
 report-wrong-requires c κs =
-    c .before .before .before .before .before .before .before .before .before .before .pre .few
+    let s = c .before .before .before .before .before .before .before .before .before .before in
+    let front = free-front (s .args .kinds .now) (s .args .args .now) (s .pre .defined) refl
+    (c .before .before .before .collect-free .ensures) in
+    (s .pre .few, rw (front .1) (omega (arith, free-few (s .args .kinds .now) (s .args .args .now), s .pre .defined)))
 
 returns : tie.Need-returns
 returns c =

@@ -1,85 +1,22 @@
--- The faults of the statements before statement j are written.
-use Prim.Native.Nat.{_-_}
-use mathlib.Core.Path.{_≡_, refl}
-use native.Mathlib.Omega.{arith}
+-- The places are noted, and the faults reported with them.
 use borrow.Author.Needs.{needs}
-use lib.ListN.{length}
-use Rattle.blocks.proofs.FaultsListed.{Reports, reports-first, reports-next, reports-last}
-use Rattle.blocks.specs.InsidePlaces.{spotAt, fault26At}
-use Rattle.blocks.proofs.InsideFound.{spot-low, spot-next, wrong-single, wrong-found}
 use Rattle.blocks.proofs.inside.report_wrong.Statement.{statement}
 use Rattle.blocks.proofs.inside.report_wrong.Tie as tie
 
-abbrev Inv-loop : tie.InvT-loop
-Inv-loop free lines bounds kinds args faults₀ count₀ c₀ j₀ faults count c j =
-    (c ≡ spotAt bounds kinds j)
-    × Reports (fault26At (length lines) free lines bounds kinds args) (length lines) j count faults₀ faults
+note-places-requires : tie.Need-note-places-requires
+note-places-requires c κs = c .before .before .before .before .before .before .before .pre .1
 
-abbrev μ-loop : tie.MeasureT-loop
-μ-loop free lines bounds kinds args faults₀ count₀ c₀ j₀ faults count c j = length lines - j
-
-loop-holds : tie.Need-loop-holds Inv-loop μ-loop
-unfolding spotAt
-loop-holds c =
-    let s = c .before .before .before .before .before .before .args in
-    let n = length (s .lines .now) in
-    let one = wrong-single n (s .free .now) (s .lines .now) (s .bounds .now) (s .kinds .now) (s .args .now) in (
-      refl,
-      reports-first (fault26At n (s .free .now) (s .lines .now) (s .bounds .now) (s .kinds .now) (s .args .now)) n
-          (s .faults .now) one,
-    )
-
-is-wrong-requires : tie.Need-is-wrong-requires Inv-loop μ-loop
-is-wrong-requires c κs =
-    let at = c .before .loop in
-    let s = c .before .before .before .before .before .before .before .before in
-    let low = spot-low (s .args .bounds .now) (s .args .kinds .now) (at .j) in
-    (s .pre, c .loop-test .taken, omega (arith, at .inv .0, low))
-
-add-fault-requires : tie.Need-add-fault-requires Inv-loop μ-loop
-add-fault-requires c κs =
-    omega (
-      arith,
-      c .before .before .before .before .loop .inv .1 .few,
-      c .before .before .before .before .loop .inv
-          .1 .within,
-      c .before .before .before .before .before .before .before .before .before .before .before .pre,
-    )
-
-loop-again : tie.Need-loop-again Inv-loop μ-loop
-loop-again c =
-    let at = c .before .before .before .before .before .before .before .before .loop in
-    let s = c .before .before .before .before .before .before .before .before .before .before .before .before .before
-    .before .before .args in
-    let found = wrong-found (length (s .lines .now)) (s .free .now) (s .lines .now) (s .bounds .now) (s .kinds .now)
-    (s .args .now) (at .j) (at .inv .0) (c .before .before .before .before .before .before .is-wrong .ensures)
-    (c .before .before .before .before .before .short-at .ensures .0) in (
-      spot-next (s .bounds .now) (s .kinds .now) (at .j) (at .inv .0) (c .spot-behind .ensures),
-      reports-next (at .inv .1) (c .before .before .before .before .before .before .before .loop-test .taken) found
-          (c .before .before .before .add-fault .ensures),
-    )
-
-same-length : tie.Need-same-length Inv-loop μ-loop
-same-length c =
-    c .before .loop .inv .1 .long
-
-returns : tie.Need-returns Inv-loop μ-loop
-returns c =
-    reports-last (c .before .loop .inv .1) (c .loop-test .left)
+report-each-requires : tie.Need-report-each-requires
+report-each-requires c κs =
+    c .before .before .before .before .before .before .before .before .before .before .before .pre .0
 
 pub report-wrong-spec : {M : Type 1} → statement M
 report-wrong-spec =
     tie.close
     (tie.spec
-    Inv-loop
-    μ-loop
-    loop-holds
-    is-wrong-requires
-    (λ c κs. search needs)
-    add-fault-requires
-    (λ c κs. search needs)
     (λ c. search needs)
+    note-places-requires
     (λ c. search needs)
-    loop-again
-    same-length
-    returns)
+    report-each-requires
+    (λ c. search needs)
+    (λ c. c .before .before .report-each .ensures))
