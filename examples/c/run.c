@@ -18,23 +18,16 @@ static double values[FLOESEDGE_SLOTS];
 static double derivs[FLOESEDGE_SLOTS];
 static char names[FLOESEDGE_SLOTS][8] = {"TIME"};
 
-/* Whether the line from..end closes with three dots, spaces behind them aside. */
-static int continues(const uint8_t *from, const uint8_t *end) {
-    while (end > from && end[-1] == ' ') end--;
-    return end - from >= 3 && memcmp(end - 3, "...", 3) == 0;
-}
-
 /* Names the slots of a text that was translated, and counts them. There every '=' outside a comment stands behind the
  * name that it defines, and slots follow the order of definitions. */
 static size_t name_slots(const uint8_t *from, size_t len) {
     const uint8_t *stop = from + len;
     size_t slots = 1;
-    int fresh = 1;
     char word[8] = "";
     while (from < stop) {
         const uint8_t *end = memchr(from, '\n', (size_t)(stop - from));
         if (end == NULL) end = stop;
-        if (!(fresh && *from == '*')) {
+        if (*from != '*') {
             size_t n = 0;
             for (const uint8_t *p = from; p < end; p++) {
                 if (isalnum(*p)) {
@@ -45,7 +38,6 @@ static size_t name_slots(const uint8_t *from, size_t len) {
                     n = 0;
                 }
             }
-            fresh = !continues(from, end);
         }
         from = end < stop ? end + 1 : stop;
     }

@@ -90,7 +90,8 @@ fn line_ends(word: u64) -> u64 {
 }
 
 /// One statement: its number, the texts of its lines without the closing dots,
-/// and the fault that its lines alone show.
+/// and the fault that its lines alone show. Comments between its lines are none
+/// of them.
 pub struct Statement<'a> {
     pub line: u32,
     parts: [&'a [u8]; STATEMENT_LINES],
@@ -114,7 +115,8 @@ pub struct Statements<'a, 'b> {
 impl<'a> Iterator for Statements<'a, '_> {
     type Item = Statement<'a>;
 
-    /// Passes over comments and blanks and takes one whole run of lines.
+    /// Passes over comments and blanks and takes one whole run of lines, passing
+    /// over the comments among them and behind closing dots.
     fn next(&mut self) -> Option<Statement<'a>> {
         while self.next < self.lines.count && is_passed_over(self.lines.line(self.next)) {
             self.next += 1;
@@ -134,6 +136,9 @@ impl<'a> Iterator for Statements<'a, '_> {
         while continues && self.next < self.lines.count {
             let line = self.lines.line(self.next);
             self.next += 1;
+            if is_comment(line) {
+                continue;
+            }
             too_long |= line.len() > LINE_BYTES;
             let part;
             (part, continues) = without_dots(line);
@@ -155,9 +160,14 @@ impl<'a> Iterator for Statements<'a, '_> {
     }
 }
 
+/// Whether a line is a comment, wherever it stands.
+fn is_comment(line: &[u8]) -> bool {
+    line.first() == Some(&b'*')
+}
+
 /// Whether a fresh line is a comment or a blank.
 fn is_passed_over(line: &[u8]) -> bool {
-    line.first() == Some(&b'*') || line.iter().all(|&byte| byte == b' ')
+    is_comment(line) || line.iter().all(|&byte| byte == b' ')
 }
 
 /// Takes trailing spaces off a line, and closing dots if there are any,
@@ -194,22 +204,64 @@ mod tests {
         assert_eq!(Lines::find(b"\n\nABCDEFGHIJ\nX").unwrap().count(), 4);
     }
 
+    /// Number, parts and fault of each statement of a text.
+    fn read(text: &[u8]) -> Vec<(u32, Vec<Vec<u8>>, Option<u8>)> {
+        let lines = Lines::find(text).unwrap();
+        let parts = |s: &Statement| s.parts().iter().map(|part| part.to_vec()).collect();
+        lines
+            .statements()
+            .map(|s| (s.line, parts(&s), s.fault))
+            .collect()
+    }
+
+    /// The same, written down.
+    fn statement(line: u32, parts: &[&str], fault: Option<u8>) -> (u32, Vec<Vec<u8>>, Option<u8>) {
+        let parts = parts.iter().map(|part| part.as_bytes().to_vec()).collect();
+        (line, parts, fault)
+    }
+
     #[test]
     fn statements_are_runs() {
-        let lines = Lines::find(b"* c ...\n\n   \nA=1 ...  \n*2\n *3\n...\n\nB").unwrap();
-        let seen: Vec<_> = lines
-            .statements()
-            .map(|s| (s.line, s.parts().to_vec(), s.fault))
-            .collect();
         assert_eq!(
-            seen,
-            vec![
-                (4, vec![&b"A=1 "[..], b"*2"], None),
-                (6, vec![&b" *3"[..]], None),
-                (7, vec![&b""[..], b""], None),
-                (9, vec![&b"B"[..]], None),
+            read(b"* c ...\n\n   \nA=1 ...  \n*2\n *3\n...\n\nB"),
+            [
+                statement(4, &["A=1 ", " *3"], None),
+                statement(7, &["", ""], None),
+                statement(9, &["B"], None),
             ]
         );
+    }
+
+    #[test]
+    fn comments_are_no_part_of_a_statement() {
+        assert_eq!(
+            read(b"A=1...\n*\n* c ...\n+2...\n*3...\n+4\n*5\nB"),
+            [
+                statement(1, &["A=1", "+2", "+4"], None),
+                statement(8, &["B"], None),
+            ]
+        );
+        // A blank ends the statement, also behind a comment.
+        assert_eq!(
+            read(b"A=1...\n* c\n\nB=2"),
+            [
+                statement(1, &["A=1", ""], None),
+                statement(4, &["B=2"], None),
+            ]
+        );
+    }
+
+    #[test]
+    fn statements_stay_open_behind_comments() {
+        let open = [statement(1, &["A=3"], Some(UNFINISHED))];
+        for text in [
+            &b"A=3..."[..],
+            b"A=3...\n*2",
+            b"A=3...\n*2\n",
+            b"A=3...\n*\n* ...\n*2",
+        ] {
+            assert_eq!(read(text), open);
+        }
     }
 
     #[test]

@@ -179,7 +179,7 @@ fn headers_over_lines() {
         "",
         "*",
         "B=D...",
-        "*C",
+        " *C",
         "   ENDPRO",
     ];
     let expected = records(&[

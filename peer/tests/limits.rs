@@ -76,8 +76,9 @@ fn line_bytes() {
     assert_eq!(refused(&format!("A=1...{}\n\n", spaces(67)), 5), [(1, 13)]);
     good(&format!("A=1...\n{}\n", spaces(72)));
     assert_eq!(refused(&format!("A=1...\n{}\n", spaces(73)), 5), [(1, 13)]);
-    // Comments and blanks are passed over at any length.
+    // Comments and blanks are passed over at any length, comments also inside.
     good(&format!("{}\n*{}\nA=1", spaces(100), spaces(100)));
+    good(&format!("A=1...\n*{}\n+1", spaces(99)));
     // Lines before bytes, bytes before tokens.
     let long = format!("A=#{}...\n", spaces(70));
     assert_eq!(refused(&long, 5), [(1, 11)]);
@@ -90,6 +91,9 @@ fn line_bytes() {
 fn statement_lines() {
     good("A=1...\n...\n...\n\n");
     assert_eq!(refused("A=1...\n...\n...\n...\n\n", 5), [(1, 12)]);
+    // Comments are not counted.
+    good("A=1...\n*\n...\n*\n*...\n...\n*\n\n");
+    assert_eq!(refused("A=1...\n*\n...\n...\n...\n*\n\n", 5), [(1, 12)]);
 }
 
 #[test]

@@ -97,8 +97,11 @@ fn continuing() {
         (7, 0, 1, 0.0),
         (13, 1, 1, 0.0),
     ]);
-    assert_eq!(good("A=3...\n*2"), expected);
-    assert_eq!(good("A=3.... \n*2"), expected);
+    assert_eq!(good("A=3...\n *2"), expected);
+    assert_eq!(good("A=3.... \n *2"), expected);
+    // Without the space the star makes a comment.
+    assert_eq!(refused("A=3...\n*2", 5), [(1, 11)]);
+    assert_eq!(refused("A=3.... \n*2", 5), [(1, 11)]);
     assert_eq!(refused("A=1...\n2", 5), [(1, 18)]);
     assert_eq!(refused("...\n", 5), [(1, 11)]);
     assert_eq!(refused("...\n\n", 5), [(1, 18)]);
@@ -193,4 +196,5 @@ fn listings() {
     assert_eq!(listing(b""), b"OK 0\n");
     assert_eq!(listing(&[b'\n'; 513]), b"NO 3\n");
     assert_eq!(listing(b"A=B\nB=A\nD=A"), b"NO 7\n1 24\n2 24\n3 24\n");
+    assert_eq!(listing(b"A=3...\n*2"), b"NO 5\n1 11\n");
 }

@@ -71,6 +71,7 @@ fn faults() {
     let level = |n: usize| format!("A={}1{}", "(".repeat(n), ")".repeat(n));
     let cases: Vec<(String, Vec<(u16, u8)>)> = vec![
         ("A=1...".into(), vec![(1, 11)]),
+        ("A=3...\n*2".into(), vec![(1, 11)]),
         ("A=1...\n+1...\n+1...\n+1...\n+1\nB=1".into(), vec![(1, 12)]),
         (format!("A=1{}", " ".repeat(70)), vec![(1, 13)]),
         ("A=1;B=2\na=1".into(), vec![(1, 14), (2, 14)]),

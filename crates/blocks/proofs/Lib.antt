@@ -30,3 +30,4 @@ pub mod Agreement
 pub mod StatedFew
 pub mod TextHeaded
 pub mod SheetFits
+pub mod Renumbering

@@ -7,7 +7,7 @@ use native.Mathlib.Omega.{arith}
 use lib.ListN.{length}
 use Rattle.laws.specs.Lists.{concat-map}
 use Rattle.deck.specs.Lines.{Line, linesOf}
-use Rattle.deck.specs.Reading.{Statement, fresh, reading}
+use Rattle.deck.specs.Reading.{Statement, cardsOf, fresh, reading}
 use Rattle.deck.specs.Reports.{report}
 use Rattle.deck.specs.Joined.{joined}
 use Rattle.deck.specs.Faults.{Flaw, none, flaw, sizeFlaw}
@@ -62,7 +62,9 @@ told-headed cards closed = sized-headed (sizeFlaw cards closed) (joined cards)
 reports-headed : (ss : List Statement) → Headed (said (map (report told) ss))
 unfolding concat-map
 reports-headed [] = tt
-reports-headed (s ∷ ss) = go (told (s .cards) (s .closed)) (told-headed (s .cards) (s .closed)) (reports-headed ss)
+reports-headed (s ∷ ss) =
+    let cards = cardsOf (s .lines) in
+    go (told cards (s .closed)) (told-headed cards (s .closed)) (reports-headed ss)
   where
     go : (t : Told) → ToldHeaded t → Headed (said (map (report told) ss))
         → Headed (said (record { line = s .first; what = t } ∷ map (report told) ss))

@@ -5,7 +5,7 @@ use mathlib.Core.Bool.{Bool}
 use mathlib.Core.List.{List}
 use Rattle.laws.specs.Agree.{Agree, Agree2}
 use Rattle.deck.specs.declared.Cursor.{Cursor}
-use Rattle.deck.specs.Contract.{FindsNext, CountsLines, Surveys, CodesSize, Joins}
+use Rattle.deck.specs.Contract.{FindsNext, CountsLines, CountsStatements, CodesSize, Joins}
 
 pub next-statement : (text : List ℕ) (c : Cursor) → Agree (FindsNext text c)
 next-statement text c r s p q = p .0 ∙ sym (q .0)
@@ -13,11 +13,11 @@ next-statement text c r s p q = p .0 ∙ sym (q .0)
 pub line-count : (text : List ℕ) → Agree (CountsLines text)
 line-count text r s p q = p ∙ sym q
 
-pub survey : (text : List ℕ) → Agree (Surveys text)
-survey text r s p q = p ∙ sym q
+pub statement-count : (text : List ℕ) → Agree (CountsStatements text)
+statement-count text r s p q = p ∙ sym q
 
 pub size-code : (cards : ℕ) (closed long : Bool) → Agree (CodesSize cards closed long)
 size-code cards closed long r s p q = p ∙ sym q
 
-pub join : (text : List ℕ) (start cards : ℕ) (out : List ℕ) → Agree2 (Joins text start cards out)
-join text start cards out r s a b p q = (p .0 ∙ sym (q .0), p .1 ∙ sym (q .1))
+pub join : (text : List ℕ) (start lines : ℕ) (out : List ℕ) → Agree2 (Joins text start lines out)
+join text start lines out r s a b p q = (p .0 ∙ sym (q .0), p .1 ∙ sym (q .1))

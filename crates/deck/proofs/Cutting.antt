@@ -1,19 +1,20 @@
 -- Laws of lines over the bytes of a text.
-use Prim.Native.Nat.{ℕ, suc, _+_, _-_, _≤_, _<_, zero-le, suc-le-suc}
+use Prim.Native.Nat.{ℕ, zero, suc, _+_, _-_, _≤_, _<_, zero-le, suc-le-suc}
 use mathlib.Core.Path.{_≡_, refl, sym, ap, _∙_}
 use mathlib.Core.Bool.{Bool, true, false, cond}
 use mathlib.Core.List.{List, [], _∷_, _++_}
 use mathlib.Core.Logic.{⊎-elim}
 use native.Mathlib.Numerals.{add-one}
-use native.Mathlib.Nat.{not-suc-le-zero}
+use native.Mathlib.Nat.{add-zero, not-suc-le-zero}
 use native.Mathlib.Omega.{arith}
 use lib.ListN.{length, getD, take, drop, drop-of-length-le, length-drop, length-take, length-append}
 use lib.Seq.{drop-cons, drop-drop, take-suc, length-take-le}
 use lib.Dec.{eqb}
 use borrow.Author.Tests.{eq-eqb, ne-eqb}
+use Rattle.laws.specs.Every.{Every}
 use Rattle.laws.proofs.Tests.{lt-or-ge}
-use Rattle.deck.specs.Lines.{Line, cut, linesOf, kept, trimmed}
-use Rattle.deck.specs.Next.{width}
+use Rattle.deck.specs.Lines.{Line, cut, linesOf, kept, trimmed, starred}
+use Rattle.deck.specs.Next.{width, spread}
 
 -- ---- the bytes before the first byte 10, from a place on
 module _ (t : List ℕ) (i : ℕ) where
@@ -77,6 +78,11 @@ module _ (l : Line) (n : ℕ) (z : 0 < n) (h : n ≤ length l) where
   pub trimmed-at-other : (getD l (n - 1) 0 ≡ 32 → ⊥) → trimmed (take n l) ≡ n
   trimmed-at-other e =
       last ∙ rw (trimmed-other (take (n - 1) l) _ e, length-take-le (n - 1) l (omega arith)) (omega arith)
+
+-- ---- an empty line is no comment
+pub starred-none : (l : Line) → length l ≡ 0 → false ≡ starred l
+starred-none [] h = refl
+starred-none (b ∷ l) h = absurd (omega arith)
 
 -- ---- lines from a place on
 
@@ -145,6 +151,66 @@ module _ (t : List ℕ) (at : ℕ) (l : Line) (ls : List Line) (q : linesOf (dro
       let n : at + length l + 1 ≡ at + width (drop at t) + 1 = omega (arith, ap length e ∙ a .long) in
       rw n (cc (q, a .lines))
 
+-- where lines are there are bytes
+pub lines-bytes : (t : List ℕ) (at : ℕ) → 0 < length (linesOf (drop at t)) → at < length t
+lines-bytes t at h =
+    ⊎-elim (λ b. b) (λ b. let z = ap length (lines-end t at b) in absurd (omega arith)) (lt-or-ge at (length t))
+
+-- the first line of the lines from a place on stands there
+pub line-stands : (t : List ℕ) (s : ℕ) (l : Line) (ls : List Line) → linesOf (drop s t) ≡ l ∷ ls
+    → (take (length l) (drop s t) ≡ l) × (s + length l ≤ length t)
+line-stands t s l ls q =
+    let e = s + width (drop s t) in
+    let a = line-at t s e (lines-some t s l ls q) refl in
+    let h : l ≡ lineOf t s e = cc (sym q ∙ a .lines) in
+    let n : length l ≡ e - s = ap length h ∙ a .long in
+    (ap (λ (m : ℕ). take m (drop s t)) n ∙ sym h, omega (arith, a .from, a .upto))
+
+-- ---- the bytes of lines, a byte 10 behind each
+
+pub spread-append : (x y : List Line) → spread (x ++ y) ≡ spread x + spread y
+unfolding spread
+spread-append [] y = omega arith
+spread-append (l ∷ x) y = omega (arith, spread-append x y)
+
+-- one line more
+pub spread-snoc : (x : List Line) (l : Line) → spread (x ++ (l ∷ [])) ≡ spread x + length l + 1
+unfolding spread
+spread-snoc x l = omega (arith, spread-append x (l ∷ []))
+
+-- no fewer than the lines
+pub spread-many : (ls : List Line) → length ls ≤ spread ls
+unfolding spread
+spread-many [] = omega arith
+spread-many (l ∷ ls) = omega (arith, spread-many ls)
+
+-- the first n lines have no more than all
+pub spread-take : (n : ℕ) (ls : List Line) → spread (take n ls) ≤ spread ls
+unfolding spread
+spread-take zero ls = omega arith
+spread-take (suc n) [] = omega arith
+spread-take (suc n) (l ∷ ls) = omega (arith, spread-take n ls)
+
+-- a text's lines have at most one byte more than the text
+pub lines-spread : (t : List ℕ) → spread (linesOf t) ≤ length t + 1
+unfolding spread linesOf
+lines-spread [] = omega arith
+lines-spread (b ∷ t) = go (eqb b 10) (linesOf t) (lines-spread t)
+  where
+    go : (e : Bool) (ls : List Line) → spread ls ≤ length t + 1 → spread (cut e b ls) ≤ suc (length t) + 1
+    go true ls h = omega arith
+    go false [] h = omega arith
+    go false (l ∷ ls) h = omega arith
+
+-- behind some of the lines from a place on stand the others
+pub lines-behind : (t : List ℕ) (at : ℕ) (front rest : List Line) → linesOf (drop at t) ≡ front ++ rest
+    → linesOf (drop (at + spread front) t) ≡ rest
+unfolding spread
+lines-behind t at [] rest q = rw add-zero q
+lines-behind t at (l ∷ front) rest q =
+    let n : at + length l + 1 + spread front ≡ at + (length l + 1 + spread front) = omega arith in
+    rw (← n) (lines-behind t (at + length l + 1) front rest (lines-tail t at l (front ++ rest) q))
+
 -- ---- lines of two parts
 
 -- lines behind a first line stay behind it
@@ -168,3 +234,9 @@ pub lines-lacking : (x : List ℕ) (b : ℕ) → (b ≡ 10 → ⊥)
 unfolding linesOf
 lines-lacking [] b e = rw (ne-eqb _ _ e)
 lines-lacking (a ∷ x) b e = ap (cut (eqb a 10) a) (lines-lacking x b e)
+
+-- bytes without a byte 10, and one behind them, are one line
+pub lines-whole : (l : Line) → Every (λ (x : ℕ). x ≡ 10 → ⊥) l → linesOf (l ++ (10 ∷ [])) ≡ l ∷ []
+unfolding linesOf
+lines-whole [] h = refl
+lines-whole (b ∷ l) h = rw (ne-eqb b 10 (h .0), lines-whole l (h .1))

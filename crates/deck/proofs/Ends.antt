@@ -13,7 +13,7 @@ use lib.Seq.{drop-cons, drop-drop, length-take-le}
 use Rattle.laws.specs.Counts.{once}
 use Rattle.deck.specs.Lines.{Line, cut, linesOf}
 use Rattle.deck.specs.Next.{width, SameEnd}
-use Rattle.deck.specs.Survey.{endsOf}
+use Rattle.deck.specs.Ends.{endsOf}
 
 -- ---- counted one by one, and part by part
 

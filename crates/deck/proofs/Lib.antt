@@ -2,10 +2,13 @@ pub mod Local
 pub mod Rising
 pub mod Cutting
 pub mod Ends
+pub mod Cards
+pub mod First
 pub mod Steps
-pub mod Sizing
 pub mod Parts
 pub mod Writes
 pub mod Walking
+pub mod Sizing
 pub mod Sharing
+pub mod Comments
 pub mod Agreement

@@ -5,9 +5,9 @@ use mathlib.Core.Bool.{Bool, true, false, cond}
 use mathlib.Core.List.{List, [], _∷_, _++_, map, append-assoc, map-append}
 use native.Mathlib.Nat.{add-zero, add-suc, suc-add}
 use lib.ListN.{length}
-use Rattle.deck.specs.Lines.{Line, dotted, passed}
-use Rattle.deck.specs.Reading.{Statement, State, fresh, inside, goes-on, justClosed, after, ended, left, reading}
-use Rattle.deck.specs.Reading.{closedIn, stateAfter}
+use Rattle.deck.specs.Lines.{Line, dotted, starred, passed}
+use Rattle.deck.specs.Reading.{Statement, State, fresh, inside, leavesOpen, goes-on, justClosed, after, ended}
+use Rattle.deck.specs.Reading.{left, reading, closedIn, stateAfter}
 use Rattle.deck.specs.Reports.{report}
 use Rattle.deck.specs.Later.{later, laterState, laterReport}
 
@@ -34,31 +34,37 @@ unfolding stateAfter
 state-append s n [] q = rw add-zero
 state-append s n (l ∷ p) q = rw (state-append (after s n l) (suc n) p q, add-suc, suc-add)
 
--- ---- behind a line without closing dots reading is fresh
+-- ---- behind a line without closing dots that is no comment reading is fresh
+
+-- such a line leaves no statement open
+closing : (l : Line) → dotted l ≡ false → starred l ≡ false → leavesOpen l ≡ false
+closing l d c = rw (c, d)
 
 -- whatever the state before it
-pub after-undotted : (s : State) (n : ℕ) (l : Line) → dotted l ≡ false → after s n l ≡ fresh
+after-closing : (s : State) (n : ℕ) (l : Line) → leavesOpen l ≡ false → after s n l ≡ fresh
 unfolding after
-after-undotted fresh n l e = rw e (go (passed l))
+after-closing fresh n l e = rw e (go (passed l))
   where
     go : (b : Bool) → cond b fresh fresh ≡ fresh
     go true = refl
     go false = refl
-after-undotted (inside f cs) n l e = rw e
+after-closing (inside f ls) n l e = rw e
 
 -- whatever the lines before it
-pub fresh-behind : (ls : List Line) (l : Line) → dotted l ≡ false → stateAfter fresh 1 (ls ++ (l ∷ [])) ≡ fresh
+pub fresh-behind : (ls : List Line) (l : Line) → dotted l ≡ false → starred l ≡ false
+    → stateAfter fresh 1 (ls ++ (l ∷ [])) ≡ fresh
 unfolding stateAfter
-fresh-behind ls l e = state-append fresh 1 ls (l ∷ []) ∙ after-undotted (stateAfter fresh 1 ls) (1 + length ls) l e
+fresh-behind ls l d c =
+    state-append fresh 1 ls (l ∷ []) ∙ after-closing (stateAfter fresh 1 ls) (1 + length ls) l (closing l d c)
 
 -- ---- line numbers raised by k
 
--- of the statement that a line without dots ends
+-- of the statement that a line closes
 closed-later : (k : ℕ) (b : Bool) (f : ℕ) (cs : List Line) → justClosed b (k + f) cs ≡ map (later k) (justClosed b f cs)
 closed-later k true f cs = refl
 closed-later k false f cs = refl
 
--- of the statement that a dotted line keeps open
+-- of the statement that it leaves open
 goes-on-later : (k : ℕ) (b : Bool) (f : ℕ) (cs : List Line) → goes-on b (k + f) cs ≡ laterState k (goes-on b f cs)
 goes-on-later k true f cs = refl
 goes-on-later k false f cs = refl
@@ -68,22 +74,22 @@ after-later : (k : ℕ) (s : State) (n : ℕ) (l : Line) → after (laterState k
 unfolding after
 after-later k fresh n l = go (passed l)
   where
-    go : (b : Bool) → cond b fresh (goes-on (dotted l) (k + n) (l ∷ []))
-        ≡ laterState k (cond b fresh (goes-on (dotted l) n (l ∷ [])))
+    go : (b : Bool) → cond b fresh (goes-on (leavesOpen l) (k + n) (l ∷ []))
+        ≡ laterState k (cond b fresh (goes-on (leavesOpen l) n (l ∷ [])))
     go true = refl
-    go false = goes-on-later k (dotted l) n (l ∷ [])
-after-later k (inside f cs) n l = goes-on-later k (dotted l) f (cs ++ (l ∷ []))
+    go false = goes-on-later k (leavesOpen l) n (l ∷ [])
+after-later k (inside f cs) n l = goes-on-later k (leavesOpen l) f (cs ++ (l ∷ []))
 
 -- of what a line ends
 ended-later : (k : ℕ) (s : State) (n : ℕ) (l : Line) → ended (laterState k s) (k + n) l ≡ map (later k) (ended s n l)
 unfolding ended
 ended-later k fresh n l = go (passed l)
   where
-    go : (b : Bool) → cond b [] (justClosed (dotted l) (k + n) (l ∷ []))
-        ≡ map (later k) (cond b [] (justClosed (dotted l) n (l ∷ [])))
+    go : (b : Bool) → cond b [] (justClosed (leavesOpen l) (k + n) (l ∷ []))
+        ≡ map (later k) (cond b [] (justClosed (leavesOpen l) n (l ∷ [])))
     go true = refl
-    go false = closed-later k (dotted l) n (l ∷ [])
-ended-later k (inside f cs) n l = closed-later k (dotted l) f (cs ++ (l ∷ []))
+    go false = closed-later k (leavesOpen l) n (l ∷ [])
+ended-later k (inside f cs) n l = closed-later k (leavesOpen l) f (cs ++ (l ∷ []))
 
 -- of what the end leaves
 left-later : (k : ℕ) (s : State) → left (laterState k s) ≡ map (later k) (left s)

@@ -1,16 +1,18 @@
 -- The first lines of a text's statements rise, and are among the lines that were read.
 use Prim.Native.Nat.{ℕ, suc, _+_, _≤_, _<_}
+use mathlib.Core.Path.{_≡_}
 use mathlib.Core.Bool.{Bool, true, false, cond}
 use mathlib.Core.List.{List, [], _∷_, _++_, map}
 use native.Mathlib.Omega.{arith}
+use native.Mathlib.Nat.{add-zero}
 use lib.ListN.{length}
 use Rattle.laws.specs.Every.{Every}
 use Rattle.laws.proofs.Every.{every-append, every-map}
 use Rattle.laws.specs.Rising.{Rising}
 use Rattle.laws.proofs.Rising.{rising-le}
-use Rattle.deck.specs.Lines.{Line, dotted, passed}
-use Rattle.deck.specs.Reading.{Statement, State, fresh, inside, goes-on, justClosed, after, ended, left, reading}
-use Rattle.deck.specs.Reading.{closedIn}
+use Rattle.deck.specs.Lines.{Line, passed}
+use Rattle.deck.specs.Reading.{Statement, State, fresh, inside, leavesOpen, goes-on, justClosed, after, ended}
+use Rattle.deck.specs.Reading.{left, reading, closedIn, stateAfter}
 
 -- their first lines
 abbrev pub firsts : List Statement → List ℕ
@@ -22,7 +24,7 @@ least fresh n = n
 least (inside f cs) n = f
 
 -- a statement that is open starts before line n
-abbrev Before : State → ℕ → Type 0
+abbrev pub Before : State → ℕ → Type 0
 Before fresh n = Unit {0}
 Before (inside f cs) n = f < n
 
@@ -31,7 +33,7 @@ pub reading-rises : (s : State) (n : ℕ) (ls : List Line) → Before s n → Ri
 unfolding reading left after ended
 reading-rises fresh n [] b = tt
 reading-rises (inside f cs) n [] b = (omega arith, tt)
-reading-rises fresh n (l ∷ ls) b = go (passed l) (dotted l) (λ s b. reading-rises s (suc n) ls b)
+reading-rises fresh n (l ∷ ls) b = go (passed l) (leavesOpen l) (λ s b. reading-rises s (suc n) ls b)
   where
     go : (p d : Bool) → ((s : State) → Before s (suc n) → Rising (least s (suc n)) (firsts (reading s (suc n) ls)))
         → Rising n
@@ -39,7 +41,7 @@ reading-rises fresh n (l ∷ ls) b = go (passed l) (dotted l) (λ s b. reading-r
     go true d ih = rising-le (suc n) n (firsts (reading fresh (suc n) ls)) (ih fresh tt) (omega arith)
     go false true ih = ih (inside n (l ∷ [])) (omega arith)
     go false false ih = (omega arith, ih fresh tt)
-reading-rises (inside f cs) n (l ∷ ls) b = go (dotted l) (λ s b. reading-rises s (suc n) ls b)
+reading-rises (inside f cs) n (l ∷ ls) b = go (leavesOpen l) (λ s b. reading-rises s (suc n) ls b)
   where
     go : (d : Bool) → ((s : State) → Before s (suc n) → Rising (least s (suc n)) (firsts (reading s (suc n) ls)))
         → Rising f (firsts (justClosed d f (cs ++ (l ∷ [])) ++ reading (goes-on d f (cs ++ (l ∷ []))) (suc n) ls))
@@ -62,13 +64,13 @@ reading-from n ls = firsts-from n (reading fresh n ls) (reading-rises fresh n ls
 -- a statement that line n ends starts there at the latest
 ended-before : (s : State) (n : ℕ) (l : Line) → Before s n → Every (λ (t : Statement). t .first < suc n) (ended s n l)
 unfolding ended
-ended-before fresh n l b = go (passed l) (dotted l)
+ended-before fresh n l b = go (passed l) (leavesOpen l)
   where
     go : (p d : Bool) → Every (λ (t : Statement). t .first < suc n) (cond p [] (justClosed d n (l ∷ [])))
     go true d = tt
     go false true = tt
     go false false = (omega arith, tt)
-ended-before (inside f cs) n l b = go (dotted l)
+ended-before (inside f cs) n l b = go (leavesOpen l)
   where
     go : (d : Bool) → Every (λ (t : Statement). t .first < suc n) (justClosed d f (cs ++ (l ∷ [])))
     go true = tt
@@ -77,17 +79,25 @@ ended-before (inside f cs) n l b = go (dotted l)
 -- so does one that is open behind it
 after-before : (s : State) (n : ℕ) (l : Line) → Before s n → Before (after s n l) (suc n)
 unfolding after
-after-before fresh n l b = go (passed l) (dotted l)
+after-before fresh n l b = go (passed l) (leavesOpen l)
   where
     go : (p d : Bool) → Before (cond p fresh (goes-on d n (l ∷ []))) (suc n)
     go true d = tt
     go false true = omega arith
     go false false = tt
-after-before (inside f cs) n l b = go (dotted l)
+after-before (inside f cs) n l b = go (leavesOpen l)
   where
     go : (d : Bool) → Before (goes-on d f (cs ++ (l ∷ []))) (suc n)
     go true = omega arith
     go false = tt
+
+-- and one that is open behind all of these
+pub state-before : (s : State) (n : ℕ) (ls : List Line) → Before s n → Before (stateAfter s n ls) (n + length ls)
+unfolding stateAfter
+state-before s n [] b = rw add-zero b
+state-before s n (l ∷ ls) b =
+    let number : suc n + length ls ≡ n + suc (length ls) = omega arith in
+    rw (← number) (state-before (after s n l) (suc n) ls (after-before s n l b))
 
 -- statements that lines end start on the last of these at the latest
 closed-before : (s : State) (n : ℕ) (ls : List Line) → Before s n

@@ -1,148 +1,141 @@
 -- What the code finds is what the reading of the lines says: for a caller that goes from statement to statement.
-use Prim.Native.Nat.{ℕ, suc, _+_}
+use Prim.Native.Nat.{ℕ, _+_, _-_, _<_}
 use mathlib.Core.Path.{_≡_, refl, sym, ap, _∙_}
-use mathlib.Core.Bool.{Bool, true, false, cond, _||_, or-false, or-assoc}
-use mathlib.Core.List.{List, [], _∷_, _++_, append-assoc}
+use mathlib.Core.Bool.{Bool, false}
+use mathlib.Core.List.{List, [], _∷_, _++_}
+use mathlib.Core.Logic.{_⊎_, inl, inr}
 use native.Mathlib.Omega.{arith}
-use native.Mathlib.Numerals.{add-one}
-use native.Mathlib.Nat.{add-zero}
-use lib.Dec.{ltb}
-use lib.ListN.{length, drop, length-append}
+use lib.ListN.{length, take, drop, length-append}
 use lib.Seq.{take-at}
-use borrow.Author.Tests.{eq-eqb}
-use Rattle.limits.specs.Limits.{cardBytes}
-use Rattle.deck.specs.Lines.{Line, linesOf, dotted, passed}
-use Rattle.deck.specs.Reading.{Statement as Read, fresh, inside, goes-on, justClosed, after, ended, left, reading}
-use Rattle.deck.specs.Faults.{anyLong, sizeFlaw}
-use Rattle.deck.specs.Next.{runOf, nextOf, Lawful, foundFrom, Further, statementsFrom, cardsAt}
-use Rattle.deck.specs.Codes.{sizeCode, flawOf}
-use Rattle.deck.specs.Walks.{Walk}
+use lib.Dec.{leb}
+use borrow.Author.Tests.{eq-eqb, leb-true}
+use Rattle.laws.proofs.Bools.{or-false}
+use Rattle.laws.proofs.Tests.{cond-ind}
+use Rattle.deck.specs.Lines.{Line, linesOf, dotted, starred}
+use Rattle.deck.specs.Reading.{cardsOf, leavesOpen}
+use Rattle.deck.specs.Joined.{linePart, joined}
+use Rattle.deck.specs.Next.{spread, linesAt, statementsFrom, foundOf, foundIn, Lawful, foundFrom}
+use Rattle.deck.specs.Next.{Further}
+use Rattle.deck.specs.Walks.{BytesFrom, Walk}
 use Rattle.deck.specs.declared.Cursor.{Cursor}
 use Rattle.deck.specs.declared.Found.{Found}
 use Rattle.deck.specs.declared.Found.the-variants.{Statement, End}
-use Rattle.deck.proofs.Cutting.{lines-tail}
-use Rattle.deck.proofs.Steps.{found-next, found-further}
+use Rattle.deck.proofs.Cutting.{lines-bytes, line-stands, lines-behind, spread-many}
+use Rattle.deck.proofs.First.{Shut, First, first}
+use Rattle.deck.proofs.Steps.{found-next}
 use Rattle.deck.proofs.Parts.{size-flaw, joined-short}
 
--- ---- an answer of the code: Statement, with first f, start s, cards k, closed d, long g and next nx; or End
+-- ---- a statement of one line
 
--- the statements that it stands for: the one that was found, with its lines in the text, and those behind it
-abbrev readOf : List ℕ → Found → List Read
-readOf t End = []
-readOf t (Statement f s k d g nx) = record { first = f; cards = cardsAt t s k; closed = d } ∷ statementsFrom t nx
+-- the joined text of the line that closed it is the line
+alone-joined : (l : Line) → leavesOpen l ≡ false → joined (cardsOf (l ∷ [])) ≡ l
+unfolding joined linePart cardsOf
+alone-joined l e = let both = or-false (starred l) (dotted l) e in rw (both .0, both .1)
 
--- its count of lines and its flag are those of the lines
-abbrev Right : List ℕ → Found → Type 0
-Right t End = Unit {0}
-Right t (Statement f s k d g nx) = (length (cardsAt t s k) ≡ k) × (g ≡ anyLong (cardsAt t s k))
-
--- one line more
-any-snoc : (cs : List Line) (l : Line) → anyLong (cs ++ (l ∷ [])) ≡ (anyLong cs || ltb cardBytes (length l))
-unfolding anyLong
-any-snoc [] l = or-false (ltb cardBytes (length l))
-any-snoc (c ∷ cs) l =
-    rw (any-snoc cs l) (sym (or-assoc (ltb cardBytes (length c)) (anyLong cs) (ltb cardBytes (length l))))
-
--- inside the statement that starts at s: cs are its lines so far, k of them, and ls the lines from place at on
-record Inside (t : List ℕ) (s at k : ℕ) (long : Bool) (cs ls : List Line) : Type 0 where
-  count : length cs ≡ k
-  all : linesOf (drop s t) ≡ cs ++ ls
-  rest : linesOf (drop at t) ≡ ls
-  flag : long ≡ anyLong cs
-
--- behind one line more of it
-inside-next : {t : List ℕ} {s at k : ℕ} {long : Bool} {cs ls : List Line} (l : Line) → Inside t s at k long cs (l ∷ ls)
-    → Inside t s (at + length l + 1) (k + 1) (long || ltb cardBytes (length l)) (cs ++ (l ∷ [])) ls
-inside-next {t} {s} {at} {k} {long} {cs} {ls} l i =
-    record {
-      count = simp length-append (omega (arith, i .count));
-      all = i .all ∙ sym (append-assoc cs (l ∷ []) ls);
-      rest = lines-tail t at l ls (i .rest);
-      flag = rw (i .flag) (sym (any-snoc cs l));
-    }
-
--- so many lines from its start on are its lines so far
-inside-cards : {t : List ℕ} {s at k : ℕ} {long : Bool} {cs ls : List Line} → Inside t s at k long cs ls
-    → cardsAt t s k ≡ cs
-inside-cards {t} {s} {at} {k} {long} {cs} {ls} i = rw (i .all) (take-at cs ls k (i .count))
-
--- inside a statement
-run-reads : (t : List ℕ) (f s at k : ℕ) (long : Bool) (cs ls : List Line) → Inside t s at k long cs ls
-    → (reading (inside f cs) (f + k) ls ≡ readOf t (runOf f s at k long ls)) × Right t (runOf f s at k long ls)
-unfolding reading runOf left ended after
-run-reads t f s at k long cs [] i = (rw (i .rest, inside-cards i), rw (inside-cards i) (i .count, i .flag))
-run-reads t f s at k long cs (l ∷ ls) i =
-    go (dotted l)
-    (run-reads t f s (at + length l + 1) (k + 1) (long || ltb cardBytes (length l)) (cs ++ (l ∷ [])) ls next)
+-- of lines of which the last closed it, where there is one
+alone-line : (ls : List Line) → length ls ≡ 1 → Shut ls → (l : Line) × (ls ≡ l ∷ []) × (leavesOpen l ≡ false)
+alone-line ls n s = go (s .before) (s .whole)
   where
-    next : Inside t s (at + length l + 1) (k + 1) (long || ltb cardBytes (length l)) (cs ++ (l ∷ [])) ls
-    next = inside-next l i
+    go : (before : List Line) → ls ≡ before ++ (s .last ∷ []) → (l : Line) × (ls ≡ l ∷ []) × (leavesOpen l ≡ false)
+    go [] q = (s .last, q, s .closing)
+    go (m ∷ before) q =
+        absurd (omega (arith, n, ap length q, length-append before (s .last ∷ [])))
 
-    up : suc (f + k) ≡ f + (k + 1)
-    up = omega arith
-
-    more : Found
-    more = runOf f s (at + length l + 1) (k + 1) (long || ltb cardBytes (length l)) ls
-
-    stop : Found
-    stop = Statement f s (k + 1) true (long || ltb cardBytes (length l))
-        (record { at = at + length l + 1; line = f + (k + 1) })
-
-    go : (b : Bool) → (reading (inside f (cs ++ (l ∷ []))) (f + (k + 1)) ls ≡ readOf t more) × Right t more
-        → (justClosed b f (cs ++ (l ∷ [])) ++ reading (goes-on b f (cs ++ (l ∷ []))) (suc (f + k)) ls
-        ≡ readOf t (cond b more stop)) × Right t (cond b more stop)
-    go true h = (rw up (h .0), h .1)
-    go false h = (rw (up, next .rest, inside-cards next), rw (inside-cards next) (next .count, next .flag))
-
--- from a fresh line on
-next-reads : (t : List ℕ) (at n : ℕ) (ls : List Line) → linesOf (drop at t) ≡ ls
-    → (reading fresh n ls ≡ readOf t (nextOf at n ls)) × Right t (nextOf at n ls)
-unfolding reading nextOf left ended after anyLong
-next-reads t at n [] q = (refl, tt)
-next-reads t at n (l ∷ ls) q = go (passed l) (next-reads t (at + length l + 1) (n + 1) ls (lines-tail t at l ls q))
+-- it stands before the next cursor
+alone : (t : List ℕ) (s : ℕ) (ls rest : List Line) → linesOf (drop s t) ≡ ls ++ rest → length ls ≡ 1 → Shut ls
+    → BytesFrom t s (s + spread ls) (joined (cardsOf ls))
+unfolding spread
+alone t s ls rest q n shut = go (alone-line ls n shut)
   where
-    more : Found
-    more = nextOf (at + length l + 1) (n + 1) ls
+    go : (l : Line) × (ls ≡ l ∷ []) × (leavesOpen l ≡ false) → BytesFrom t s (s + spread ls) (joined (cardsOf ls))
+    go (l, e, c) =
+        let w = line-stands t s l rest (q ∙ ap (λ (x : List Line). x ++ rest) e) in
+        let m : s + (length l + 1 + 0) - 1 - s ≡ length l = omega arith in
+        rw e
+        (record { from = omega arith; upto = omega (arith, w .1); same = rw m (w .0) ∙ sym (alone-joined l c) })
 
-    start : Found
-    start = runOf n at at 0 false (l ∷ ls)
+-- ---- an answer of the code: Statement, with first f, start s, lines n, cards k, closed d, long g and next nx; or End
 
-    run : (reading (inside n []) (n + 0) (l ∷ ls) ≡ readOf t start) × Right t start
-    run = run-reads t n at at 0 false [] (l ∷ ls) (record { count = refl; all = q; rest = q; flag = refl })
-
-    go : (b : Bool) → (reading fresh (n + 1) ls ≡ readOf t more) × Right t more
-        → (cond b [] (justClosed (dotted l) n (l ∷ []))
-        ++ reading (cond b fresh (goes-on (dotted l) n (l ∷ []))) (suc n) ls
-        ≡ readOf t (cond b more start))
-        × Right t (cond b more start)
-    go true h = (rw (← (add-one n)) (h .0), h .1)
-    go false h = (rw add-zero at (run .0), run .1)
-
--- from a lawful cursor on
-found-reads : (t : List ℕ) (c : Cursor) → Lawful c
-    → (statementsFrom t c ≡ readOf t (foundFrom t c)) × Right t (foundFrom t c)
-found-reads t c h = rw (found-next t c h) (next-reads t (c .at) (c .line) (linesOf (drop (c .at) t)) refl)
-
--- ---- one step of a caller's walk
+-- it is a step of a walk, or nothing is left
+abbrev Walked : List ℕ → Cursor → Found → Type 0
+Walked t c End = statementsFrom t c ≡ []
+Walked t c (Statement f s n k d g nx) = Walk t c f s n k d g nx
 
 module _ (t : List ℕ) (c : Cursor) (h : Lawful c) where
-  -- what was found gives such a step
-  pub walk : {f s k : ℕ} {d g : Bool} {nx : Cursor} → foundFrom t c ≡ Statement f s k d g nx → Walk t c f s k d g nx
-  walk {f} {s} {k} {d} {g} {nx} e =
-      let x = found-reads t c h in
-      let r : Right t (Statement f s k d g nx) = rw e at (x .1) in
-      let b : Further (length t) c (Statement f s k d g nx) = rw e at (found-further t c) in
-      let z : sizeFlaw (cardsAt t s k) d ≡ flawOf d (sizeCode k d g) =
-      size-flaw (cardsAt t s k) d ∙ rw (r .0, ← (r .1)) in
+  -- the lines from the cursor on
+  abbrev ahead : List Line
+  ahead = linesOf (drop (c .at) t)
+
+  -- a first statement is walked over
+  walk-first : (x : First (c .line) ahead)
+      → Walked t c
+      (foundOf (c .at + spread (x .front))
+      (record { first = c .line + length (x .front); lines = x .lines; closed = x .closed }))
+  walk-first x =
+      let s = c .at + spread (x .front) in
+      let from-start : linesOf (drop s t) ≡ x .lines ++ x .rest =
+      lines-behind t (c .at) (x .front) (x .lines ++ x .rest) (x .parts) in
+      let from-next : linesOf (drop (s + spread (x .lines)) t) ≡ x .rest =
+      lines-behind t s (x .lines) (x .rest) from-start in
+      let its : linesAt t s (length (x .lines)) ≡ x .lines =
+      ap (take (length (x .lines))) from-start ∙ take-at (x .lines) (x .rest) (length (x .lines)) refl in
+      let many = ap length from-start ∙ length-append (x .lines) (x .rest) in
+      let bytes : s < length t = lines-bytes t s (omega (arith, many, x .some)) in
+      let front = spread-many (x .front) in
+      let lines = spread-many (x .lines) in
+      let size = size-flaw (cardsOf (x .lines)) (x .closed) in
       record {
-        reads = x .0 ∙ ap (readOf t) e;
-        size = z;
-        short = λ n. joined-short (cardsAt t s k) d (z ∙ rw (eq-eqb _ 0 n));
-        bytes = b .0;
-        further = b .1;
-        lawful = b .2;
+        reads = x .reads ∙ rw (its, from-next);
+        size = rw its size;
+        short = λ n. rw its (joined-short (cardsOf (x .lines)) (x .closed) (size ∙ rw (eq-eqb _ 0 n)));
+        from = omega arith;
+        upto = rw its;
+        alone = λ n d. rw its (alone t s (x .lines) (x .rest) from-start n (x .shut d));
+        near = omega (arith, h, front, bytes);
+        bytes = omega (arith, bytes);
+        further = omega (arith, lines, x .some);
+        lawful = omega (arith, h, front, lines);
       }
+
+  -- what is found is walked over
+  in-walked : Walked t c (foundIn c ahead (statementsFrom t c))
+  in-walked = go (first (c .line) ahead)
+    where
+      go : (statementsFrom t c ≡ []) ⊎ First (c .line) ahead → Walked t c (foundIn c ahead (statementsFrom t c))
+      go (inl none) = rw none none
+      go (inr x) =
+          let before : c .line + length (x .front) - c .line ≡ length (x .front) = omega arith in
+          let front : take (length (x .front)) ahead ≡ x .front =
+          ap (take (length (x .front))) (x .parts) ∙ take-at (x .front) (x .lines ++ x .rest) _ refl in
+          rw (x .reads, before, front) (walk-first x)
+
+  found-walked : Walked t c (foundFrom t c)
+  found-walked = rw (found-next t c h) in-walked
+
+  -- so one step
+  pub walk : {f s n k : ℕ} {d g : Bool} {nx : Cursor} → foundFrom t c ≡ Statement f s n k d g nx
+      → Walk t c f s n k d g nx
+  walk e = rw e at found-walked
 
   -- where nothing is found there are no statements
   pub walk-end : foundFrom t c ≡ End → statementsFrom t c ≡ []
-  walk-end e = found-reads t c h .0 ∙ ap (readOf t) e
+  walk-end e = rw e at found-walked
+
+-- ---- how far it reaches
+
+-- a statement is found only where bytes are left, and the cursor behind it is further on
+found-further : (t : List ℕ) (c : Cursor) → Further (length t) c (foundFrom t c)
+unfolding foundFrom
+found-further t c =
+    let found = foundIn c (linesOf (drop (c .at) t)) (statementsFrom t c) in
+    cond-ind (Further (length t) c) (leb (c .line) (c .at + 1)) found End
+    (λ b. further found (in-walked t c (leb-true _ _ b))) (λ _. tt)
+  where
+    further : (r : Found) → Walked t c r → Further (length t) c r
+    further End w = tt
+    further (Statement f s n k d g nx) w = (w .bytes, w .further, w .lawful)
+
+-- so what is equal to what is found reaches as far
+pub found-both : (t : List ℕ) (c : Cursor) (r : Found) → r ≡ foundFrom t c
+    → (r ≡ foundFrom t c) × Further (length t) c r
+found-both t c r e = (e, rw e (found-further t c))

@@ -7,12 +7,11 @@ use lib.ListN.{length}
 use lib.Seq.{sets}
 use Rattle.deck.specs.Lines.{linesOf}
 use Rattle.deck.specs.Joined.{joined}
+use Rattle.deck.specs.Reading.{fresh, reading}
 use Rattle.deck.specs.Next.{foundFrom, Further, cardsAt}
 use Rattle.deck.specs.Codes.{sizeCode}
-use Rattle.deck.specs.Survey.{sizesOf}
 use Rattle.deck.specs.declared.Cursor.{Cursor}
 use Rattle.deck.specs.declared.Found.{Found}
-use Rattle.deck.specs.declared.Sizes.{Sizes}
 
 -- `next_statement`: the next statement from a cursor on, with the cursor behind it; or the end
 abbrev pub FindsNext : List ℕ → Cursor → Found → Type 0
@@ -22,16 +21,16 @@ FindsNext text c r = (r ≡ foundFrom text c) × Further (length text) c r
 abbrev pub CountsLines : List ℕ → ℕ → Type 0
 CountsLines text r = r ≡ length (linesOf text)
 
--- `survey`: how many lines and how many statements it has
-abbrev pub Surveys : List ℕ → Sizes → Type 0
-Surveys text r = r ≡ sizesOf text
+-- `statement_count`: how many statements it has
+abbrev pub CountsStatements : List ℕ → ℕ → Type 0
+CountsStatements text r = r ≡ length (reading fresh 1 (linesOf text))
 
 -- `size_code`: 11, 12, 13 or 0, by what is known of a statement
 abbrev pub CodesSize : ℕ → Bool → Bool → ℕ → Type 0
 CodesSize cards closed long r = r ≡ sizeCode cards closed long
 
--- `join`: the length of the joined text of so many lines from a place on, which stands at the front of the buffer, as
--- far as there are places; the others are as lent
+-- `join`: the length of the joined text of the cards among so many lines from a place on, which stands at the front of
+-- the buffer, as far as there are places; the others are as lent
 abbrev pub Joins : List ℕ → ℕ → ℕ → List ℕ → ℕ → List ℕ → Type 0
-Joins text start cards out r o =
-    (r ≡ length (joined (cardsAt text start cards))) × (o ≡ sets out 0 (joined (cardsAt text start cards)))
+Joins text start lines out r o =
+    (r ≡ length (joined (cardsAt text start lines))) × (o ≡ sets out 0 (joined (cardsAt text start lines)))

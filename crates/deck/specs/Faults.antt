@@ -19,13 +19,13 @@ pub data Flaw : Type 0 where
   none : Flaw
   flaw : ℕ → Place → Flaw
 
--- one of the lines has more than cardBytes bytes, byte 10 aside
+-- one of the cards has more than cardBytes bytes, byte 10 aside
 unfoldable pub anyLong : List Line → Bool
 anyLong [] = false
 anyLong (l ∷ ls) = ltb cardBytes (length l) || anyLong ls
 
--- 11, the text ends while the statement continues; 12, more than mostCards lines; 13, a line of more than cardBytes
--- bytes; in this order
+-- 11, the text ends while the statement continues; 12, more than mostCards cards; 13, a card of more than cardBytes
+-- bytes; in this order. Comments among the lines are no cards
 unfoldable pub sizeFlaw : List Line → Bool → Flaw
 sizeFlaw cards closed =
     cond closed (cond (ltb mostCards (length cards)) (flaw 12 at-start) (cond (anyLong cards) (flaw 13 at-start) none))

@@ -1,4 +1,4 @@
--- A statement's text: the dots are removed and the parts are joined with a space.
+-- A statement's text: of its cards the dots are removed and the parts are joined with a space.
 use Prim.Native.Nat.{ℕ, _-_}
 use mathlib.Core.Bool.{cond}
 use mathlib.Core.List.{List, [], _∷_, _++_}

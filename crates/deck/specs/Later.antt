@@ -1,21 +1,32 @@
--- Line numbers raised, and what two lists share: what demand 3 is said with.
+-- Line numbers raised and moved, and what two lists share: what demand 3, and that comments change nothing, are said
+-- with.
 use Prim.Native.Nat.{ℕ, _+_, _≤_, _<_}
 use mathlib.Core.Path.{_≡_}
+use mathlib.Core.Bool.{cond}
 use mathlib.Core.List.{List, _++_, map}
+use lib.Dec.{ltb}
 use Rattle.laws.specs.Every.{Every}
 use Rattle.deck.specs.Reading.{Statement, State, fresh, inside}
 use Rattle.deck.specs.Reports.{Report}
 
 -- ---- numbers raised by k
 abbrev pub later : ℕ → Statement → Statement
-later k s = record { first = k + s .first; cards = s .cards; closed = s .closed }
+later k s = record { first = k + s .first; lines = s .lines; closed = s .closed }
 
 abbrev pub laterState : ℕ → State → State
 laterState k fresh = fresh
-laterState k (inside f cs) = inside (k + f) cs
+laterState k (inside f ls) = inside (k + f) ls
+
+-- a report with the number that g gives for its own
+abbrev pub renumber : {A : Type 0} → (ℕ → ℕ) → Report A → Report A
+renumber g r = record { line = g (r .line); what = r .what }
 
 abbrev pub laterReport : {A : Type 0} → ℕ → Report A → Report A
-laterReport k r = record { line = k + r .line; what = r .what }
+laterReport k = renumber (λ (n : ℕ). k + n)
+
+-- ---- a number moved by one line more, which stands behind line n
+abbrev pub moved : ℕ → ℕ → ℕ
+moved n k = cond (ltb n k) (k + 1) k
 
 -- ---- what two lists share
 

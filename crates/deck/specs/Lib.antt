@@ -8,6 +8,6 @@ pub mod Later
 -- as code holds it
 pub mod Next
 pub mod Codes
-pub mod Survey
+pub mod Ends
 pub mod Walks
 pub mod Contract

@@ -38,7 +38,7 @@ dotsAt l n = leb 3 n && (eqb (getD l (n - 1) 0) 46 && (eqb (getD l (n - 2) 0) 46
 unfoldable pub dotted : Line → Bool
 dotted l = dotsAt l (trimmed l)
 
--- a first byte * makes a comment, only spaces (or nothing) make a blank
+-- a first byte * always makes a comment, only spaces (or nothing) make a blank
 abbrev pub starred : Line → Bool
 starred l = eqb (getD l 0 0) 42
 

@@ -1,14 +1,13 @@
--- What the code finds from a cursor on, over the lines that are left. at is the place of the next line's first byte, n
--- its number.
-use Prim.Native.Nat.{ℕ, suc, _+_, _<_, _≤_}
+-- What the code finds from a cursor on: the first of the statements of the lines from there, and where it stands.
+use Prim.Native.Nat.{ℕ, suc, _+_, _-_, _<_, _≤_}
 use mathlib.Core.Path.{_≡_}
-use mathlib.Core.Bool.{Bool, true, false, cond, _||_}
+use mathlib.Core.Bool.{cond}
 use mathlib.Core.List.{List, [], _∷_}
 use lib.ListN.{length, take, drop}
-use lib.Dec.{eqb, ltb, leb}
-use Rattle.limits.specs.Limits.{cardBytes}
-use Rattle.deck.specs.Lines.{Line, linesOf, dotted, passed}
-use Rattle.deck.specs.Reading.{Statement as Read, fresh, reading}
+use lib.Dec.{eqb, leb}
+use Rattle.deck.specs.Lines.{Line, linesOf}
+use Rattle.deck.specs.Reading.{Statement as Read, cardsOf, fresh, reading}
+use Rattle.deck.specs.Faults.{anyLong}
 use Rattle.deck.specs.declared.Cursor.{Cursor}
 use Rattle.deck.specs.declared.Found.{Found}
 use Rattle.deck.specs.declared.Found.the-variants.{Statement, End}
@@ -24,20 +23,41 @@ pub record SameEnd (t : List ℕ) (at i : ℕ) : Type 0 where
   pub upto : i ≤ length t
   pub same : i + width (drop i t) ≡ at + width (drop at t)
 
--- inside the statement that starts at start with line first: k of its lines are read, and long says whether one has
--- more than cardBytes bytes
-unfoldable pub runOf : ℕ → ℕ → ℕ → ℕ → Bool → List Line → Found
-runOf first start at k long [] = Statement first start k false long (record { at = at; line = first + k })
-runOf first start at k long (l ∷ ls) =
-    cond (dotted l)
-    (runOf first start (at + length l + 1) (k + 1) (long || ltb cardBytes (length l)) ls)
-    (Statement first start (k + 1) true (long || ltb cardBytes (length l))
-    (record { at = at + length l + 1; line = first + (k + 1) }))
+-- the bytes of lines, a byte 10 behind each
+unfoldable pub spread : List Line → ℕ
+spread [] = 0
+spread (l ∷ ls) = length l + 1 + spread ls
 
--- from a fresh line on
-unfoldable pub nextOf : ℕ → ℕ → List Line → Found
-nextOf at n [] = End
-nextOf at n (l ∷ ls) = cond (passed l) (nextOf (at + length l + 1) (n + 1) ls) (runOf n at at 0 false (l ∷ ls))
+-- n lines of a text from a place on, and the cards among them
+abbrev pub linesAt : List ℕ → ℕ → ℕ → List Line
+linesAt t start n = take n (linesOf (drop start t))
+
+abbrev pub cardsAt : List ℕ → ℕ → ℕ → List Line
+cardsAt t start n = cardsOf (linesAt t start n)
+
+-- the statements from a cursor on, at which reading is fresh
+abbrev pub statementsFrom : List ℕ → Cursor → List Read
+statementsFrom t c = reading fresh (c .line) (linesOf (drop (c .at) t))
+
+-- a statement that starts at a place: how many lines it covers, how many cards it has, whether one of these is too
+-- long, and the cursor behind its lines
+abbrev pub foundOf : ℕ → Read → Found
+foundOf start s =
+    let n = length (s .lines) in
+    let cards = cardsOf (s .lines) in
+    Statement (s .first) start n (length cards) (s .closed) (anyLong cards)
+    (record { at = start + spread (s .lines); line = s .first + n })
+
+-- the first of the statements, which starts at a place
+abbrev pub foundAt : ℕ → List Read → Found
+foundAt start [] = End
+foundAt start (s ∷ ss) = foundOf start s
+
+-- the first of the statements from a cursor on, where ls are the lines from there: it starts behind those of them that
+-- stand before its first
+abbrev pub foundIn : Cursor → List Line → List Read → Found
+foundIn c ls [] = End
+foundIn c ls (s ∷ ss) = foundOf (c .at + spread (take (s .first - c .line) ls)) s
 
 -- a line's number is at most its place and one: each line in front of it has a byte at least, its byte 10
 abbrev pub Lawful : Cursor → Type 0
@@ -45,17 +65,10 @@ Lawful c = c .line ≤ c .at + 1
 
 -- from a cursor on; where the cursor's number cannot be that of its line, nothing is found
 unfoldable pub foundFrom : List ℕ → Cursor → Found
-foundFrom t c = cond (leb (c .line) (c .at + 1)) (nextOf (c .at) (c .line) (linesOf (drop (c .at) t))) End
+foundFrom t c =
+    cond (leb (c .line) (c .at + 1)) (foundIn c (linesOf (drop (c .at) t)) (statementsFrom t c)) End
 
 -- a statement is found only where bytes are left, of n, and the next cursor is further on and lawful
 abbrev pub Further : ℕ → Cursor → Found → Type 0
 Further n c End = Unit {0}
-Further n c (Statement f s k d g nx) = (c .at < n) × (c .at < nx .at) × Lawful nx
-
--- the statements from a cursor on, at which reading is fresh
-abbrev pub statementsFrom : List ℕ → Cursor → List Read
-statementsFrom t c = reading fresh (c .line) (linesOf (drop (c .at) t))
-
--- k lines of a text from a place on
-abbrev pub cardsAt : List ℕ → ℕ → ℕ → List Line
-cardsAt t start k = take k (linesOf (drop start t))
+Further n c (Statement f s m k d g nx) = (c .at < n) × (c .at < nx .at) × Lawful nx

@@ -1,12 +1,10 @@
-// How many lines and statements there are.
-use super::lines::is_dotted;
-use super::lines::is_passed;
+// How many lines there are.
 ghost use mathlib.Core.Path.{_≡_};
-ghost use Prim.Native.Nat.{_+_, _<_, _≤_, _^_};
+ghost use Prim.Native.Nat.{_<_, _≤_};
 ghost use lib.Dec.{eqb};
 ghost use lib.ListN.{length};
 ghost use Rattle.laws.specs.Counts.{once};
-ghost use Rattle.deck.specs.Survey.{endsOf, withLine};
+ghost use Rattle.deck.specs.Ends.{endsOf};
 
 // How many bytes are counted at once: fewer than a byte can count.
 const PART: usize = 192;
@@ -44,41 +42,4 @@ pub fn count_ends(text: &[u8]) -> usize
         i = e;
     }
     n + ends_in(&text[i..]) as usize
-}
-
-// The sizes of the lines so far: how many, and of the statements that begin in them; whether the last continues.
-pub struct SizesSoFar {
-    pub lines: usize,
-    pub statements: usize,
-    pub more: bool,
-}
-
-// The sizes so far with one line more.
-pub fn counted(n: SizesSoFar, line: &[u8]) -> SizesSoFar
-    requires { ⌜ (n .lines + 1 < 2 ^ 64) × (n .statements ≤ n .lines) ⌝ }
-    ensures { λ r. ⌜ r ≡ withLine n (now (line .entry)) ⌝ }
-{
-    let lines = n.lines + 1;
-    let statements = n.statements;
-    if n.more {
-        let more = is_dotted(line);
-        return SizesSoFar {
-            lines,
-            statements,
-            more,
-        };
-    }
-    if is_passed(line) {
-        return SizesSoFar {
-            lines,
-            statements,
-            more: false,
-        };
-    }
-    let more = is_dotted(line);
-    SizesSoFar {
-        lines,
-        statements: statements + 1,
-        more,
-    }
 }

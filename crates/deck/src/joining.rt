@@ -1,6 +1,5 @@
-// The parts of a statement's lines, one behind the other.
+// The parts of a statement's cards, one behind the other.
 use super::lines::dots_at;
-use super::lines::line_end;
 use super::lines::trim;
 use bits::room;
 ghost use mathlib.Core.Path.{_≡_};
@@ -8,9 +7,9 @@ ghost use mathlib.Core.List.{_∷_};
 ghost use Prim.Native.Nat.{_+_, _<_, _^_};
 ghost use lib.ListN.{length};
 ghost use lib.Seq.{sets};
+ghost use Rattle.laws.specs.Counts.{once};
 ghost use Rattle.deck.specs.Joined.{linePart};
-ghost use Rattle.deck.specs.Next.{cardsAt};
-ghost use Rattle.deck.specs.Codes.{spaced};
+ghost use Rattle.deck.specs.Codes.{partBehind};
 
 // The length of a line's part.
 fn part_len(line: &[u8]) -> usize
@@ -36,7 +35,7 @@ fn copy(from: &[u8], out: &mut [u8], at: usize)
 }
 
 // Writes a line's part from a place on; the place behind it.
-pub fn put_part(line: &[u8], out: &mut [u8], at: usize) -> usize
+fn put_part(line: &[u8], out: &mut [u8], at: usize) -> usize
     requires { ⌜ at + length (now line) < 2 ^ 64 ⌝ }
     ensures value { λ r. ⌜ r ≡ at + length (linePart (now (line .entry))) ⌝ }
     ensures written { λ _. ⌜ now (out .exit) ≡ sets (now (out .entry)) at (linePart (now (line .entry))) ⌝ }
@@ -56,24 +55,14 @@ fn put_spaced(line: &[u8], out: &mut [u8], at: usize) -> usize
     put_part(line, out, at + 1)
 }
 
-// Writes the parts of the lines behind a statement's first, each behind a space; the place behind them.
-pub fn join_spaced(text: &[u8], start: usize, cards: usize, out: &mut [u8], to: usize) -> usize
-    requires { ⌜ to < start ⌝ }
-    ensures value { λ r. ⌜ r ≡ to + length (spaced (cardsAt (now (text .entry)) start cards)) ⌝ }
-    ensures written { λ _. ⌜ now (out .exit)
-        ≡ sets (now (out .entry)) to (spaced (cardsAt (now (text .entry)) start cards)) ⌝ }
+// Writes a card's part from a place on, behind a space or not; the place behind it.
+pub fn put_card(line: &[u8], out: &mut [u8], at: usize, apart: bool) -> usize
+    requires { ⌜ at + once apart + length (now line) < 2 ^ 64 ⌝ }
+    ensures value { λ r. ⌜ r ≡ at + length (partBehind apart (now (line .entry))) ⌝ }
+    ensures written { λ _. ⌜ now (out .exit) ≡ sets (now (out .entry)) at (partBehind apart (now (line .entry))) ⌝ }
 {
-    let mut at = start;
-    let mut left = cards;
-    let mut w = to;
-    while 0 < left {
-        if text.len() <= at {
-            return w;
-        }
-        let e = line_end(text, at);
-        w = put_spaced(&text[at..e], &mut *out, w);
-        at = e + 1;
-        left -= 1;
+    if apart {
+        return put_spaced(line, out, at);
     }
-    w
+    put_part(line, out, at)
 }

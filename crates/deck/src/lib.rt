@@ -4,15 +4,13 @@ mod joining;
 mod lines;
 mod statements;
 
-use counts::SizesSoFar;
 use counts::count_ends;
-use counts::counted;
-use joining::join_spaced;
-use joining::put_part;
+use joining::put_card;
+use lines::is_comment;
 use lines::is_passed;
 use lines::line_end;
 use statements::run;
-ghost use Rattle.deck.specs.Contract.{FindsNext, CountsLines, Surveys, CodesSize, Joins};
+ghost use Rattle.deck.specs.Contract.{FindsNext, CountsLines, CountsStatements, CodesSize, Joins};
 
 // Where the next line begins, and its number.
 pub struct Cursor {
@@ -20,12 +18,14 @@ pub struct Cursor {
     pub line: usize,
 }
 
-// The next statement: its first line's number, where it starts, how many lines it has, whether a line without dots
-// closed it, whether one of its lines has too many bytes, and the cursor behind it. Or the end.
+// The next statement: its first line's number, where it starts, how many lines it covers and how many of them are cards
+// and no comments, whether a line without dots closed it, whether a card has too many bytes, and the cursor behind it.
+// Or the end.
 pub enum Found {
     Statement {
         first: usize,
         start: usize,
+        lines: usize,
         cards: usize,
         closed: bool,
         long: bool,
@@ -59,12 +59,6 @@ pub fn next_statement(text: &[u8], c: Cursor) -> Found
     Found::End
 }
 
-// How many lines and how many statements a text has.
-pub struct Sizes {
-    pub lines: usize,
-    pub statements: usize,
-}
-
 // How many lines a text has.
 pub fn line_count(text: &[u8]) -> usize
     ensures { λ r. ⌜ CountsLines (now (text .entry)) r ⌝ }
@@ -80,28 +74,32 @@ pub fn line_count(text: &[u8]) -> usize
     n + 1
 }
 
-// How many lines and how many statements a text has.
-pub fn survey(text: &[u8]) -> Sizes
-    ensures { λ r. ⌜ Surveys (now (text .entry)) r ⌝ }
+// How many statements a text has: one is found after the other.
+pub fn statement_count(text: &[u8]) -> usize
+    ensures { λ r. ⌜ CountsStatements (now (text .entry)) r ⌝ }
 {
-    let mut at = 0;
-    let mut n = SizesSoFar {
-        lines: 0,
-        statements: 0,
-        more: false,
-    };
-    while at < text.len() {
-        let e = line_end(text, at);
-        n = counted(n, &text[at..e]);
-        at = e + 1;
-    }
-    Sizes {
-        lines: n.lines,
-        statements: n.statements,
+    let mut n: usize = 0;
+    let mut c = Cursor { at: 0, line: 1 };
+    loop {
+        let found = next_statement(text, c);
+        let Found::Statement {
+            first: _,
+            start: _,
+            lines: _,
+            cards: _,
+            closed: _,
+            long: _,
+            next,
+        } = found
+        else {
+            return n;
+        };
+        n += 1;
+        c = next;
     }
 }
 
-// The code of a statement's fault, or 0: still open, too many lines, a line too long; in this order.
+// The code of a statement's fault, or 0: still open, too many cards, a card too long; in this order.
 pub fn size_code(cards: usize, closed: bool, long: bool) -> u8
     ensures { λ r. ⌜ CodesSize cards closed long r ⌝ }
 {
@@ -120,17 +118,29 @@ pub fn size_code(cards: usize, closed: bool, long: bool) -> u8
 // The most bytes of a joined text where no fault 11, 12 or 13 stands.
 pub const JOINED_BYTES: usize = limits::CARDS * (limits::CARD_BYTES + 1) - 1;
 
-// Writes the joined text of so many lines from a place on, those of its bytes for which there is a place; its length.
-pub fn join(text: &[u8], start: usize, cards: usize, out: &mut [u8]) -> usize
-    ensures { λ r. ⌜ Joins (now (text .entry)) start cards (now (out .entry)) r (now (out .exit)) ⌝ }
+// Writes the joined text of the cards among so many lines from a place on, those of its bytes for which there is a
+// place; its length.
+pub fn join(text: &[u8], start: usize, lines: usize, out: &mut [u8]) -> usize
+    ensures { λ r. ⌜ Joins (now (text .entry)) start lines (now (out .entry)) r (now (out .exit)) ⌝ }
 {
-    if cards == 0 {
-        return 0;
+    let mut at = start;
+    let mut left = lines;
+    let mut w: usize = 0;
+    let mut apart = false;
+    while 0 < left {
+        if text.len() <= at {
+            return w;
+        }
+        let e = line_end(text, at);
+        if is_comment(&text[at..e]) {
+            at = e + 1;
+            left -= 1;
+        } else {
+            w = put_card(&text[at..e], &mut *out, w, apart);
+            apart = true;
+            at = e + 1;
+            left -= 1;
+        }
     }
-    if text.len() <= start {
-        return 0;
-    }
-    let e = line_end(text, start);
-    let n = put_part(&text[start..e], &mut *out, 0);
-    join_spaced(text, e + 1, cards - 1, out, n)
+    w
 }

@@ -3,9 +3,9 @@ ghost use mathlib.Core.Path.{_≡_};
 ghost use Prim.Native.Nat.{_+_, _<_, _≤_};
 ghost use lib.Dec.{ltb};
 ghost use lib.ListN.{length, drop};
-ghost use Rattle.deck.specs.Lines.{trimmed, dotsAt, dotted, passed};
+ghost use Rattle.deck.specs.Lines.{trimmed, dotsAt, dotted, starred, passed};
 ghost use Rattle.deck.specs.Next.{width, SameEnd};
-ghost use Rattle.deck.specs.Survey.{endsOf};
+ghost use Rattle.deck.specs.Ends.{endsOf};
 
 // How many bytes are searched at once for a byte 10, at first and then.
 const STRIDE: usize = 16;
@@ -98,6 +98,16 @@ pub fn is_dotted(line: &[u8]) -> bool
     dots_at(line, n)
 }
 
+// A comment.
+pub fn is_comment(line: &[u8]) -> bool
+    ensures { λ r. ⌜ r ≡ starred (now (line .entry)) ⌝ }
+{
+    if line.len() == 0 {
+        return false;
+    }
+    line[0] == 42
+}
+
 // A comment or a blank.
 pub fn is_passed(line: &[u8]) -> bool
     ensures { λ r. ⌜ r ≡ passed (now (line .entry)) ⌝ }
@@ -106,5 +116,5 @@ pub fn is_passed(line: &[u8]) -> bool
     if n == 0 {
         return true;
     }
-    line[0] == 42
+    is_comment(line)
 }

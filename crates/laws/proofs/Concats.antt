@@ -58,6 +58,21 @@ map-same-in f g [] e = refl
 map-same-in f g (a ∷ l) e =
     ap₂ _∷_ (e a (omega (arith, count-cons-same a l))) (map-same-in f g l (λ b h. e b (omega arith)))
 
+-- a row whose parts are those of another under h is that row under h
+pub concat-parts : {A B C : Type 0} (f : A → List C) (f′ : A → List B) (h : B → C)
+    → ((a : A) → f a ≡ map h (f′ a)) → (l : List A) → concat-map f l ≡ map h (concat-map f′ l)
+concat-parts f f′ h e l = concat-same f _ e l ∙ sym (map-concat h f′ l)
+
+-- .. where its members are the other's under g
+pub concat-moved : {A B C D : Type 0} (f : B → List D) (f′ : A → List C) (g : A → B) (h : C → D)
+    → ((a : A) → f (g a) ≡ map h (f′ a)) → (l : List A) → concat-map f (map g l) ≡ map h (concat-map f′ l)
+concat-moved f f′ g h e l = concat-mapped f g l ∙ concat-parts (λ a. f (g a)) f′ h e l
+
+-- two such rows, one behind the other, are those two under h
+pub both-moved : {A B : Type 0} (h : A → B) (x y : List A) {v w : List B} → v ≡ map h x → w ≡ map h y
+    → v ++ w ≡ map h (x ++ y)
+both-moved h x y p q = ap₂ _++_ p q ∙ sym (map-append h x y)
+
 -- a function that gives nothing makes an empty row
 pub concat-none : {A B : Type 0} (f : A → List B) → ((a : A) → f a ≡ []) → (l : List A) → concat-map f l ≡ []
 unfolding concat-map

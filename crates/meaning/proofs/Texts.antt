@@ -10,7 +10,7 @@ use Rattle.laws.proofs.Every.{every-append, every-anywhere, every-all, every-ma
 use Rattle.laws.proofs.Concats.{concat-concat}
 use Rattle.limits.specs.Limits.{levels, stackPlaces}
 use Rattle.deck.specs.Lines.{Line, linesOf}
-use Rattle.deck.specs.Reading.{Statement, fresh, reading}
+use Rattle.deck.specs.Reading.{Statement, cardsOf, fresh, reading}
 use Rattle.deck.specs.Reports.{Report, report}
 use Rattle.deck.specs.Joined.{joined}
 use Rattle.deck.specs.Faults.{Flaw, none, flaw, sizeFlaw}
@@ -92,7 +92,8 @@ unfolding sheetOf
 text-fits text =
     every-concat Reported (λ (s : Numbered). Fits (s .says)) (λ (r : Report Told). saidBy (r .line) (r .what))
     (λ r f. said-fits (r .line) (r .what) f) (sheetOf text)
-    (every-mapped (λ (s : Statement). Unit {0}) Reported (report told) (λ s _ x e. told-fits (s .cards) (s .closed) x e)
+    (every-mapped (λ (s : Statement). Unit {0}) Reported (report told)
+    (λ s _ x e. told-fits (cardsOf (s .lines)) (s .closed) x e)
     (reading fresh 1 (linesOf text))
     (every-all (λ (s : Statement). Unit {0}) (λ s. tt) (reading fresh 1 (linesOf text))))
 

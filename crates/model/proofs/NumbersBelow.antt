@@ -7,8 +7,9 @@ use lib.ListN.{length}
 use Rattle.laws.specs.Every.{Every}
 use Rattle.laws.proofs.Every.{every-append, every-anywhere, every-mapped, every-concat, every-part}
 use Rattle.laws.specs.Lists.{numbers}
-use Rattle.deck.specs.Lines.{Line, linesOf, dotted, passed}
-use Rattle.deck.specs.Reading.{Statement, State, fresh, inside, goes-on, justClosed, after, ended, left, reading}
+use Rattle.deck.specs.Lines.{Line, linesOf, passed}
+use Rattle.deck.specs.Reading.{Statement, State, fresh, inside, leavesOpen, goes-on, justClosed, after, ended, left}
+use Rattle.deck.specs.Reading.{reading}
 use Rattle.deck.specs.Reports.{Report, report}
 use Rattle.drafts.specs.Tree.{Says, constants as constantsSaid, assignment as assignmentSaid, state as stateSaid}
 use Rattle.drafts.specs.Tree.{header, ending}
@@ -75,7 +76,7 @@ module _ (b : ℕ) where
   unfolding reading left after ended
   reading-below fresh n [] h o = tt
   reading-below (inside f cs) n [] h o = (o, tt)
-  reading-below fresh n (l ∷ ls) h o = go (passed l) (dotted l) (λ s o. reading-below s (suc n) ls (omega arith) o)
+  reading-below fresh n (l ∷ ls) h o = go (passed l) (leavesOpen l) (λ s o. reading-below s (suc n) ls (omega arith) o)
     where
       go : (p d : Bool) → ((s : State) → Open s → Every FirstBelow (reading s (suc n) ls))
           → Every FirstBelow
@@ -83,7 +84,7 @@ module _ (b : ℕ) where
       go true d ih = ih fresh tt
       go false true ih = ih (inside n (l ∷ [])) (omega arith)
       go false false ih = (omega arith, ih fresh tt)
-  reading-below (inside f cs) n (l ∷ ls) h o = go (dotted l) (λ s o. reading-below s (suc n) ls (omega arith) o)
+  reading-below (inside f cs) n (l ∷ ls) h o = go (leavesOpen l) (λ s o. reading-below s (suc n) ls (omega arith) o)
     where
       go : (d : Bool) → ((s : State) → Open s → Every FirstBelow (reading s (suc n) ls))
           → Every FirstBelow (justClosed d f (cs ++ (l ∷ [])) ++ reading (goes-on d f (cs ++ (l ∷ []))) (suc n) ls)

@@ -1,3 +1,4 @@
+pub mod Renumbering
 pub mod UnitRuns
 pub mod Steps
 pub mod Settings

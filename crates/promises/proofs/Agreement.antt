@@ -41,7 +41,7 @@ deck =
     record {
       next-statement = of-deck.next-statement;
       line-count = of-deck.line-count;
-      survey = of-deck.survey;
+      statement-count = of-deck.statement-count;
       size-code = of-deck.size-code;
       join = of-deck.join;
     }

@@ -35,7 +35,8 @@ local pre old new post a b c =
             faults = rw (c .lines-old, c .lines-new) (front-faults pre (old ++ post) (new ++ post));
           };
       tail = same-from;
-      place = λ p l q e d. record { in-old = fresh-there pre old p l d; in-new = fresh-there pre new p l d };
+      place =
+          λ p l q e d c. record { in-old = fresh-there pre old p l d c; in-new = fresh-there pre new p l d c };
       no-program-old = λ w f p. no-program a f p w;
       no-program-new = λ w f p. no-program b f p w;
       verdict-old = convicts a;

@@ -2,6 +2,7 @@ pub mod Table
 pub mod Demand1
 pub mod Demand2
 pub mod Demand3
+pub mod Comments
 pub mod Grammar
 pub mod Words
 pub mod Stack

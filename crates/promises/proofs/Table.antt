@@ -10,7 +10,7 @@ use Rattle.laws.proofs.EachMember.{at-mem}
 use Rattle.limits.specs.Limits.{faultRoom, programRoom, stackPlaces}
 use Rattle.bits.specs.Low.{lowWord}
 use Rattle.deck.specs.Lines.{linesOf, trimmed, dotted, passed}
-use Rattle.deck.specs.Reading.{after, ended, left, reading}
+use Rattle.deck.specs.Reading.{cardsOf, after, ended, left, reading}
 use Rattle.deck.specs.Joined.{linePart, joined}
 use Rattle.deck.specs.Faults.{anyLong, sizeFlaw}
 use Rattle.tokens.specs.Number.{decimal, digitsFrom, exponentFrom, tenTo, scaled, rangedNumber as tokenOf}
@@ -39,8 +39,8 @@ use Rattle.promises.specs.Table.{Trial, trials, shown, wanted, tank, dec
 
 -- THE TABLE. Each text has the verdict and the listing that stand beside it
 pub tried : map shown trials ≡ map wanted trials
-unfolding trials listing listingOf figuresIn verdictOf decided linesOf trimmed dotted passed after ended left reading
-    linePart joined anyLong sizeFlaw told sheetOf
+unfolding trials listing listingOf figuresIn verdictOf decided linesOf trimmed dotted passed cardsOf after ended left
+    reading linePart joined anyLong sizeFlaw told sheetOf
     concat-map sameBytes numbers frontRun count lowWord decimal digitsFrom exponentFrom tenTo scaled tokenOf numberCut
     nameAt tokenAt cutAt
     lookUp symbolNamed rowFrom rowOf
@@ -60,8 +60,8 @@ each-trial = at-mem shown wanted trials tried
 pub computed : (heightOf (verdictOf deck faultRoom programRoom) ≡ stackPlaces)
     × (numberFor (bytes tank) ≡ 0) × Plain (bytes tank)
     × (numberFor loop ≡ 7) × Plain loop
-unfolding highest verdictOf decided linesOf trimmed dotted passed after ended left reading linePart joined anyLong
-    sizeFlaw told sheetOf concat-map
+unfolding highest verdictOf decided linesOf trimmed dotted passed cardsOf after ended left reading linePart joined
+    anyLong sizeFlaw told sheetOf concat-map
     sameBytes numbers frontRun count lowWord decimal digitsFrom exponentFrom tenTo scaled tokenOf numberCut
     nameAt tokenAt cutAt
     lookUp symbolNamed rowFrom rowOf names

@@ -8,6 +8,7 @@ use mathlib.Core.List.{List, [], _∷_, _++_, map, List·Memᴰ}
 use lib.ListN.{length}
 use lib.Ieee.{Float, nan, lt, le}
 use Rattle.limits.specs.Limits.{levels, stackPlaces, faultRoom, programRoom, nameBytes}
+use Rattle.laws.specs.Every.{Every}
 use Rattle.laws.specs.Text.{bytes}
 use Rattle.deck.specs.Lines.{Line, linesOf}
 use Rattle.tokens.specs.Number.{inRange}
@@ -53,11 +54,13 @@ use Rattle.promises.specs.Table.{Trial, trials, shown, wanted, tank, dec
 use Rattle.promises.specs.Table.{numberFor}
 use Rattle.promises.specs.Demand2.{Decided, DecidedFor}
 use Rattle.promises.specs.Demand3.{Change, Local, LocalFor}
+use Rattle.promises.specs.Comments.{Commented, Unchanged, UnchangedFor}
 use Rattle.promises.specs.Agreement as agree
 use Rattle.promises.proofs.Table as table
 use Rattle.promises.proofs.Demand1 as demand-one
 use Rattle.promises.proofs.Demand2 as demand-two
 use Rattle.promises.proofs.Demand3 as demand-three
+use Rattle.promises.proofs.Comments as comments
 use Rattle.promises.proofs.Grammar as rows
 use Rattle.promises.proofs.Words as words
 use Rattle.promises.proofs.WallLoss as wall
@@ -158,6 +161,34 @@ append-a-card = demand-three.append-a-card
 pub a-card-appended : Change (bytes "A=1" ∷ bytes "B=2" ∷ []) [] (bytes "C=3" ∷ []) [] (bytes "A=1\nB=2")
     (bytes "A=1\nB=2\nC=3")
 a-card-appended = demand-three.a-card-appended
+
+-- ---- comments change nothing
+
+pub unchanged : (pre : List Line) (c : Line) (post : List Line) (a b : List ℕ) → Commented pre c post a b
+    → (f p : ℕ) → Admitted (verdictOf a f p) → Admitted (verdictOf b f p)
+    → Unchanged (length pre) a b f p
+unchanged = comments.unchanged
+
+pub unchanged-for : (pre : List Line) (c : Line) (post : List Line) (a b : List ℕ) → Commented pre c post a b
+    → (f p g s : List ℕ) → length g ≡ length f → length s ≡ length p
+    → Admitted (verdictOf a (length f) (length p)) → Admitted (verdictOf b (length f) (length p))
+    → (r t : Verdict) (f′ p′ g′ s′ : List ℕ) → Translates a f p r f′ p′ → Translates b g s t g′ s′
+    → UnchangedFor (length pre) r f p f′ p′ t g s g′ s′
+unchanged-for = comments.unchanged-for
+
+pub comment-first : (c : List ℕ) → Every (λ (x : ℕ). x ≡ 10 → ⊥) c → (post : List ℕ)
+    → Commented [] (42 ∷ c) (linesOf post) post ((42 ∷ c) ++ (10 ∷ post))
+comment-first = comments.comment-first
+
+pub comment-between : (c : List ℕ) → Every (λ (x : ℕ). x ≡ 10 → ⊥) c → (pre post : List ℕ)
+    → Commented (linesOf (pre ++ (10 ∷ []))) (42 ∷ c) (linesOf post) (pre ++ (10 ∷ post))
+    (pre ++ (10 ∷ ((42 ∷ c) ++ (10 ∷ post))))
+comment-between = comments.comment-between
+
+pub comment-last : (c : List ℕ) → Every (λ (x : ℕ). x ≡ 10 → ⊥) c → (x : List ℕ) (last : ℕ) → (last ≡ 10 → ⊥)
+    → Commented (linesOf (x ++ (last ∷ []))) (42 ∷ c) [] (x ++ (last ∷ []))
+    ((x ++ (last ∷ [])) ++ (10 ∷ ((42 ∷ c) ++ (10 ∷ []))))
+comment-last = comments.comment-last
 
 -- ---- the grammar
 

@@ -8,7 +8,7 @@ use Rattle.laws.specs.Agree.{Agree, Agree2, Agree3, Agree4, Agree5}
 use Rattle.bits.specs.Contract.{Widens, Indexes, ReadsByte, ReadsShort, ReadsWord, TakesLeast, LeavesRoom, GetsLow}
 use Rattle.bits.specs.Contract.{PutsLow, PutsEight, GivesFloat, GivesBits}
 use Rattle.deck.specs.declared.Cursor.{Cursor}
-use Rattle.deck.specs.Contract.{FindsNext, CountsLines, Surveys, CodesSize, Joins}
+use Rattle.deck.specs.Contract.{FindsNext, CountsLines, CountsStatements, CodesSize, Joins}
 use Rattle.tokens.specs.Contract.{TakesCut, WritesRow}
 use Rattle.drafts.specs.Contract.{WhetherDefining, WhetherUse, WhetherAsking, WhetherNamed, WhetherClosing}
 use Rattle.drafts.specs.Contract.{CountsDraft, FindsHome}
@@ -47,7 +47,7 @@ pub record Bits : Type 0 where
 pub record Deck : Type 0 where
   pub next-statement : (text : List ℕ) (c : Cursor) → Agree (FindsNext text c)
   pub line-count : (text : List ℕ) → Agree (CountsLines text)
-  pub survey : (text : List ℕ) → Agree (Surveys text)
+  pub statement-count : (text : List ℕ) → Agree (CountsStatements text)
   pub size-code : (cards : ℕ) (closed long : Bool) → Agree (CodesSize cards closed long)
   pub join : (text : List ℕ) (start cards : ℕ) (out : List ℕ) → Agree2 (Joins text start cards out)
 

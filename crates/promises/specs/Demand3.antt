@@ -6,7 +6,7 @@ use mathlib.Core.Bool.{false}
 use mathlib.Core.List.{List, [], _∷_, _++_, map}
 use lib.ListN.{length, take, drop}
 use Rattle.limits.specs.Limits.{faultBytes}
-use Rattle.deck.specs.Lines.{Line, linesOf, dotted}
+use Rattle.deck.specs.Lines.{Line, linesOf, dotted, starred}
 use Rattle.deck.specs.Later.{later, laterReport, Begin, Share}
 use Rattle.sheet.specs.Sheet.{Fault, faultList}
 use Rattle.sheet.specs.Reader.{sheetOf, faultsOf, Faulted}
@@ -55,8 +55,8 @@ pub record Local (pre old new post : List Line) (a b : List ℕ) : Type 0 where
   pub front : FrontKept pre a b
   -- from every later line on where both readings begin afresh, and so from the first
   pub tail : (p q : List Line) → post ≡ p ++ q → Afresh pre old new p → TailKept pre old new p q a b
-  -- just behind an unchanged later line l without closing dots is such a place
-  pub place : (p : List Line) (l : Line) (q : List Line) → post ≡ p ++ (l ∷ q) → dotted l ≡ false
+  -- just behind an unchanged later line l without closing dots, which is no comment, is such a place
+  pub place : (p : List Line) (l : Line) (q : List Line) → post ≡ p ++ (l ∷ q) → dotted l ≡ false → starred l ≡ false
       → Afresh pre old new (p ++ (l ∷ []))
   -- a text with a statement fault gets no program, whatever fault list f and program p are lent
   pub no-program-old : Faulted a → (f p : List ℕ) → NoProgram a f p

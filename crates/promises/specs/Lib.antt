@@ -2,4 +2,5 @@
 pub mod Table
 pub mod Demand2
 pub mod Demand3
+pub mod Comments
 pub mod Agreement

@@ -1,4 +1,5 @@
--- The texts of the paper's table that are marked P, and texts with procedural blocks, with their verdicts and listings;
+-- The texts of the paper's table that are marked P, as the requests moved them, and texts of the requests, with their
+-- verdicts and listings;
 -- and the texts that are computed for the stack and for demand 2.
 use Prim.Native.Nat.{ℕ}
 use Prim.Native.String.{String}
@@ -98,7 +99,7 @@ valveRecords =
     ∷ rec 8 (Deriv 5)
     ∷ []
 
--- the texts marked P, the listing's second text, and those of procedural blocks
+-- the texts marked P, the listing's second text, one with a comment inside a statement, and those of procedural blocks
 unfoldable pub trials : List Trial
 trials =
     trial "" (translated [] []) "OK 0\n"
@@ -114,8 +115,9 @@ trials =
     ∷ trial "CONST A=1,A=2" (faulty 7 (fault 1 21 at-start ∷ [])) "NO 7\n1 21\n"
     ∷ trial "X=INTGRL(Y,1)\nY=2" (faulty 7 (fault 1 23 at-start ∷ [])) "NO 7\n1 23\n"
     ∷ trial "A=1..." (faulty 5 (fault 1 11 at-end ∷ [])) "NO 5\n1 11\n"
-    ∷ trial "A=3...\n*2"
-    (translated (rec 1 (Value three64) ∷ rec 1 (Value two64) ∷ rec 1 Mul ∷ rec 1 (Store 1) ∷ []) (1 ∷ [])) "OK 4\n1\n"
+    ∷ trial "A=3...\n*2" (faulty 5 (fault 1 11 at-end ∷ [])) "NO 5\n1 11\n"
+    ∷ trial "A=3...\n*2...\n-2"
+    (translated (rec 1 (Value three64) ∷ rec 1 (Value two64) ∷ rec 1 Sub ∷ rec 1 (Store 1) ∷ []) (1 ∷ [])) "OK 4\n1\n"
     ∷ trial "ABCDEFG=1" (faulty 5 (fault 1 15 (at-token 0) ∷ [])) "NO 5\n1 15\n"
     ∷ trial "ABCDEF=1" (translated (rec 1 (Value one64) ∷ rec 1 (Store 1) ∷ []) (1 ∷ [])) "OK 2\n1\n"
     -- procedural blocks: sorted as one, what stands inside in its order

@@ -17,6 +17,10 @@ pub record Rec : Type 0 where
 abbrev pub rec : ℕ → Instr → Rec
 rec l x = record { line = l; instr = x }
 
+-- a record with the line that g gives for its own
+abbrev pub renumberRec : (ℕ → ℕ) → Rec → Rec
+renumberRec g r = rec (g (r .line)) (r .instr)
+
 -- ---- writing
 
 unfoldable pub recBytes : Rec → List ℕ

@@ -7,7 +7,7 @@ use mathlib.Core.List.{List, [], _∷_, _++_, map, append-assoc, map-append}
 use native.Mathlib.Omega.{arith}
 use lib.ListN.{length}
 use Rattle.laws.proofs.Every.{every-mapped}
-use Rattle.deck.specs.Lines.{Line, dotted}
+use Rattle.deck.specs.Lines.{Line, dotted, starred}
 use Rattle.deck.specs.Reading.{fresh, reading, closedIn, stateAfter}
 use Rattle.deck.specs.Reports.{report}
 use Rattle.deck.specs.Later.{later, laterReport, Begin, Ends, Share}
@@ -83,8 +83,9 @@ module _ (pre x y q : List Line) (a : FreshBehind (pre ++ x)) (b : FreshBehind (
       share-made statementFaults faults-append reportLine faultLine laterReport laterFault faults-kept faults-later
       tail-sheets
 
--- behind a line without closing dots reading is fresh
-pub fresh-there : (pre run p : List Line) (l : Line) → dotted l ≡ false → FreshBehind (pre ++ (run ++ (p ++ (l ∷ []))))
-fresh-there pre run p l e =
+-- behind a line without closing dots that is no comment reading is fresh
+pub fresh-there : (pre run p : List Line) (l : Line) → dotted l ≡ false → starred l ≡ false
+    → FreshBehind (pre ++ (run ++ (p ++ (l ∷ []))))
+fresh-there pre run p l d c =
     let last : pre ++ (run ++ (p ++ (l ∷ []))) ≡ (pre ++ (run ++ p)) ++ (l ∷ []) = simp append-assoc in
-    ap (stateAfter fresh 1) last ∙ fresh-behind (pre ++ (run ++ p)) l e
+    ap (stateAfter fresh 1) last ∙ fresh-behind (pre ++ (run ++ p)) l d c

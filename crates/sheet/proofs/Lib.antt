@@ -2,4 +2,5 @@ pub mod Entries
 pub mod StatementMeans
 pub mod Numbers
 pub mod Changes
+pub mod Comments
 pub mod Agreement

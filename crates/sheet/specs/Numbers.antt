@@ -41,6 +41,10 @@ reportLine r = r .line
 abbrev pub faultLine : Fault → ℕ
 faultLine f = f .line
 
+-- a fault with the line that g gives for its own
+abbrev pub renumberFault : (ℕ → ℕ) → Fault → Fault
+renumberFault g f = record { line = g (f .line); code = f .code; place = f .place }
+
 -- a fault with its line raised by k
 abbrev pub laterFault : ℕ → Fault → Fault
-laterFault k f = record { line = k + f .line; code = f .code; place = f .place }
+laterFault k = renumberFault (λ (n : ℕ). k + n)

@@ -45,6 +45,7 @@ fn main() {
     t = listed(t, b"long-name.deck", b"long-name.listing");
     t = listed(t, b"long-run.deck", b"long-run.listing");
     t = listed(t, b"loop.deck", b"loop.listing");
+    t = listed(t, b"star.deck", b"star.listing");
     t = listed(t, b"undefined.deck", b"undefined.listing");
     tally::finish(t);
 }

@@ -1,8 +1,9 @@
 // Translates the texts that no table proves: the other texts of the paper's table, the slips to shut out, texts with
-// procedural blocks, and texts at each limit. Verdict, faults, records and untouched bytes are compared with what the
-// paper says. Then arrays that no text gives.
+// procedural blocks, texts with comments inside statements, and texts at each limit. Verdict, faults, records and
+// untouched bytes are compared with what the papers say. Then arrays that no text gives.
 mod arrays;
 mod block_texts;
+mod comment_texts;
 mod limits_met;
 mod slips;
 mod table;
@@ -14,6 +15,7 @@ fn main() {
     t = table::all(t);
     t = slips::all(t);
     t = block_texts::all(t);
+    t = comment_texts::all(t);
     t = limits_met::all(t);
     t = arrays::all(t);
     tally::finish(t);

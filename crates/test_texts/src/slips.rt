@@ -63,7 +63,7 @@ fn unread(t: Tally) -> Tally {
     faulty(t, b"A=B\nB=*", 5, b"\x02\x00\x12\x00")
 }
 
-// A star behind the dots multiplies.
+// A star behind a space multiplies, also on a continued line.
 fn star(t: Tally) -> Tally {
     let two = 0x4000_0000_0000_0000;
     let three = 0x4008_0000_0000_0000;
@@ -72,7 +72,7 @@ fn star(t: Tally) -> Tally {
     record(&mut w, 1, 3, 0, 1, two);
     record(&mut w, 2, 7, 0, 1, 0);
     record(&mut w, 3, 13, 1, 1, 0);
-    translated(t, b"A=3...\n*2", 4, &w)
+    translated(t, b"A=3...\n *2", 4, &w)
 }
 
 // All of these.

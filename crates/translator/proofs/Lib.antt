@@ -14,5 +14,6 @@ pub mod Verdicts
 pub mod Given
 pub mod Replies
 pub mod Zero
+pub mod Renumbering
 pub mod Agreement
 pub mod Rules

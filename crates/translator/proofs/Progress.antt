@@ -119,12 +119,12 @@ module _ (text list : List ℕ) (kinds args lines bounds : List ℕ) where
 
 -- ---- one statement more, found at the cursor c
 module _ {text list₀ kinds args lines bounds list : List ℕ} {c : Cursor} {n : SoFar}
-    (p : Progress text list₀ c n kinds args lines bounds list) {f s k : ℕ} {d g : Bool} {nx : Cursor}
-    (w : Walk text c f s k d g nx) where
+    (p : Progress text list₀ c n kinds args lines bounds list) {f s m k : ℕ} {d g : Bool}
+    {nx : Cursor} (w : Walk text c f s m k d g nx) where
   here : Told → Report Told
   here t = record { line = f; what = t }
 
-  split-next : {t : Told} → told (cardsAt text s k) d ≡ t
+  split-next : {t : Told} → told (cardsAt text s m) d ≡ t
       → sheetOf text ≡ (p .done ++ (here t ∷ [])) ++ map (report told) (statementsFrom text nx)
   unfolding here
   split-next {t} e =
@@ -133,7 +133,7 @@ module _ {text list₀ kinds args lines bounds list : List ℕ} {c : Cursor} {n 
       ∙ rw e (sym (append-assoc (p .done) (here t ∷ []) (map (report told) (statementsFrom text nx))))
 
   -- it says x: its drafts stand behind those before it, its number and the end of its drafts are noted
-  pub progress-said : (x : Says) → told (cardsAt text s k) d ≡ says x → n .drafts + length (draftsOf x) ≤ nx .at
+  pub progress-said : (x : Says) → told (cardsAt text s m) d ≡ says x → n .drafts + length (draftsOf x) ≤ nx .at
       → n .drafts + length (draftsOf x) ≤ length text
       → n .drafts + length (draftsOf x) ≤ length kinds → n .drafts + length (draftsOf x) ≤ length args
       → n .statements < length lines → n .statements + 1 < length bounds
@@ -173,7 +173,7 @@ module _ {text list₀ kinds args lines bounds list : List ℕ} {c : Cursor} {n 
       }
 
   -- it has a fault: what is held stays, and the fault is listed behind those before it
-  pub progress-faulty : (code : ℕ) (q : Place) → told (cardsAt text s k) d ≡ faulty code q
+  pub progress-faulty : (code : ℕ) (q : Place) → told (cardsAt text s m) d ≡ faulty code q
       → (kinds′ args′ list′ : List ℕ)
       → take (n .drafts) kinds′ ≡ take (n .drafts) kinds → take (n .drafts) args′ ≡ take (n .drafts) args
       → list′ ≡ sets list (faultBytes * n .faults) (entryOf f code)

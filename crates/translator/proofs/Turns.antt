@@ -10,7 +10,7 @@ use Rattle.deck.specs.Joined.{joined}
 use Rattle.deck.specs.Reading.{Statement as Found}
 use Rattle.deck.specs.Codes.{sizeCode, joinedRoom}
 use Rattle.deck.specs.Reports.{report}
-use Rattle.deck.specs.Next.{foundFrom, statementsFrom, cardsAt}
+use Rattle.deck.specs.Next.{linesAt, cardsAt, statementsFrom, foundFrom}
 use Rattle.deck.specs.declared.Cursor.{Cursor}
 use Rattle.deck.specs.declared.Found.the-variants.{Statement, End}
 use Rattle.deck.specs.Walks.{Walk}
@@ -21,7 +21,7 @@ use Rattle.translator.specs.declared.SoFar.{SoFar}
 use Rattle.translator.specs.Working.{Able, AddsOf, Adds, Progress, Room, ReadThrough}
 use Rattle.translator.proofs.Counted.{counts}
 use Rattle.translator.proofs.Parsing.{drafts-few}
-use Rattle.translator.proofs.Spans.{Span, span, alone, first-near}
+use Rattle.translator.proofs.Spans.{Span, span}
 use Rattle.translator.proofs.Progress.{progress-first, progress-said, progress-faulty, progress-last}
 
 -- a statement without fault for size is closed
@@ -63,9 +63,9 @@ module _ {text kinds₀ args₀ lines₀ bounds₀ list₀ kinds args lines boun
   pub going-last : foundFrom text c ≡ End → ReadThrough text list₀ n kinds args lines bounds list
   going-last e = progress-last (g .progress) (walk-end text c (g .progress .lawful) e)
 
-  module _ {f s k : ℕ} {d long : Bool} {nx : Cursor} (e : foundFrom text c ≡ Statement f s k d long nx) where
+  module _ {f s m k : ℕ} {d long : Bool} {nx : Cursor} (e : foundFrom text c ≡ Statement f s m k d long nx) where
     -- the walk over it
-    step : Walk text c f s k d long nx
+    step : Walk text c f s m k d long nx
     step = walk text c (g .progress .lawful) e
 
     -- behind it fewer bytes are left
@@ -73,14 +73,14 @@ module _ {text kinds₀ args₀ lines₀ bounds₀ list₀ kinds args lines boun
     going-less = omega (arith, step .bytes, step .further)
 
     -- its joined text stands before the next cursor, and within the text
-    near : Span text (c .at) s k (nx .at)
-    near = span text c (g .progress .lawful) (step .bytes) e
+    near : Span text (c .at) s m (nx .at)
+    near = span text c step
 
     -- there is one more statement than those that are read
     left : n .statements + n .faults < length (sheetOf text)
     left =
         let p = g .progress in
-        let one : Found = record { first = f; cards = cardsAt text s k; closed = d } in
+        let one : Found = record { first = f; lines = linesAt text s m; closed = d } in
         let all : sheetOf text ≡ p .done ++ (report told one ∷ map (report told) (statementsFrom text nx)) =
         p .split ∙ ap (λ (r : List Found). p .done ++ map (report told) r) (step .reads) in
         let many = length-append (p .done) (report told one ∷ map (report told) (statementsFrom text nx)) in
@@ -88,23 +88,23 @@ module _ {text kinds₀ args₀ lines₀ bounds₀ list₀ kinds args lines boun
 
     -- what reading it asks, with two rows that have room for its tokens
     pub going-able : {ks us : List ℕ} → joinedRoom ≤ length ks → joinedRoom ≤ length us
-        → Able text f s k d long (nx .at) n ks us kinds args lines bounds
+        → Able text f s m k d long (nx .at) n ks us kinds args lines bounds
     going-able hk hu =
         let p = g .progress in
-        let places : n .drafts + length (joined (cardsAt text s k)) ≤ length text =
+        let places : n .drafts + length (joined (cardsAt text s m)) ≤ length text =
         omega (arith, p .short, near .within) in
         record {
           size = step .size;
           before =
               record {
                 short = step .short;
-                alone = λ z one. alone text c (p .lawful) e one (closed k d long z);
+                alone = λ z one. step .alone one (closed k d long z);
                 row-kinds = λ z. omega (arith, hk, step .short z);
                 row-args = λ z. omega (arith, hu, step .short z);
                 room-kinds = omega (arith, places, room .kinds-room, g .long-kinds);
                 room-args = omega (arith, places, room .args-room, g .long-args);
               };
-          first-fits = omega (arith, first-near text c (p .lawful) e, room .taken .brief);
+          first-fits = omega (arith, step .near, room .taken .brief);
           drafts-fit = omega (arith, places, room .taken .brief);
           lines-room = omega (arith, left, room .taken .few, room .lines-room, g .long-lines);
           bounds-room = omega (arith, left, room .taken .few, room .bounds-room, g .long-bounds);
@@ -113,10 +113,10 @@ module _ {text kinds₀ args₀ lines₀ bounds₀ list₀ kinds args lines boun
 
     -- behind it
     pub going-next : {kinds′ args′ lines′ bounds′ list′ : List ℕ} {n′ : SoFar}
-        → Adds (told (cardsAt text s k) d) f n kinds args lines bounds list n′ kinds′ args′ lines′ bounds′ list′
+        → Adds (told (cardsAt text s m) d) f n kinds args lines bounds list n′ kinds′ args′ lines′ bounds′ list′
         → Going text kinds₀ args₀ lines₀ bounds₀ list₀ kinds′ args′ lines′ bounds′ list′ n′ nx
     going-next {kinds′} {args′} {lines′} {bounds′} {list′} {n′} w =
-        let both = go (told (cardsAt text s k) d) refl (w .by-told) in
+        let both = go (told (cardsAt text s m) d) refl (w .by-told) in
         record {
           progress = both .0;
           long-kinds = w .long-kinds ∙ g .long-kinds;
@@ -125,12 +125,12 @@ module _ {text kinds₀ args₀ lines₀ bounds₀ list₀ kinds args lines boun
           long-bounds = both .2 ∙ g .long-bounds;
         }
       where
-        go : (t : Told) → told (cardsAt text s k) d ≡ t
+        go : (t : Told) → told (cardsAt text s m) d ≡ t
             → AddsOf t f n kinds args lines bounds list n′ kinds′ args′ lines′ bounds′ list′
             → Progress text list₀ nx n′ kinds′ args′ lines′ bounds′ list′ × (length lines′ ≡ length lines)
             × (length bounds′ ≡ length bounds)
         go (says x) q (en, ek, ea, el, eb, ef) =
-            let few = drafts-few (cardsAt text s k) d x q in
+            let few = drafts-few (cardsAt text s m) d x q in
             let p = g .progress in
             let row : List ℕ = replicate joinedRoom 0 in
             let a = going-able {ks = row} {us = row} (omega arith) (omega arith) in

@@ -1,6 +1,7 @@
 -- the paper
 pub mod Verdict
 pub mod Refusals
+pub mod Renumbered
 pub mod Rules
 pub mod Contract
 -- what theorems say of a caller's answer

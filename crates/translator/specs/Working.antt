@@ -3,7 +3,7 @@ use Prim.Native.Nat.{ℕ, suc, _+_, _-_, _*_, _/_, _≤_, _<_}
 use mathlib.Core.Path.{_≡_}
 use mathlib.Core.Bool.{Bool, true}
 use mathlib.Core.List.{List, [], _∷_, _++_, map}
-use lib.ListN.{length, getD, take, drop, set, replicate}
+use lib.ListN.{length, getD, take, set, replicate}
 use lib.Seq.{sets}
 use Rattle.limits.specs.Limits.{mostStatements, mostDefinitions, textBytes, faultRoom, faultBytes}
 use Rattle.deck.specs.declared.Cursor.{Cursor}
@@ -13,6 +13,7 @@ use Rattle.deck.specs.Faults.{sizeFlaw}
 use Rattle.deck.specs.Codes.{sizeCode, flawOf, joinedRoom}
 use Rattle.deck.specs.Reports.{report}
 use Rattle.deck.specs.Next.{statementsFrom, cardsAt}
+use Rattle.deck.specs.Walks.{BytesFrom}
 use Rattle.drafts.specs.Drafts.{draftsOf}
 use Rattle.sheet.specs.Sheet.{Told, says, faulty, Sheet, Numbered, said, statementFaults, entryOf, faultList}
 use Rattle.sheet.specs.Reader.{told, sheetOf}
@@ -71,31 +72,25 @@ pub record CardsRoom (body ks us : List ℕ) (p : ℕ) (l u : List ℕ) : Type 0
   pub short : length body ≤ joinedRoom
   pub room : JoinedRoom body ks us p l u
 
--- the bytes from a place up to one before another are these
-pub record BytesFrom (text : List ℕ) (start next : ℕ) (body : List ℕ) : Type 0 where
-  pub from : start < next
-  pub upto : next ≤ length text + 1
-  pub same : take (next - 1 - start) (drop start text) ≡ body
-
 -- what reading the statement of so many lines asks: its joined text has room, and so have its drafts; of one line it is
 -- what stands there
-pub record Before (text : List ℕ) (start cards next code : ℕ) (ks us : List ℕ) (p : ℕ) (l u : List ℕ) : Type 0 where
-  pub short : code ≡ 0 → length (joined (cardsAt text start cards)) ≤ joinedRoom
-  pub alone : code ≡ 0 → cards ≡ 1 → BytesFrom text start next (joined (cardsAt text start cards))
-  pub row-kinds : code ≡ 0 → length (joined (cardsAt text start cards)) ≤ length ks
-  pub row-args : code ≡ 0 → length (joined (cardsAt text start cards)) ≤ length us
-  pub room-kinds : p + length (joined (cardsAt text start cards)) ≤ length l
-  pub room-args : p + length (joined (cardsAt text start cards)) ≤ length u
+pub record Before (text : List ℕ) (start lines next code : ℕ) (ks us : List ℕ) (p : ℕ) (l u : List ℕ) : Type 0 where
+  pub short : code ≡ 0 → length (joined (cardsAt text start lines)) ≤ joinedRoom
+  pub alone : code ≡ 0 → lines ≡ 1 → BytesFrom text start next (joined (cardsAt text start lines))
+  pub row-kinds : code ≡ 0 → length (joined (cardsAt text start lines)) ≤ length ks
+  pub row-args : code ≡ 0 → length (joined (cardsAt text start lines)) ≤ length us
+  pub room-kinds : p + length (joined (cardsAt text start lines)) ≤ length l
+  pub room-args : p + length (joined (cardsAt text start lines)) ≤ length u
 
 -- ---- one statement more
 
 -- what it asks of the arrays besides
-pub record Able (text : List ℕ) (first start cards : ℕ) (closed long : Bool) (next : ℕ) (n : SoFar)
+pub record Able (text : List ℕ) (first start span cards : ℕ) (closed long : Bool) (next : ℕ) (n : SoFar)
     (ks us kinds args lines bounds : List ℕ) : Type 0 where
-  pub size : Size (cardsAt text start cards) closed (sizeCode cards closed long)
-  pub before : Before text start cards next (sizeCode cards closed long) ks us (n .drafts) kinds args
+  pub size : Size (cardsAt text start span) closed (sizeCode cards closed long)
+  pub before : Before text start span next (sizeCode cards closed long) ks us (n .drafts) kinds args
   pub first-fits : first ≤ textBytes
-  pub drafts-fit : n .drafts + length (joined (cardsAt text start cards)) ≤ textBytes
+  pub drafts-fit : n .drafts + length (joined (cardsAt text start span)) ≤ textBytes
   pub lines-room : n .statements < length lines
   pub bounds-room : n .statements + 1 < length bounds
   pub faults-fit : n .faults < mostStatements

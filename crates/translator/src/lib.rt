@@ -93,25 +93,25 @@ fn read_joined(
     }
 }
 
-// What so many lines from a place on say, or their fault.
+// What the cards among so many lines from a place on say, or their fault.
 fn read_cards(
     text: &[u8],
     start: usize,
-    cards: usize,
+    lines: usize,
     row_kinds: &mut [u8],
     row_args: &mut [u64],
     kinds: &mut [u8],
     args: &mut [u64],
     place: usize,
 ) -> Told
-    requires { ⌜ CardsRoom (joined (cardsAt (now text) start cards)) (now «row_kinds») (now «row_args») place
+    requires { ⌜ CardsRoom (joined (cardsAt (now text) start lines)) (now «row_kinds») (now «row_args») place
         (now kinds) (now args) ⌝ }
-    ensures { λ r. ⌜ Tells (tokened (rowOf (joined (cardsAt (now (text .entry)) start cards)))) place
+    ensures { λ r. ⌜ Tells (tokened (rowOf (joined (cardsAt (now (text .entry)) start lines)))) place
         (now (kinds .entry)) (now (args .entry))
         r (now (kinds .exit)) (now (args .exit)) ⌝ }
 {
     let mut body = [0u8; deck::JOINED_BYTES];
-    let n = deck::join(text, start, cards, &mut body);
+    let n = deck::join(text, start, lines, &mut body);
     read_joined(&body[..n], row_kinds, row_args, kinds, args, place)
 }
 
@@ -120,7 +120,7 @@ fn read_cards(
 fn read_statement(
     text: &[u8],
     start: usize,
-    cards: usize,
+    lines: usize,
     next: usize,
     code: u8,
     row_kinds: &mut [u8],
@@ -129,20 +129,20 @@ fn read_statement(
     args: &mut [u64],
     place: usize,
 ) -> Told
-    requires { ⌜ Before (now text) start cards next code (now «row_kinds») (now «row_args») place (now kinds)
+    requires { ⌜ Before (now text) start lines next code (now «row_kinds») (now «row_args») place (now kinds)
         (now args) ⌝ }
-    ensures { λ r. ⌜ ((closed : Bool) → Size (cardsAt (now (text .entry)) start cards) closed code
-        → Tells (told (cardsAt (now (text .entry)) start cards) closed) place (now (kinds .entry)) (now (args .entry))
+    ensures { λ r. ⌜ ((closed : Bool) → Size (cardsAt (now (text .entry)) start lines) closed code
+        → Tells (told (cardsAt (now (text .entry)) start lines) closed) place (now (kinds .entry)) (now (args .entry))
         r (now (kinds .exit)) (now (args .exit))) ⌝ }
 {
     if code != 0 {
         return Told::Faulty(code);
     }
-    if cards == 1 {
+    if lines == 1 {
         let end = next - 1;
         return read_joined(&text[start..end], row_kinds, row_args, kinds, args, place);
     }
-    read_cards(text, start, cards, row_kinds, row_args, kinds, args, place)
+    read_cards(text, start, lines, row_kinds, row_args, kinds, args, place)
 }
 
 // ---- all statements
@@ -152,6 +152,7 @@ fn read_one(
     text: &[u8],
     first: usize,
     start: usize,
+    span: usize,
     cards: usize,
     closed: bool,
     long: bool,
@@ -165,9 +166,9 @@ fn read_one(
     bounds: &mut [u16],
     list: &mut [u8],
 ) -> SoFar
-    requires { ⌜ Able (now text) first start cards closed long next n (now «row_kinds») (now «row_args») (now kinds)
-        (now args) (now lines) (now bounds) ⌝ }
-    ensures { λ r. ⌜ Adds (told (cardsAt (now (text .entry)) start cards) closed) first n
+    requires { ⌜ Able (now text) first start span cards closed long next n (now «row_kinds») (now «row_args»)
+        (now kinds) (now args) (now lines) (now bounds) ⌝ }
+    ensures { λ r. ⌜ Adds (told (cardsAt (now (text .entry)) start span) closed) first n
         (now (kinds .entry)) (now (args .entry)) (now (lines .entry)) (now (bounds .entry)) (now (list .entry))
         r (now (kinds .exit)) (now (args .exit)) (now (lines .exit)) (now (bounds .exit)) (now (list .exit)) ⌝ }
 {
@@ -178,7 +179,7 @@ fn read_one(
     let r = read_statement(
         text,
         start,
-        cards,
+        span,
         next,
         code,
         row_kinds,
@@ -234,6 +235,7 @@ fn read_all(
         let Found::Statement {
             first,
             start,
+            lines: span,
             cards,
             closed,
             long,
@@ -246,6 +248,7 @@ fn read_all(
             text,
             first,
             start,
+            span,
             cards,
             closed,
             long,
@@ -292,17 +295,17 @@ pub fn translate_in_order(
     if text.len() <= room::SMALL {
         return room::in_small_room(text, faults, program, ordered);
     }
-    if deck::line_count(text) <= STATEMENTS {
+    let lines = deck::line_count(text);
+    if lines <= STATEMENTS {
         return room::in_large_room(text, faults, program, ordered);
     }
-    let sizes = deck::survey(text);
-    if TEXT_LINES < sizes.lines {
+    if TEXT_LINES < lines {
         return Ordered {
             verdict: Verdict::Refused(3),
             units: 0,
         };
     }
-    if STATEMENTS < sizes.statements {
+    if STATEMENTS < deck::statement_count(text) {
         return Ordered {
             verdict: Verdict::Refused(4),
             units: 0,

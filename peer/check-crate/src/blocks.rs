@@ -552,7 +552,7 @@ fn headers(random: &mut Random) -> Vec<u8> {
             _ => "ENDPRO".into(),
         };
         text.push_str(&line);
-        text.push_str(random.pick(&["\n", "\n", "...\n\n", "\n*\n"]));
+        text.push_str(random.pick(&["\n", "\n", "...\n\n", "\n*\n", "...\n*\n\n"]));
     }
     text.into_bytes()
 }
@@ -714,7 +714,7 @@ fn many_records(random: &mut Random) -> Vec<u8> {
         for _ in 0..random.range(1, 5) {
             let part = random.pick(&["+1", "-2", "*3", "+C"]).repeat(32);
             if left >= 256 {
-                let rest = format!("...\n{part}").repeat(3);
+                let rest = format!("...\n {part}").repeat(3);
                 text.push_str(&format!("A{i}={}{rest}\n", &part[1..]));
                 left -= 256;
             } else if left >= 2 {

@@ -4,6 +4,7 @@
 #![forbid(unsafe_code)]
 
 pub mod blocks;
+pub mod comments;
 pub mod library;
 pub mod programs;
 pub mod random;

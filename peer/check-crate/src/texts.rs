@@ -2,6 +2,7 @@
 //! each limit, decks damaged in every way that the paper names, and raw bytes.
 
 use crate::blocks;
+use crate::comments;
 use crate::random::Random;
 
 /// The tokens of one statement.
@@ -12,9 +13,19 @@ const RESERVED: [&str; 10] = [
 ];
 const ALPHABET: &[u8] = b"ABCDEIKLMNOPRSTWXZ0123456789.. =(),+-*/ \n\n";
 
-/// A text of a random family.
+/// A text of a random family, at times with comments put in.
 pub fn text(random: &mut Random) -> Vec<u8> {
-    match random.below(76) {
+    let text = of_family(random);
+    if random.once_in(6) {
+        comments::with_comments(random, text)
+    } else {
+        text
+    }
+}
+
+/// A text of a random family.
+fn of_family(random: &mut Random) -> Vec<u8> {
+    match random.below(84) {
         0..=4 => valid(random, Size::Small),
         5 => valid(random, Size::Large),
         6..=10 => damaged(random),
@@ -39,6 +50,8 @@ pub fn text(random: &mut Random) -> Vec<u8> {
         41 => each_byte(random),
         44 | 45 => dense(random),
         46..=75 => blocks::text(random),
+        76..=82 => comments::cards(random),
+        83 => filled(random),
         _ => tricky(random),
     }
 }
@@ -354,6 +367,7 @@ struct Style {
     spaces: usize,
     breaks: usize,
     between: usize,
+    inside: usize,
 }
 
 /// A random style.
@@ -362,6 +376,7 @@ fn style(random: &mut Random) -> Style {
         spaces: random.pick(&[1, 2, 8, 1000]),
         breaks: random.pick(&[4, 15, 1000, 1000]),
         between: random.pick(&[2, 6, 1000]),
+        inside: random.pick(&[2, 6, 1000]),
     }
 }
 
@@ -394,6 +409,10 @@ fn statement_lines(random: &mut Random, style: &Style, list: &Tokens) -> Vec<Str
         if !line.is_empty() || random.once_in(3) {
             line.push_str(&" ".repeat(spaces));
         }
+        if line.is_empty() && token.starts_with('*') && !random.once_in(12) {
+            // A star in front would make a comment of the card.
+            line.push(' ');
+        }
         line.push_str(token);
         left = token;
     }
@@ -424,11 +443,22 @@ fn filler(random: &mut Random) -> String {
     match random.below(6) {
         0 => String::new(),
         1 => " ".repeat(random.below(80)),
-        2 => "* COMMENT ...".into(),
-        3 => format!("*{}", "x#=".repeat(random.below(30))),
-        4 => "*A=1".into(),
-        _ => "*".into(),
+        _ => comments::comment_line(random),
     }
+}
+
+/// Joins the lines of a statement, at times with comments between them.
+fn join(random: &mut Random, style: &Style, lines: &[String]) -> String {
+    let mut text = String::new();
+    for (i, line) in lines.iter().enumerate() {
+        while i > 0 && random.once_in(style.inside) {
+            text.push_str(&comments::comment_line(random));
+            text.push('\n');
+        }
+        text.push_str(line);
+        text.push('\n');
+    }
+    text
 }
 
 /// Lays a deck out. Statements that do not fit four lines are left out,
@@ -445,14 +475,14 @@ pub(crate) fn lay_out(random: &mut Random, statements: &[Tokens], keep_long: boo
             spaces: 1000,
             breaks: 1000,
             between: 1000,
+            inside: 1000,
         };
         let mut lines = statement_lines(random, &style, list);
         if lines.len() > 4 {
             lines = statement_lines(random, &tight, list);
         }
         if lines.len() <= 4 || keep_long {
-            text.push_str(&lines.join("\n"));
-            text.push('\n');
+            text.push_str(&join(random, &style, &lines));
         }
     }
     if random.once_in(4) {
@@ -498,7 +528,16 @@ fn damage_bytes(random: &mut Random, text: &mut Vec<u8>) {
         3 if at < text.len() => drop(text.remove(at)),
         4 => text.truncate(at),
         5 => {
-            let dots = random.pick(&[&b"..."[..], b"....", b"...\n", b".. .", b"... ", b"...\r\n"]);
+            let dots = random.pick(&[
+                &b"..."[..],
+                b"....",
+                b"...\n",
+                b".. .",
+                b"... ",
+                b"...\r\n",
+                b"...\n*",
+                b"...\n*\n",
+            ]);
             text.splice(at..at, dots.iter().copied());
         }
         _ => {
@@ -756,6 +795,14 @@ fn lined(random: &mut Random) -> Vec<u8> {
     text
 }
 
+/// A text of just about 16,384 bytes or 512 lines, most of them comments inside
+/// its last statement.
+fn filled(random: &mut Random) -> Vec<u8> {
+    let mut text = valid(random, Size::Small);
+    comments::filled(random, &mut text);
+    text
+}
+
 /// Just about 256 statements, with or without faults.
 fn many_statements(random: &mut Random) -> Vec<u8> {
     let count = random.range(254, 258);
@@ -773,6 +820,7 @@ fn many_statements(random: &mut Random) -> Vec<u8> {
                 2 => format!("S{}=1", random.below(count)),
                 3 => format!("* C\nS{i}=1"),
                 4 => format!("\nS{i}=1"),
+                5 => format!("S{i}=1...\n*2\n"),
                 _ => format!("S{i}=1"),
             }
         };
@@ -829,10 +877,8 @@ fn many_records(random: &mut Random) -> Vec<u8> {
         if left >= 256 && !random.once_in(40) {
             let part = random.pick(&["+1", "-2", "*3", "+T"]);
             let part = part.repeat(32);
-            text.push_str(&format!(
-                "N{i:02}={}...\n{part}...\n{part}...\n{part}\n",
-                &part[1..]
-            ));
+            let rest = format!("...\n {part}").repeat(3);
+            text.push_str(&format!("N{i:02}={}{rest}\n", &part[1..]));
             left -= 256;
         } else if left >= 3 && random.once_in(3) {
             text.push_str(&format!("N{i}=INTGRL(0,1)\n"));
@@ -1002,7 +1048,7 @@ fn long_lines(random: &mut Random) -> Vec<u8> {
         for line in 0..count {
             let mut body = match line {
                 0 => format!("L{i}=1"),
-                _ => random.pick(&["+1", "*TIME", "", "/2"]).to_string(),
+                _ => random.pick(&["+1", " *TIME", "", "/2"]).to_string(),
             };
             let length = random.pick(&[20, 71, 72, 72, 72, 73, 74]);
             let dots = line + 1 < count;
@@ -1016,6 +1062,9 @@ fn long_lines(random: &mut Random) -> Vec<u8> {
             }
             text.push_str(&body);
             text.push('\n');
+            if dots && random.once_in(6) {
+                text.push_str(&format!("*{}\n", "-".repeat(random.range(70, 75))));
+            }
         }
         if random.once_in(4) {
             text.push_str(&format!(
@@ -1030,11 +1079,12 @@ fn long_lines(random: &mut Random) -> Vec<u8> {
 
 /// Runs of three to six lines with all that may stand in them.
 fn runs(random: &mut Random) -> Vec<u8> {
-    const LINES: [&str; 12] = [
+    const LINES: [&str; 13] = [
         "+1",
-        "*2",
+        " *2",
         "",
         "  ",
+        "*2",
         "* NOTE",
         "B=1",
         "...",
@@ -1060,7 +1110,7 @@ fn runs(random: &mut Random) -> Vec<u8> {
     }
     if random.once_in(3) {
         text.pop();
-        text.push_str(random.pick(&["...", "...\n", "...\n ", "... \n\n"]));
+        text.push_str(random.pick(&["...", "...\n", "...\n ", "... \n\n", "...\n*2", "...\n*\n"]));
     }
     text.into_bytes()
 }

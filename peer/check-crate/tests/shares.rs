@@ -1,7 +1,10 @@
-//! How often the random texts reach each outcome with blocks, by the peer alone.
+//! How often the random texts reach each outcome with blocks and have each shape
+//! of comments inside statements, and that a comment more changes nothing, by the
+//! peer alone.
 
 use std::collections::BTreeMap;
 
+use floesedge_check::comments::{self, Shape};
 use floesedge_check::random::Random;
 use floesedge_check::texts;
 use floesedge_peer::{judge_reason, translate};
@@ -46,5 +49,76 @@ fn each_outcome_with_blocks_is_common() {
     for code in 21..=26 {
         let count = faulty.get(&code).copied().unwrap_or(0);
         assert!(count * 100 >= TEXTS, "fault {code}: {count}");
+    }
+}
+
+#[test]
+fn each_shape_of_comments_is_common() {
+    let mut shapes: BTreeMap<Shape, u64> = BTreeMap::new();
+    let mut verdicts: BTreeMap<u32, u64> = BTreeMap::new();
+    for case in 0..TEXTS {
+        let text = texts::text(&mut Random::new(7, case * 2));
+        let number = translate(&text, &mut [0; 1024], &mut vec![0; 65_536]).number;
+        if comments::has_comments_inside(&text) {
+            *verdicts.entry(number).or_default() += 1;
+        }
+        if !matches!(number, 1..=4) {
+            for shape in comments::shapes(&text) {
+                *shapes.entry(shape).or_default() += 1;
+            }
+        }
+    }
+    println!(
+        "of {TEXTS} texts: by shape: {shapes:?}; with comments inside by verdict: {verdicts:?}"
+    );
+    for shape in Shape::ALL {
+        let count = shapes.get(&shape).copied().unwrap_or(0);
+        assert!(count * 100 >= TEXTS, "{shape:?}: {count}");
+    }
+    for number in [0, 5, 7] {
+        let count = verdicts.get(&number).copied().unwrap_or(0);
+        assert!(count * 20 >= TEXTS, "verdict {number}: {count}");
+    }
+}
+
+/// Verdict, faults as line and code, and records with their lines apart.
+type Outcome = (u32, u32, Vec<(u32, u8)>, Vec<(u32, Vec<u8>)>);
+
+/// What the peer gives on a text.
+fn outcome(text: &[u8]) -> Outcome {
+    let (mut faults, mut program) = (vec![0; 1024], vec![0; 65_536]);
+    let verdict = translate(text, &mut faults, &mut program);
+    let listed = verdict.count as usize * matches!(verdict.number, 5 | 7) as usize;
+    let recorded = verdict.count as usize * (verdict.number == 0) as usize;
+    let fault = |bytes: &[u8]| (u16::from_le_bytes([bytes[0], bytes[1]]).into(), bytes[2]);
+    let record = |bytes: &[u8]| {
+        let line = u32::from_le_bytes(bytes[4..8].try_into().unwrap());
+        (line, [&bytes[..4], &bytes[8..]].concat())
+    };
+    (
+        verdict.number,
+        verdict.count,
+        faults.chunks(4).take(listed).map(fault).collect(),
+        program.chunks(16).take(recorded).map(record).collect(),
+    )
+}
+
+#[test]
+fn a_comment_more_changes_nothing() {
+    for case in 0..TEXTS {
+        let mut random = Random::new(7, case * 2);
+        let text = texts::text(&mut random);
+        let place = comments::place(&mut random, &text);
+        let longer = comments::put_in(&text, place, &comments::comment(&mut random));
+        let (mut before, after) = (outcome(&text), outcome(&longer));
+        if matches!(before.0, 2..=4) || matches!(after.0, 2..=4) {
+            continue;
+        }
+        let faults = before.2.iter_mut().map(|fault| &mut fault.0);
+        let records = before.3.iter_mut().map(|record| &mut record.0);
+        for line in faults.chain(records) {
+            *line += (*line as usize > place) as u32;
+        }
+        assert!(before == after, "case {case}, behind line {place}");
     }
 }

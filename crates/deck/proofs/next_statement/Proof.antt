@@ -5,7 +5,8 @@ use borrow.Author.Needs.{needs}
 use lib.ListN.{length}
 use Rattle.deck.proofs.Cutting.{LineAt, line-at}
 use Rattle.deck.proofs.Steps.{Seeking, seeking-first, seeking-next, seeking-run, seeking-end, found-none}
-use Rattle.deck.proofs.Steps.{found-end, found-both}
+use Rattle.deck.proofs.Steps.{found-end}
+use Rattle.deck.proofs.Walking.{found-both}
 use Rattle.deck.proofs.next_statement.Statement.{statement}
 use Rattle.deck.proofs.next_statement.Tie as tie
 

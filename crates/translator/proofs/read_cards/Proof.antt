@@ -20,7 +20,7 @@ abbrev B : tie.After-join → tie.Start
 B j = j .before .before .before .before .before .before .before
 
 abbrev T : tie.After-join → List ℕ
-T j = let a = B j .args in joined (cardsAt (a .text .now) (a .start) (a .cards))
+T j = let a = B j .args in joined (cardsAt (a .text .now) (a .start) (a .lines))
 
 -- it is what was written
 body : (j : tie.After-join) → take (j .join .result) (j .join .last .1 .1 .1 .0) ≡ T j

@@ -20,7 +20,7 @@ abbrev B : tie.After-size-code → tie.Start
 B z = z .before .before .before .before .before .before .before .before .before
 
 abbrev C : tie.Start → List Line
-C s = cardsAt (s .args .text .now) (s .args .start) (s .args .cards)
+C s = cardsAt (s .args .text .now) (s .args .start) (s .args .span)
 
 -- what was told of it
 abbrev Z : tie.After-read-statement → tie.After-size-code
@@ -42,7 +42,7 @@ read-statement-requires c κs =
     let s = B z in
     let a = s .args in
     subst
-    (λ (k : ℕ). Before (a .text .now) (a .start) (a .cards) (a .next) k (a .row-kinds .now) (a .row-args .now)
+    (λ (k : ℕ). Before (a .text .now) (a .start) (a .span) (a .next) k (a .row-kinds .now) (a .row-args .now)
     (a .n .drafts)
     (a .kinds .now) (a .args .now)) (sym (z .size-code .ensures)) (s .pre .before)
 
@@ -79,13 +79,13 @@ add-bounds c =
     let s = B (Z (c .before .before .before .before .before .before .before .before .before .before .before)) in
     omega (arith, s .pre .bounds-room, s .good)
 
-add-t33 : tie.Need-add-t33
-add-t33 c =
+add-t34 : tie.Need-add-t34
+add-t34 c =
     let s = B (Z (c .before .before .before .before .before .before .before .before .before .before .before)) in
     omega (arith, s .pre .lines-room, s .good)
 
-add-t40 : tie.Need-add-t40
-add-t40 c =
+add-t41 : tie.Need-add-t41
+add-t41 c =
     let near = c .before .before .before .before .before .before .before .before in
     let s = B (Z (near .before .before .before .before .before .before .before)) in
     omega (arith, s .pre .faults-fit)
@@ -119,10 +119,10 @@ read-one-spec =
     add-bounds
     mul-bounds
     slice-write-bounds
-    add-t33
+    add-t34
     (λ c. search needs)
     (λ c κs. search needs)
-    add-t40
+    add-t41
     (λ c. search needs)
     (λ c. search needs)
     (λ c. search needs)

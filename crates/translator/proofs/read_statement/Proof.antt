@@ -8,16 +8,17 @@ use lib.ListN.{length}
 use Rattle.deck.specs.Lines.{Line}
 use Rattle.deck.specs.Joined.{joined}
 use Rattle.deck.specs.Next.{cardsAt}
+use Rattle.deck.specs.Walks.{BytesFrom}
 use Rattle.tokens.specs.Row.{rowOf}
 use Rattle.sheet.specs.Reader.{tokened}
-use Rattle.translator.specs.Working.{Size, BytesFrom}
+use Rattle.translator.specs.Working.{Size}
 use Rattle.translator.proofs.Telling.{tells-of, tells-fault, told-sized, told-joined}
 use Rattle.translator.proofs.read_statement.Statement.{statement}
 use Rattle.translator.proofs.read_statement.Tie as tie
 
--- the lines of the statement, where the function begins
+-- the cards of the statement, where the function begins
 abbrev C : tie.Start → List Line
-C s = cardsAt (s .args .text .now) (s .args .start) (s .args .cards)
+C s = cardsAt (s .args .text .now) (s .args .start) (s .args .lines)
 
 -- where it begins, seen from one line
 abbrev A : tie.Then2 → tie.Start

@@ -1,6 +1,10 @@
 -- The four refusals for size, then the verdict in a room.
+use Prim.Native.Nat.{_≤_}
 use native.Mathlib.Omega.{arith}
 use borrow.Author.Needs.{needs}
+use lib.ListN.{length}
+use Rattle.limits.specs.Limits.{textLines}
+use Rattle.deck.specs.Lines.{linesOf}
 use Rattle.translator.proofs.Verdicts.{bytes-sized, lines-sized, taken-so}
 use Rattle.translator.proofs.Verdicts.{says-one, says-two, says-three, says-four, says-decided}
 use Rattle.translator.proofs.translate_in_order.Statement.{statement}
@@ -58,45 +62,50 @@ returns-4 c =
     (n .before .before .before .if1 .left) (n .before .before .if2 .left) (sized .0)
     (k .in-large-room .result) (k .in-large-room .ensures)
 
--- ---- all are counted
+-- ---- lines are too many, or statements are counted
 returns-5 : tie.Need-returns-5
 returns-5 c =
-    let v = c .before .before in
-    let n = v .before .before in
+    let n = c .before .before in
     let a = start n .args in
     says-three (a .text .now) (a .faults .now) (a .program .now) (a .ordered .now)
-    (n .before .before .before .if1 .left) (n .before .before .if2 .left) (rw (v .survey .ensures) at (c .if5 .taken))
+    (n .before .before .before .if1 .left) (n .before .before .if2 .left)
+    (rw (n .line-count .ensures) at (c .if5 .taken))
+
+-- the count of lines before that of statements
+abbrev lined : tie.After-statement-count → tie.After-line-count
+lined v = v .before .before .before
+
+-- lines are not too many
+few-lines : (v : tie.After-statement-count) → length (linesOf (start (lined v) .args .text .now)) ≤ textLines
+few-lines v = rw (lined v .line-count .ensures) at (v .before .if5 .left)
 
 returns-6 : tie.Need-returns-6
 returns-6 c =
-    let i = c .before .before in
-    let v = i .before .before in
-    let n = v .before .before in
+    let v = c .before in
+    let n = lined v in
     let a = start n .args in
     says-four (a .text .now) (a .faults .now) (a .program .now) (a .ordered .now)
-    (n .before .before .before .if1 .left) (n .before .before .if2 .left) (rw (v .survey .ensures) at (i .if5 .left))
-    (rw (v .survey .ensures) at (c .if6 .taken))
+    (n .before .before .before .if1 .left) (n .before .before .if2 .left) (few-lines v)
+    (rw (v .statement-count .ensures) at (c .if6 .taken))
 
 in-large-room-requires-2 : tie.Need-in-large-room-requires-2
 in-large-room-requires-2 c κs =
     let few = c .before .before .before in
-    let i = few .before .before in
-    let v = i .before .before in
-    let n = v .before .before in
+    let v = few .before in
+    let n = lined v in
     let a = start n .args in
     taken-so (a .text .now) (a .faults .now) (n .before .before .before .if1 .left) (n .before .before .if2 .left)
-    (rw (v .survey .ensures) at (i .if5 .left), rw (v .survey .ensures) at (few .if6 .left))
+    (few-lines v, rw (v .statement-count .ensures) at (few .if6 .left))
 
 returns-7 : tie.Need-returns-7
 returns-7 c =
     let k = c .before .before .before .before .before .before in
-    let i = k .before .before .before .before .before .before in
-    let v = i .before .before in
-    let n = v .before .before in
+    let v = k .before .before .before .before .before in
+    let n = lined v in
     let a = start n .args in
     says-decided (a .text .now) (a .faults .now) (a .program .now) (a .ordered .now)
-    (n .before .before .before .if1 .left) (n .before .before .if2 .left)
-    (rw (v .survey .ensures) at (i .if5 .left)) (k .in-large-room2 .result) (k .in-large-room2 .ensures)
+    (n .before .before .before .if1 .left) (n .before .before .if2 .left) (few-lines v)
+    (k .in-large-room2 .result) (k .in-large-room2 .ensures)
 
 pub translate-in-order-spec : {M : Type 1} → statement M
 translate-in-order-spec =
@@ -115,8 +124,8 @@ translate-in-order-spec =
     (λ c. search needs)
     (λ c. search needs)
     returns-4
-    (λ c κs. search needs)
     returns-5
+    (λ c κs. search needs)
     returns-6
     in-large-room-requires-2
     (λ c. search needs)

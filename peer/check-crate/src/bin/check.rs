@@ -1,10 +1,12 @@
-//! Compares the library with the peer on random texts and programs.
+//! Compares the library with the peer on random texts and programs, and its
+//! answers with and without one comment more in each text.
 //!
 //! `check N SEED [FROM]`: N texts and N programs of a seed, from case FROM on.
 
 use std::collections::BTreeMap;
 use std::process::ExitCode;
 
+use floesedge_check::comments::{self, Shape};
 use floesedge_check::random::Random;
 use floesedge_check::{library, programs, texts};
 use floesedge_peer::{self as peer, Answer, Reason, Verdict};
@@ -21,6 +23,12 @@ struct Counts {
     faults: BTreeMap<u8, u64>,
     /// The same of texts with blocks: verdict 0 under 0, and fault codes.
     with_blocks: BTreeMap<u8, u64>,
+    /// The same of texts with comments inside statements.
+    with_comments: BTreeMap<u8, u64>,
+    /// Texts that were read, by what of comments inside statements they have.
+    shapes: BTreeMap<Shape, u64>,
+    /// Comments put in, by the verdict and whether they stand inside a statement.
+    put_in: BTreeMap<(u32, bool), u64>,
     answers: BTreeMap<u32, u64>,
     reasons: BTreeMap<Reason, u64>,
     /// Reasons for which a record of kind 15 was bad.
@@ -89,6 +97,28 @@ fn report(counts: &Counts) -> bool {
     for code in 21..=26 {
         line(format!("fault {code} with blocks"), with_blocks.get(&code));
     }
+    let with_comments = &counts.with_comments;
+    line(
+        "verdict 0 with comments inside".into(),
+        with_comments.get(&0),
+    );
+    for code in (11..=19).chain([24]) {
+        line(
+            format!("fault {code} with comments inside"),
+            with_comments.get(&code),
+        );
+    }
+    for shape in Shape::ALL {
+        line(format!("{shape:?}"), counts.shapes.get(&shape));
+    }
+    for number in [0, 5, 7] {
+        for (inside, place) in [(false, "outside"), (true, "inside")] {
+            line(
+                format!("comment put in {place}, verdict {number}"),
+                counts.put_in.get(&(number, inside)),
+            );
+        }
+    }
     for number in 0..=4 {
         line(format!("answer {number}"), counts.answers.get(&number));
     }
@@ -150,19 +180,9 @@ fn check_text(seed: u64, case: u64, counts: &mut Counts) -> bool {
     let pattern = random.word();
     let ours = run_text(peer::translate, &text, rooms, pattern);
     let theirs = run_text(library::translate, &text, rooms, pattern);
-    *counts.verdicts.entry(ours.0.number).or_default() += 1;
-    let blocks = texts::has_blocks(&text);
-    if blocks && ours.0.number == 0 {
-        *counts.with_blocks.entry(0).or_default() += 1;
-    }
-    for code in fault_codes(&ours) {
-        *counts.faults.entry(code).or_default() += 1;
-        if blocks {
-            *counts.with_blocks.entry(code).or_default() += 1;
-        }
-    }
+    count_text(&text, &ours, counts);
     if ours == theirs {
-        return false;
+        return check_comment(&mut random, case, &text, rooms, counts);
     }
     let differs = |text: &[u8]| {
         run_text(peer::translate, text, rooms, pattern)
@@ -183,19 +203,120 @@ fn check_text(seed: u64, case: u64, counts: &mut Counts) -> bool {
     true
 }
 
+/// Counts what a text is and what it gave.
+fn count_text(text: &[u8], translated: &Translated, counts: &mut Counts) {
+    let number = translated.0.number;
+    *counts.verdicts.entry(number).or_default() += 1;
+    let mut codes = fault_codes(translated);
+    for code in &codes {
+        *counts.faults.entry(*code).or_default() += 1;
+    }
+    if number == 0 {
+        codes.push(0);
+    }
+    let sorts = [
+        (texts::has_blocks(text), &mut counts.with_blocks),
+        (
+            comments::has_comments_inside(text),
+            &mut counts.with_comments,
+        ),
+    ];
+    for (_, sort) in sorts.into_iter().filter(|(has, _)| *has) {
+        for code in &codes {
+            *sort.entry(*code).or_default() += 1;
+        }
+    }
+    if !matches!(number, 1..=4) {
+        for shape in comments::shapes(text) {
+            *counts.shapes.entry(shape).or_default() += 1;
+        }
+    }
+}
+
+/// The length of what is written to the fault list and to the program.
+fn written(verdict: Verdict) -> (usize, usize) {
+    let count = verdict.count as usize;
+    match verdict.number {
+        0 => (0, count * 16),
+        5 | 7 => (count * 4, 0),
+        _ => (0, 0),
+    }
+}
+
 /// The codes in a written fault list.
 fn fault_codes(translated: &Translated) -> Vec<u8> {
     let (verdict, faults, _) = translated;
-    let written = if matches!(verdict.number, 5 | 7) {
-        verdict.count as usize
-    } else {
-        0
-    };
-    faults[MARGIN..]
+    faults[MARGIN..MARGIN + written(*verdict).0]
         .chunks_exact(4)
-        .take(written)
         .map(|fault| fault[2])
         .collect()
+}
+
+/// Puts one comment into a text and compares what the library gives with what it
+/// gave before: the same, each line behind the comment one higher. True if not.
+fn check_comment(
+    random: &mut Random,
+    case: u64,
+    text: &[u8],
+    rooms: (usize, usize),
+    counts: &mut Counts,
+) -> bool {
+    let place = comments::place(random, text);
+    let card = comments::comment(random);
+    let pattern = random.word();
+    let both = |text: &[u8]| {
+        let longer = comments::put_in(text, place, &card);
+        let before = run_text(library::translate, text, rooms, pattern);
+        let after = run_text(library::translate, &longer, rooms, pattern);
+        (before, after)
+    };
+    let (before, after) = both(text);
+    let number = after.0.number;
+    if !changes(before, after, place) {
+        let inside = comments::is_inside(text, place);
+        *counts.put_in.entry((number, inside)).or_default() += 1;
+        return false;
+    }
+    let differs = |text: &[u8]| {
+        let (before, after) = both(text);
+        changes(before, after, place)
+    };
+    let text = shrink(text.to_vec(), 1, differs);
+    println!(
+        "DIFFERENCE by a comment in text of case {case}, lent {} and {} bytes",
+        rooms.0, rooms.1
+    );
+    let longer = comments::put_in(&text, place, &card);
+    println!("text: {}", text.escape_ascii());
+    println!("with the comment: {}", longer.escape_ascii());
+    println!("hex: {} and {}", hex(&text), hex(&longer));
+    let (before, after) = both(&text);
+    show_text("without", &before);
+    show_text("with", &after);
+    true
+}
+
+/// Whether a comment at a place changes more than lines; not if the text is, or
+/// becomes, refused for its size.
+fn changes(before: Translated, after: Translated, place: usize) -> bool {
+    let sized = |translated: &Translated| matches!(translated.0.number, 2..=4);
+    !sized(&before) && !sized(&after) && moved(before, place) != after
+}
+
+/// What was given back, each line number over a place one higher.
+fn moved((verdict, mut faults, mut program): Translated, place: usize) -> Translated {
+    let (listed, recorded) = written(verdict);
+    for fault in faults[MARGIN..MARGIN + listed].chunks_exact_mut(4) {
+        let line = u16::from_le_bytes([fault[0], fault[1]]);
+        let line = line + (line as usize > place) as u16;
+        fault[..2].copy_from_slice(&line.to_le_bytes());
+    }
+    for record in program[MARGIN..MARGIN + recorded].chunks_exact_mut(16) {
+        let line = u32::from_le_bytes(record[4..8].try_into().unwrap());
+        let line = line + (line as usize > place) as u32;
+        record[4..8].copy_from_slice(&line.to_le_bytes());
+    }
+    (verdict, faults, program)
 }
 
 /// Prints what a translator gave back.
@@ -206,19 +327,9 @@ fn show_text(who: &str, translated: &Translated) {
         let end = buffer.len() - MARGIN;
         hex(&buffer[MARGIN..end.min(MARGIN + most)])
     };
-    let written = |kind: bool, size: usize| {
-        if kind {
-            verdict.count as usize * size
-        } else {
-            0
-        }
-    };
-    let listed = written(matches!(verdict.number, 5 | 7), 4);
+    let (listed, recorded) = written(*verdict);
     println!("  fault list: {} ..", inside(faults, listed + 4));
-    println!(
-        "  program: {} ..",
-        inside(program, written(verdict.number == 0, 16).min(3200) + 4)
-    );
+    println!("  program: {} ..", inside(program, recorded.min(3200) + 4));
 }
 
 // Programs.

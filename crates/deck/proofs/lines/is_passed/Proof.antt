@@ -17,7 +17,8 @@ returns-2 : tie.Need-returns-2
 unfolding passed
 returns-2 c =
     let l = c .before .before .before .before .args .line .now in
-    rw (← (c .before .before .trim .ensures .0), ne-eqb _ _ (c .before .if1 .left)) (sym (or-false (starred l)))
+    rw (← (c .before .before .trim .ensures .0), ne-eqb _ _ (c .before .if1 .left), c .is-comment .ensures)
+    (sym (or-false (starred l)))
 
 pub is-passed-spec : {M : Type 1} → statement M
 is-passed-spec = tie.close (tie.spec (λ c κs. search needs) returns (λ c. search needs) returns-2)
