@@ -67,8 +67,8 @@ typedef struct {
 
 enum {
     FLOESEDGE_FAULT_OPEN_END = 11,         /* the text ends while the statement continues */
-    FLOESEDGE_FAULT_TOO_MANY_CARDS = 12,   /* more than 4 lines */
-    FLOESEDGE_FAULT_LINE_TOO_LONG = 13,    /* one of its lines has more than 72 bytes */
+    FLOESEDGE_FAULT_TOO_MANY_CARDS = 12,   /* more than 4 lines, comments aside */
+    FLOESEDGE_FAULT_LINE_TOO_LONG = 13,    /* one of its lines, comments aside, has more than 72 bytes */
     FLOESEDGE_FAULT_BAD_BYTE = 14,         /* no letter A to Z, digit, point, space or mark */
     FLOESEDGE_FAULT_LONG_NAME = 15,        /* more than 6 characters */
     FLOESEDGE_FAULT_BAD_NUMBER = 16,       /* malformed */
