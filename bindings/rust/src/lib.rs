@@ -163,8 +163,8 @@ impl fmt::Display for Code {
     fn fmt(&self, f: &mut fmt::Formatter<'_>) -> fmt::Result {
         let words = match self {
             Code::OpenEnd => "the text ends while the statement continues",
-            Code::TooManyCards => "the statement has more than 4 lines",
-            Code::LineTooLong => "a line of the statement has more than 72 bytes",
+            Code::TooManyCards => "the statement has more than 4 lines, comments aside",
+            Code::LineTooLong => "a line of the statement, comments aside, has more than 72 bytes",
             Code::BadByte => "a byte that is no letter A to Z, digit, point, space or mark",
             Code::LongName => "a name of more than 6 characters",
             Code::BadNumber => "a malformed number",
