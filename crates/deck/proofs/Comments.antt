@@ -1,6 +1,6 @@
 -- A comment that is put in anywhere moves the numbers of the statements behind it by one, and nothing else.
 use Prim.Native.Nat.{ℕ, suc, _+_, _<_, _≤_}
-use mathlib.Core.Path.{_≡_, refl, sym, ap, ap₂, _∙_}
+use mathlib.Core.Path.{_≡_, refl, sym, ap, ap₂, _∙_, _≡⟨_⟩_, _∎}
 use mathlib.Core.Bool.{Bool, true, false, cond}
 use mathlib.Core.List.{List, [], _∷_, _++_, map, map-append, append-nil}
 use native.Mathlib.Omega.{arith}
@@ -113,13 +113,17 @@ module _ (c : Line) (star : starred c ≡ true) where
       let front = closedIn fresh 1 pre in
       let next : 1 + n ≡ suc n = omega arith in
       let alike = comment-alike F n (1 + n) s (rw next at (state-before fresh 1 pre tt)) in
-      let behind : map (report F) (reading s (1 + n) (c ∷ post))
-      ≡ map (renumber (moved n)) (map (report F) (reading s (1 + n) post)) =
+      let told = map (report F) in
+      let move = map (renumber (moved n)) in
+      let with = reading s (1 + n) (c ∷ post) in
+      let without = reading s (1 + n) post in
+      let behind : told with ≡ move (told without) =
       rw (comment-ends s (1 + n)) (reports-moved F n (1 + n) (omega arith) s (after s (1 + n) c) post alike) in
-      ap (map (report F)) (reading-append fresh 1 pre (c ∷ post))
-      ∙ map-append (report F) front (reading s (1 + n) (c ∷ post))
-      ∙ ap₂ _++_ (front-kept F n front (closed-among pre)) behind
-      ∙ sym
-      (ap (map (renumber (moved n)))
-      (ap (map (report F)) (reading-append fresh 1 pre post) ∙ map-append (report F) front (reading s (1 + n) post))
-      ∙ map-append (renumber (moved n)) (map (report F) front) (map (report F) (reading s (1 + n) post)))
+      let whole = reading-append fresh 1 pre post in
+      reports F (pre ++ (c ∷ post)) ≡⟨ ap told (reading-append fresh 1 pre (c ∷ post)) ⟩
+      told (front ++ with) ≡⟨ map-append (report F) front with ⟩
+      told front ++ told with ≡⟨ ap₂ _++_ (front-kept F n front (closed-among pre)) behind ⟩
+      move (told front) ++ move (told without) ≡⟨ sym (map-append (renumber (moved n)) (told front) (told without)) ⟩
+      move (told front ++ told without) ≡⟨ ap move (sym (map-append (report F) front without)) ⟩
+      move (told (front ++ without)) ≡⟨ sym (ap (λ (ss : List Statement). move (told ss)) whole) ⟩
+      move (reports F (pre ++ post)) ∎

@@ -1,7 +1,7 @@
 -- Comments change nothing: the sheet of a text with a comment more is that of the text, its line numbers moved, and so
 -- is all that is made of it.
 use Prim.Native.Nat.{ℕ, zero-le}
-use mathlib.Core.Path.{_≡_, refl, sym, ap, ap₂, _∙_}
+use mathlib.Core.Path.{_≡_, refl, sym, ap, ap₂, _∙_, _≡⟨_⟩_, _∎}
 use mathlib.Core.List.{List, [], _∷_, _++_, map, append-nil}
 use native.Mathlib.Omega.{arith}
 use lib.ListN.{length, length-map}
@@ -13,7 +13,7 @@ use Rattle.deck.proofs.Cutting.{lines-append, lines-lacking, lines-whole}
 use Rattle.sheet.specs.Sheet.{Numbered, said, statementFaults}
 use Rattle.sheet.specs.Reader.{sheetOf}
 use Rattle.sheet.specs.Numbers.{renumberFault}
-use Rattle.sheet.proofs.Numbers.{faults-renumbered, said-renumbered}
+use Rattle.sheet.proofs.Numbers.{renumberNumbered, faults-renumbered, said-renumbered}
 use Rattle.sheet.proofs.Comments.{sheet-commented}
 use Rattle.blocks.specs.Units.{TextUnit}
 use Rattle.blocks.specs.Members.{unitsOf}
@@ -21,13 +21,14 @@ use Rattle.blocks.proofs.Renumbering.{renumberUnit, units-renumbered}
 use Rattle.model.specs.Faults.{orderOf}
 use Rattle.model.specs.Text.{textUnits, modelFaultsIn}
 use Rattle.model.proofs.Renumbering.{order-kept, faults-in-renumbered}
-use Rattle.records.specs.Record.{renumberRec}
+use Rattle.records.specs.Record.{Rec, renumberRec}
 use Rattle.program.specs.Program.{program}
 use Rattle.program.proofs.Renumbering.{program-renumbered}
 use Rattle.translator.specs.declared.Verdict.{Verdict}
 use Rattle.translator.specs.declared.Verdict.the-variants.{Refused, Faulty, Translated}
 use Rattle.translator.specs.Verdict.{Decision, refused, faulty, translated, verdictOf, numberOf, countOf}
 use Rattle.translator.specs.Refusals.{Admitted}
+use Rattle.translator.specs.Rules.{recordsOf}
 use Rattle.translator.specs.Renumbered.{renumberDecision}
 use Rattle.translator.specs.Contract.{Reply, reply, replyOf, linesIn, Translates}
 use Rattle.translator.proofs.Renumbering.{verdict-renumbered, number-kept, count-kept, lines-moved}
@@ -41,19 +42,22 @@ unchanged pre c post a b w f p ok-a ok-b =
     let move = moved (length pre) in
     let zero = moved-stays (length pre) 0 zero-le in
     let sheet = sheet-commented pre c post a b (w .without) (w .with) (w .comment) in
+    let ss = said (sheetOf a) in
     let said-moved = ap said sheet ∙ said-renumbered move (sheetOf a) in
     let verdict = verdict-renumbered move zero a b sheet f p ok-a ok-b in
     let us = textUnits a in
+    let sorted : List TextUnit → List Rec = λ (v : List TextUnit). program v (orderOf v) in
     record {
       number = ap numberOf verdict ∙ number-kept move (verdictOf a f p);
       count = ap countOf verdict ∙ count-kept move (verdictOf a f p);
       statement-faults = ap statementFaults sheet ∙ faults-renumbered move (sheetOf a);
-      model-faults = ap modelFaultsIn said-moved ∙ faults-in-renumbered move zero (said (sheetOf a));
+      model-faults = ap modelFaultsIn said-moved ∙ faults-in-renumbered move zero ss;
       records =
-          ap (λ (ss : List Numbered). program (unitsOf ss) (orderOf (unitsOf ss))) said-moved
-          ∙ ap (λ (v : List TextUnit). program v (orderOf v)) (units-renumbered move (said (sheetOf a)))
-          ∙ ap (program (map (renumberUnit move) us)) (order-kept move zero us)
-          ∙ program-renumbered move zero us (orderOf us);
+          recordsOf b ≡⟨ ap (λ (ss : List Numbered). sorted (unitsOf ss)) said-moved ⟩
+          sorted (unitsOf (map (renumberNumbered move) ss)) ≡⟨ ap sorted (units-renumbered move ss) ⟩
+          sorted (map (renumberUnit move) us) ≡⟨ ap (program (map (renumberUnit move) us)) (order-kept move zero us) ⟩
+          program (map (renumberUnit move) us) (orderOf us) ≡⟨ program-renumbered move zero us (orderOf us) ⟩
+          map (renumberRec move) (recordsOf a) ∎;
       lines = ap linesIn verdict ∙ lines-moved move (verdictOf a f p);
     }
 
