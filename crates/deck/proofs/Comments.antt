@@ -11,7 +11,7 @@ use Rattle.deck.specs.Lines.{Line, starred, passed}
 use Rattle.deck.specs.Reading.{Statement, cardsOf, State, fresh, inside, leavesOpen, goes-on, justClosed}
 use Rattle.deck.specs.Reading.{after, ended, left, reading, closedIn, stateAfter}
 use Rattle.deck.specs.Reports.{report, reports}
-use Rattle.deck.specs.Later.{renumber, moved}
+use Rattle.deck.specs.Later.{renumber, lineMoved}
 use Rattle.deck.proofs.Cards.{cards-append}
 use Rattle.deck.proofs.Local.{reading-append}
 use Rattle.deck.proofs.Rising.{Before, closed-among, state-before}
@@ -19,17 +19,17 @@ use Rattle.deck.proofs.Rising.{Before, closed-among, state-before}
 -- ---- numbers
 
 -- up to line n they stay
-pub moved-stays : (n k : ℕ) → k ≤ n → moved n k ≡ k
+pub moved-stays : (n k : ℕ) → k ≤ n → lineMoved n k ≡ k
 moved-stays n k h = rw (le-ltb n k h)
 
 -- behind it they are raised by one
-moved-raised : (n k : ℕ) → n < k → moved n k ≡ suc k
+moved-raised : (n k : ℕ) → n < k → lineMoved n k ≡ suc k
 moved-raised n k h = rw (lt-ltb n k h) (omega arith)
 
 module _ {A : Type 0} (F : List Line → Bool → A) (n : ℕ) where
   -- statements that start on line n at the latest keep theirs
   front-kept : (ss : List Statement) → Every (λ (s : Statement). s .first ≤ n) ss
-      → map (report F) ss ≡ map (renumber (moved n)) (map (report F) ss)
+      → map (report F) ss ≡ map (renumber (lineMoved n)) (map (report F) ss)
   front-kept [] h = refl
   front-kept (s ∷ ss) h = rw (moved-stays n (s .first) (h .0), ← (front-kept ss (h .1)))
 
@@ -38,11 +38,11 @@ module _ {A : Type 0} (F : List Line → Bool → A) (n : ℕ) where
   Alike fresh fresh = Unit {0}
   Alike fresh (inside g ms) = ⊥
   Alike (inside f ls) fresh = ⊥
-  Alike (inside f ls) (inside g ms) = (g ≡ moved n f) × (cardsOf ms ≡ cardsOf ls)
+  Alike (inside f ls) (inside g ms) = (g ≡ lineMoved n f) × (cardsOf ms ≡ cardsOf ls)
 
   -- the reports of lines that stand behind line n, from line k on, and from the next line on in the other text
   reports-moved : (k : ℕ) → n < k → (s s′ : State) (ls : List Line) → Alike s s′
-      → map (report F) (reading s′ (suc k) ls) ≡ map (renumber (moved n)) (map (report F) (reading s k ls))
+      → map (report F) (reading s′ (suc k) ls) ≡ map (renumber (lineMoved n)) (map (report F) (reading s k ls))
   unfolding reading left after ended
   reports-moved k h fresh fresh [] a = refl
   reports-moved k h fresh (inside g ms) [] a = absurd a
@@ -54,11 +54,11 @@ module _ {A : Type 0} (F : List Line → Bool → A) (n : ℕ) where
       go : (p o : Bool)
           → ((s s′ : State) → Alike s s′
           → map (report F) (reading s′ (suc (suc k)) ls)
-          ≡ map (renumber (moved n)) (map (report F) (reading s (suc k) ls)))
+          ≡ map (renumber (lineMoved n)) (map (report F) (reading s (suc k) ls)))
           → map (report F)
           (cond p [] (justClosed o (suc k) (l ∷ []))
           ++ reading (cond p fresh (goes-on o (suc k) (l ∷ []))) (suc (suc k)) ls)
-          ≡ map (renumber (moved n))
+          ≡ map (renumber (lineMoved n))
           (map (report F)
           (cond p [] (justClosed o k (l ∷ [])) ++ reading (cond p fresh (goes-on o k (l ∷ []))) (suc k) ls))
       go true o ih = ih fresh fresh tt
@@ -77,10 +77,10 @@ module _ {A : Type 0} (F : List Line → Bool → A) (n : ℕ) where
       go : (o : Bool)
           → ((s s′ : State) → Alike s s′
           → map (report F) (reading s′ (suc (suc k)) ls)
-          ≡ map (renumber (moved n)) (map (report F) (reading s (suc k) ls)))
+          ≡ map (renumber (lineMoved n)) (map (report F) (reading s (suc k) ls)))
           → map (report F)
           (justClosed o g (ns ++ (l ∷ [])) ++ reading (goes-on o g (ns ++ (l ∷ []))) (suc (suc k)) ls)
-          ≡ map (renumber (moved n))
+          ≡ map (renumber (lineMoved n))
           (map (report F) (justClosed o f (ms ++ (l ∷ [])) ++ reading (goes-on o f (ms ++ (l ∷ []))) (suc k) ls))
       go true ih = ih (inside f (ms ++ (l ∷ []))) (inside g (ns ++ (l ∷ []))) (a .0, same)
       go false ih = rw (a .0, same, ih fresh fresh tt)
@@ -105,7 +105,7 @@ module _ (c : Line) (star : starred c ≡ true) where
 
   -- A COMMENT put in behind the lines pre moves the numbers behind it, in the reports of a text, and nothing else
   pub reports-commented : {A : Type 0} (F : List Line → Bool → A) (pre post : List Line)
-      → reports F (pre ++ (c ∷ post)) ≡ map (renumber (moved (length pre))) (reports F (pre ++ post))
+      → reports F (pre ++ (c ∷ post)) ≡ map (renumber (lineMoved (length pre))) (reports F (pre ++ post))
   unfolding reading
   reports-commented F pre post =
       let n = length pre in
@@ -114,7 +114,8 @@ module _ (c : Line) (star : starred c ≡ true) where
       let next : 1 + n ≡ suc n = omega arith in
       let alike = comment-alike F n (1 + n) s (rw next at (state-before fresh 1 pre tt)) in
       let told = map (report F) in
-      let move = map (renumber (moved n)) in
+      let number = renumber (lineMoved n) in
+      let move = map number in
       let with = reading s (1 + n) (c ∷ post) in
       let without = reading s (1 + n) post in
       let behind : told with ≡ move (told without) =
@@ -123,7 +124,7 @@ module _ (c : Line) (star : starred c ≡ true) where
       reports F (pre ++ (c ∷ post)) ≡⟨ ap told (reading-append fresh 1 pre (c ∷ post)) ⟩
       told (front ++ with) ≡⟨ map-append (report F) front with ⟩
       told front ++ told with ≡⟨ ap₂ _++_ (front-kept F n front (closed-among pre)) behind ⟩
-      move (told front) ++ move (told without) ≡⟨ sym (map-append (renumber (moved n)) (told front) (told without)) ⟩
+      move (told front) ++ move (told without) ≡⟨ sym (map-append number (told front) (told without)) ⟩
       move (told front ++ told without) ≡⟨ ap move (sym (map-append (report F) front without)) ⟩
       move (told (front ++ without)) ≡⟨ sym (ap (λ (ss : List Statement). move (told ss)) whole) ⟩
       move (reports F (pre ++ post)) ∎

@@ -25,8 +25,8 @@ abbrev pub laterReport : {A : Type 0} → ℕ → Report A → Report A
 laterReport k = renumber (λ (n : ℕ). k + n)
 
 -- ---- a number moved by one line more, which stands behind line n
-abbrev pub moved : ℕ → ℕ → ℕ
-moved n k = cond (ltb n k) (k + 1) k
+abbrev pub lineMoved : ℕ → ℕ → ℕ
+lineMoved n k = cond (ltb n k) (k + 1) k
 
 -- ---- what two lists share
 

@@ -7,7 +7,7 @@ use native.Mathlib.Omega.{arith}
 use lib.ListN.{length, length-map}
 use Rattle.laws.specs.Every.{Every}
 use Rattle.deck.specs.Lines.{Line, linesOf}
-use Rattle.deck.specs.Later.{moved}
+use Rattle.deck.specs.Later.{lineMoved}
 use Rattle.deck.proofs.Comments.{moved-stays}
 use Rattle.deck.proofs.Cutting.{lines-append, lines-lacking, lines-whole}
 use Rattle.sheet.specs.Sheet.{Numbered, said, statementFaults}
@@ -39,7 +39,7 @@ pub unchanged : (pre : List Line) (c : Line) (post : List Line) (a b : List ℕ)
     → (f p : ℕ) → Admitted (verdictOf a f p) → Admitted (verdictOf b f p)
     → Unchanged (length pre) a b f p
 unchanged pre c post a b w f p ok-a ok-b =
-    let move = moved (length pre) in
+    let move = lineMoved (length pre) in
     let zero = moved-stays (length pre) 0 zero-le in
     let sheet = sheet-commented pre c post a b (w .without) (w .with) (w .comment) in
     let ss = said (sheetOf a) in
@@ -76,7 +76,7 @@ unchanged-for pre c post a b w f p g s even-f even-p ok-a ok-b r t f′ p′ g�
     go old m (n ∙ ap (λ (v : Decision). replyOf v g s) verdict)
   where
     move : ℕ → ℕ
-    move = moved (length pre)
+    move = lineMoved (length pre)
 
     go : (v : Decision) → reply r f′ p′ ≡ replyOf v f p → reply t g′ s′ ≡ replyOf (renumberDecision move v) g s
         → UnchangedFor (length pre) r f p f′ p′ t g s g′ s′

@@ -6,7 +6,7 @@ use mathlib.Core.List.{List, _∷_, _++_, map}
 use lib.ListN.{length}
 use lib.Seq.{sets}
 use Rattle.deck.specs.Lines.{Line, linesOf, starred}
-use Rattle.deck.specs.Later.{moved}
+use Rattle.deck.specs.Later.{lineMoved}
 use Rattle.sheet.specs.Sheet.{Fault, faultList}
 use Rattle.sheet.specs.Reader.{faultsOf}
 use Rattle.sheet.specs.Numbers.{renumberFault}
@@ -29,11 +29,11 @@ pub record Commented (pre : List Line) (c : Line) (post : List Line) (a b : List
 pub record Unchanged (n : ℕ) (a b : List ℕ) (f p : ℕ) : Type 0 where
   pub number : numberOf (verdictOf b f p) ≡ numberOf (verdictOf a f p)
   pub count : countOf (verdictOf b f p) ≡ countOf (verdictOf a f p)
-  pub statement-faults : faultsOf b ≡ map (renumberFault (moved n)) (faultsOf a)
-  pub model-faults : modelFaultsOf b ≡ map (renumberFault (moved n)) (modelFaultsOf a)
-  pub records : recordsOf b ≡ map (renumberRec (moved n)) (recordsOf a)
+  pub statement-faults : faultsOf b ≡ map (renumberFault (lineMoved n)) (faultsOf a)
+  pub model-faults : modelFaultsOf b ≡ map (renumberFault (lineMoved n)) (modelFaultsOf a)
+  pub records : recordsOf b ≡ map (renumberRec (lineMoved n)) (recordsOf a)
   -- so are the first lines of the ordered units, which the listing prints
-  pub lines : linesIn (verdictOf b f p) ≡ map (moved n) (linesIn (verdictOf a f p))
+  pub lines : linesIn (verdictOf b f p) ≡ map (lineMoved n) (linesIn (verdictOf a f p))
 
 -- ---- as the callers of both texts meet it, who lent f and p for a, g and s for b, as many bytes, and find f′ and p′,
 -- g′ and s′ in their places
@@ -43,10 +43,10 @@ pub record Unchanged (n : ℕ) (a b : List ℕ) (f p : ℕ) : Type 0 where
 abbrev pub AnswerSame : ℕ → Verdict → List ℕ → List ℕ → List ℕ → List ℕ → List ℕ → List ℕ → List ℕ → List ℕ → Type 0
 AnswerSame n (Refused k) f p f′ p′ g s g′ s′ = (f′ ≡ f) × (p′ ≡ p) × (g′ ≡ g) × (s′ ≡ s)
 AnswerSame n (Faulty k m) f p f′ p′ g s g′ s′ = (fs : List Fault) × (length fs ≡ m)
-    × (f′ ≡ sets f 0 (faultList fs)) × (g′ ≡ sets g 0 (faultList (map (renumberFault (moved n)) fs)))
+    × (f′ ≡ sets f 0 (faultList fs)) × (g′ ≡ sets g 0 (faultList (map (renumberFault (lineMoved n)) fs)))
     × (p′ ≡ p) × (s′ ≡ s)
 AnswerSame n (Translated m) f p f′ p′ g s g′ s′ = (rs : List Rec) × (length rs ≡ m)
-    × (p′ ≡ sets p 0 (programBytes rs)) × (s′ ≡ sets s 0 (programBytes (map (renumberRec (moved n)) rs)))
+    × (p′ ≡ sets p 0 (programBytes rs)) × (s′ ≡ sets s 0 (programBytes (map (renumberRec (lineMoved n)) rs)))
     × (f′ ≡ f) × (g′ ≡ g)
 
 -- COMMENTS CHANGE NOTHING, FROM THE ENTRY: both answers are the same
