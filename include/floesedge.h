@@ -28,11 +28,11 @@ extern "C" {
 /* ---- sizes */
 
 enum {
-    FLOESEDGE_FAULT_ROOM = 1024,    /* bytes to lend for the fault list; fewer is verdict 1 */
+    FLOESEDGE_FAULT_ROOM = 2048,    /* bytes to lend for the fault list; fewer is verdict 1 */
     FLOESEDGE_PROGRAM_ROOM = 65536, /* bytes that hold every program: 4,096 records */
     FLOESEDGE_SLOTS = 256,          /* places to lend in values and in derivs; fewer is answer 1 */
     FLOESEDGE_RECORD_BYTES = 16,
-    FLOESEDGE_FAULT_BYTES = 4,
+    FLOESEDGE_FAULT_BYTES = 8,
     FLOESEDGE_MOST_TEXT_BYTES = 16384,
     FLOESEDGE_MOST_LINES = 512,
     FLOESEDGE_MOST_STATEMENTS = 256,
@@ -44,7 +44,7 @@ enum {
 
 enum {
     FLOESEDGE_TRANSLATED = 0,           /* the program is written, count is its records */
-    FLOESEDGE_FAULT_LIST_SHORT = 1,     /* fewer than 1,024 bytes lent for the fault list */
+    FLOESEDGE_FAULT_LIST_SHORT = 1,     /* fewer than 2,048 bytes lent for the fault list */
     FLOESEDGE_TEXT_TOO_LONG = 2,        /* over 16,384 bytes */
     FLOESEDGE_TOO_MANY_LINES = 3,       /* over 512 */
     FLOESEDGE_TOO_MANY_STATEMENTS = 4,  /* over 256 */
@@ -59,11 +59,19 @@ typedef struct {
     uint32_t count;  /* records for 0, faults for 5 and 7, else 0 */
 } floesedge_verdict;
 
-/* ---- faults: 4 bytes each, in line order
+/* ---- faults: 8 bytes each, in line order, every number low byte first
  *
- *   0, 1  the statement's first line, from 1, low byte first
+ *   0, 1  the statement's first line, from 1
  *   2     code
- *   3     0 */
+ *   3     0
+ *   4, 5  the line of the place, from 1
+ *   6, 7  the column of the place, from 1; columns count bytes
+ *
+ * The place is
+ *   - for 14 to 18 the first byte of the token at fault, for 14 that byte itself, and for 19 the parenthesis;
+ *   - for 11, and for 18 where the statement ends too early, the last byte of the statement's last line, its dots and
+ *     spaces included, or column 1 if that line is empty; a comment is no line of the statement;
+ *   - for 12, 13 and 21 to 26 the statement's first byte: its first line, column 1, space or not. */
 
 enum {
     FLOESEDGE_FAULT_OPEN_END = 11,         /* the text ends while the statement continues */

@@ -2,8 +2,9 @@
  *
  *   run DECK H STEPS [EVERY [NAME...]]
  *
- * Prints a line for every EVERY-th time (1 if not given): TIME and the named slots, or all of them. Exit status: 0; 1 if
- * the deck is refused, with the verdict and the faults on standard error; 2 for a bad call or a file that can't be read. */
+ * Prints a line for every EVERY-th time (1 if not given): TIME and the named slots, or all of them. Exit status: 0; 1
+ * if the deck is refused, with the verdict and the faults with their places on standard error; 2 for a bad call or a
+ * file that can't be read. */
 #include <ctype.h>
 #include <stdio.h>
 #include <stdlib.h>
@@ -62,11 +63,15 @@ static int is_whole(const char *word, long least, long *out) {
     return end != word && *end == '\0' && *out >= least;
 }
 
-static void print_refusal(floesedge_verdict v) {
-    fprintf(stderr, "verdict %u\n", (unsigned)v.number);
+static int two_bytes(const uint8_t *low) { return low[0] + 256 * low[1]; }
+
+/* Places as compilers write them, DECK:LINE:COLUMN, so that an editor can jump there. */
+static void print_refusal(const char *deck, floesedge_verdict v) {
+    fprintf(stderr, "%s: verdict %u\n", deck, (unsigned)v.number);
     for (uint32_t i = 0; i < v.count; i++) {
         const uint8_t *f = faults + i * FLOESEDGE_FAULT_BYTES;
-        fprintf(stderr, "line %d: fault %d\n", f[0] + 256 * f[1], f[2]);
+        int statement = two_bytes(f), line = two_bytes(f + 4), column = two_bytes(f + 6);
+        fprintf(stderr, "%s:%d:%d: fault %d, statement of line %d\n", deck, line, column, f[2], statement);
     }
 }
 
@@ -95,7 +100,7 @@ int main(int argc, char **argv) {
 
     floesedge_verdict v = floesedge_translate(text, text_len, faults, sizeof faults, program, sizeof program);
     if (v.number != FLOESEDGE_TRANSLATED) {
-        print_refusal(v);
+        print_refusal(argv[1], v);
         return 1;
     }
     size_t program_len = (size_t)v.count * FLOESEDGE_RECORD_BYTES;

@@ -1,6 +1,7 @@
 //! Procedural blocks: pairing, and what may stand inside.
 
-use crate::model::{Equation, Fault, Model, Sort};
+use crate::faults::Fault;
+use crate::model::{Equation, Model, Sort};
 use crate::names::Names;
 
 /// An unpaired header or end, or a header inside a pair.
@@ -68,10 +69,7 @@ pub fn pair(marks: &[Mark]) -> Result<Vec<Block>, Vec<Fault>> {
     }
     let mut faults = Vec::new();
     for (mark, _) in marks.iter().zip(faulty).filter(|(_, faulty)| *faulty) {
-        faults.push(Fault {
-            line: mark.line,
-            code: UNPAIRED,
-        });
+        faults.push(Fault::at_first(mark.line, UNPAIRED));
     }
     if faults.is_empty() {
         Ok(blocks)
@@ -93,11 +91,7 @@ pub fn judge(model: &mut Model, blocks: &[Block], names: &mut Names) -> Result<(
             good &= names.at(output).set_in == number;
         }
         if !good {
-            let fault = Fault {
-                line: block.line,
-                code: INSIDE,
-            };
-            faults.insert(place, fault);
+            faults.insert(place, Fault::at_first(block.line, INSIDE));
         }
     }
     if faults.is_empty() {
@@ -154,7 +148,7 @@ fn judge_inside(
         };
         let line = definition.line;
         if !good && faults.last().map(|fault| fault.line) != Some(line) {
-            faults.push(Fault { line, code: INSIDE });
+            faults.push(Fault::at_first(line, INSIDE));
         }
     }
 }

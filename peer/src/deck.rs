@@ -1,5 +1,7 @@
 //! Lines and statements.
 
+use crate::faults::{Spot, Wrong};
+
 /// The most lines a text may have.
 pub const MAX_LINES: usize = 512;
 /// The most lines one statement may have.
@@ -73,6 +75,15 @@ impl<'a> Lines<'a> {
         self.count
     }
 
+    /// The cards of the statement with this first line.
+    pub fn cards(&self, line: u32) -> Cards<'a, '_> {
+        Cards {
+            lines: self,
+            next: line as usize - 1,
+            continues: true,
+        }
+    }
+
     /// The statements of the text from the top.
     pub fn statements(&self) -> Statements<'a, '_> {
         Statements {
@@ -89,17 +100,62 @@ fn line_ends(word: u64) -> u64 {
     !(((word & LOW) + LOW) | word | LOW)
 }
 
+/// A line of a statement: its number, its text as it stands, and that without
+/// closing dots and trailing spaces.
+pub struct Card<'a> {
+    pub line: u32,
+    pub whole: &'a [u8],
+    pub part: &'a [u8],
+}
+
+/// Walks over the lines of one statement. Comments between and behind them are
+/// none of them.
+pub struct Cards<'a, 'b> {
+    lines: &'b Lines<'a>,
+    next: usize,
+    continues: bool,
+}
+
+impl<'a> Iterator for Cards<'a, '_> {
+    type Item = Card<'a>;
+
+    /// Passes over comments and takes one line, if the statement goes on.
+    #[inline(always)]
+    fn next(&mut self) -> Option<Card<'a>> {
+        while self.continues && self.next < self.lines.count {
+            let whole = self.lines.line(self.next);
+            self.next += 1;
+            if !is_comment(whole) {
+                let line = self.next as u32;
+                let part;
+                (part, self.continues) = without_dots(whole);
+                return Some(Card { line, whole, part });
+            }
+        }
+        None
+    }
+}
+
 /// One statement: its number, the texts of its lines without the closing dots,
-/// and the fault that its lines alone show. Comments between its lines are none
-/// of them.
+/// and the fault that its lines alone show.
 pub struct Statement<'a> {
     pub line: u32,
     parts: [&'a [u8]; STATEMENT_LINES],
     count: usize,
-    pub fault: Option<u8>,
+    fault: Option<u8>,
 }
 
 impl<'a> Statement<'a> {
+    /// What its lines alone show to be wrong.
+    pub fn wrong(&self) -> Option<Wrong> {
+        let code = self.fault?;
+        let spot = match code {
+            UNFINISHED => Spot::Last,
+            _ => Spot::First,
+        };
+        Some(Wrong { code, spot })
+    }
+
     /// The parts to be joined with a space; complete if there is no fault.
     pub fn parts(&self) -> &[&'a [u8]] {
         &self.parts[..self.count.min(STATEMENT_LINES)]
@@ -115,8 +171,8 @@ pub struct Statements<'a, 'b> {
 impl<'a> Iterator for Statements<'a, '_> {
     type Item = Statement<'a>;
 
-    /// Passes over comments and blanks and takes one whole run of lines, passing
-    /// over the comments among them and behind closing dots.
+    /// Passes over comments and blanks and takes one whole run of lines, with the
+    /// comments among them and behind closing dots.
     fn next(&mut self) -> Option<Statement<'a>> {
         while self.next < self.lines.count && is_passed_over(self.lines.line(self.next)) {
             self.next += 1;
@@ -132,22 +188,16 @@ impl<'a> Iterator for Statements<'a, '_> {
             fault: None,
         };
         let mut too_long = false;
-        let mut continues = true;
-        while continues && self.next < self.lines.count {
-            let line = self.lines.line(self.next);
-            self.next += 1;
-            if is_comment(line) {
-                continue;
-            }
-            too_long |= line.len() > LINE_BYTES;
-            let part;
-            (part, continues) = without_dots(line);
+        let mut cards = self.lines.cards(line);
+        for card in cards.by_ref() {
+            too_long |= card.whole.len() > LINE_BYTES;
             if let Some(place) = statement.parts.get_mut(statement.count) {
-                *place = part;
+                *place = card.part;
             }
             statement.count += 1;
         }
-        statement.fault = if continues {
+        self.next = cards.next;
+        statement.fault = if cards.continues {
             Some(UNFINISHED)
         } else if statement.count > STATEMENT_LINES {
             Some(TOO_MANY_LINES)
@@ -262,6 +312,24 @@ mod tests {
         ] {
             assert_eq!(read(text), open);
         }
+    }
+
+    #[test]
+    fn cards_have_their_own_lines() {
+        let lines = Lines::find(b"*\nA=1 ...  \n*2\n*\n  ...\n*\n\nB").unwrap();
+        let cards = |line| -> Vec<(u32, &[u8], &[u8])> {
+            let cards = lines.cards(line);
+            cards.map(|c| (c.line, c.whole, c.part)).collect()
+        };
+        assert_eq!(
+            cards(2),
+            [
+                (2, &b"A=1 ...  "[..], &b"A=1 "[..]),
+                (5, b"  ...", b"  "),
+                (7, b"", b""),
+            ]
+        );
+        assert_eq!(cards(8), [(8, &b"B"[..], &b"B"[..])]);
     }
 
     #[test]

@@ -2,6 +2,7 @@
 //! the model, its expression already in postfix.
 
 use crate::blocks::{Header, Mark};
+use crate::faults::{Spot, Wrong};
 use crate::model::{Definition, Equation, Model, Sort};
 use crate::program::{
     Item, ADD, COMPAR, DERIVATIVE, DIVIDE, INSW, LIMIT, MULTIPLY, NEGATE, STORE, SUBTRACT,
@@ -50,25 +51,27 @@ fn is_reserved(name: Name) -> bool {
         )
 }
 
-/// Reads one whole statement, its tokens closed by the end token, or gives
-/// the code of its fault. After a fault the model is of no use any more.
-pub fn read(tokens: &[Token], line: u32, model: &mut Model) -> Result<(), u8> {
+/// Reads one whole statement, its tokens closed by the end token, or tells
+/// what is wrong with it. After that the model is of no use any more.
+pub fn read(tokens: &[Token], line: u32, model: &mut Model) -> Result<(), Wrong> {
     let mut reader = Reader {
         tokens,
         at: 0,
         line,
         model,
     };
-    match reader.next() {
+    let read = match reader.next() {
         Token::Name(word::CONST | word::PARAM | word::INCON) => reader.constants(),
         Token::Name(word::PROCED) => reader.header(),
         Token::Name(word::ENDPRO) => reader.end(),
         Token::Name(name) if !is_reserved(name) => reader.equation(name),
         _ => Err(GRAMMAR),
-    }
+    };
+    read.map_err(|code| reader.wrong(code))
 }
 
-/// Reads tokens from the left.
+/// Reads tokens from the left. Where it gives a code, the token that it took
+/// last is the one at fault.
 struct Reader<'a> {
     tokens: &'a [Token],
     at: usize,
@@ -87,6 +90,16 @@ impl Reader<'_> {
         let token = self.peek();
         self.at += 1;
         token
+    }
+
+    /// What is wrong by a code, which the token taken last has given.
+    fn wrong(&self, code: u8) -> Wrong {
+        let index = self.at - 1;
+        let spot = match self.tokens.get(index) {
+            None | Some(Token::End) => Spot::Last,
+            Some(_) => Spot::Token(index as u16),
+        };
+        Wrong { code, spot }
     }
 
     /// Takes this token, and nothing else will do.
@@ -325,14 +338,31 @@ mod tests {
     use super::*;
     use crate::tokens::cut;
 
-    /// Reads one statement, giving the kinds of its items or the code.
-    fn kinds(text: &str) -> Result<Vec<u8>, u8> {
+    /// The tokens of a text that has no bad one.
+    fn tokens(text: &str) -> Vec<Token> {
         let mut tokens = Vec::new();
-        cut(text.as_bytes(), &mut tokens)?;
+        assert_eq!(cut(text.as_bytes(), &mut tokens), Ok(()));
+        tokens
+    }
+
+    /// Reads one statement, giving the kinds of its items or what is wrong.
+    fn kinds(text: &str) -> Result<Vec<u8>, Wrong> {
+        let mut tokens = tokens(text);
         tokens.push(Token::End);
         let mut model = Model::default();
         read(&tokens, 1, &mut model)?;
         Ok(model.items.iter().map(|item| item.kind).collect())
+    }
+
+    /// Reads one statement that has this fault where the sign `^` stands.
+    fn assert_wrong(marked: &str, code: u8) {
+        let (before, behind) = marked.split_once('^').unwrap();
+        let spot = match behind.trim() {
+            "" => Spot::Last,
+            _ => Spot::Token(tokens(before).len() as u16),
+        };
+        let text = format!("{before}{behind}");
+        assert_eq!(kinds(&text), Err(Wrong { code, spot }), "{marked}");
     }
 
     #[test]
@@ -348,101 +378,101 @@ mod tests {
 
     #[test]
     fn grammar_faults() {
-        for text in [
-            "",
-            "A",
-            "A=",
-            "A=+",
-            "A=1+",
-            "A=--1",
-            "A=1+-1",
-            "A=TIME*-2",
-            "TIME=1",
-            "INTGRL=1",
-            "A==1",
-            "A=1=2",
-            "A=1 2",
-            "A=()",
-            "A=(1",
-            "A=1)",
-            "A=B C",
-            "A=INSW(1,2)",
-            "A=INSW(1,2,3,4)",
-            "A=COMPAR(1)",
-            "A=COMPAR(1,2,3)",
-            "A=LIMIT 1",
-            "A=CONST",
-            "A=INTGRL",
-            "A=INTGRL(1)",
-            "A=INTGRL(1,2",
-            "A=INTGRL(1,2)+1",
-            "A=INTGRL(-B,2)",
-            "A=INTGRL(TIME,2)",
-            "A=INTGRL((1),2)",
-            "A=-INTGRL(1,2)",
-            "A=1+INTGRL(1,2)",
-            "CONST",
-            "CONST A",
-            "CONST A=",
-            "CONST A=B",
-            "CONST A=1,",
-            "CONST A=1 B=2",
-            "CONST TIME=1",
-            "CONST A=--1",
-            "CONST A=1+2",
-            "CONST=1",
-            "1=A",
-            "=",
-            "PROCED",
-            "PROCED A",
-            "PROCED A=",
-            "PROCED A=F",
-            "PROCED A=F(",
-            "PROCED A=F()",
-            "PROCED A=F(C",
-            "PROCED A=F(C,",
-            "PROCED A=F(C,)",
-            "PROCED A=F(C))",
-            "PROCED A=F(C)D",
-            "PROCED A=F(C) D",
-            "PROCED A=F(C),B",
-            "PROCED A=F(C D)",
-            "PROCED A=F(-C)",
-            "PROCED A=F(C+D)",
-            "PROCED A=F((C))",
-            "PROCED A=F(1)",
-            "PROCED A=F(TIME)",
-            "PROCED A=F(C,TIME)",
-            "PROCED A=F(ENDPRO)",
-            "PROCED A=(C)",
-            "PROCED A=F G(C)",
-            "PROCED A=F=G(C)",
-            "PROCED A=1(C)",
-            "PROCED A=TIME(C)",
-            "PROCED A=INSW(C)",
-            "PROCED A=PROCED(C)",
-            "PROCED =F(C)",
-            "PROCED F(C)",
-            "PROCED A,=F(C)",
-            "PROCED ,A=F(C)",
-            "PROCED A B=F(C)",
-            "PROCED A,B F(C)",
-            "PROCED TIME=F(C)",
-            "PROCED A,CONST=F(C)",
-            "PROCED=1",
-            "PROCED PROCED A=F(C)",
-            "ENDPRO A",
-            "ENDPRO 1",
-            "ENDPRO ENDPRO",
-            "ENDPRO=1",
-            "ENDPRO,",
-            "A=PROCED",
-            "A=ENDPRO+1",
-            "A=INTGRL(ENDPRO,1)",
-            "CONST PROCED=1",
-            "PARAM A=1,ENDPRO=1",
+        for marked in [
+            "^",
+            "A^",
+            "A=^",
+            "A=+^",
+            "A=1+^",
+            "A=-^-1",
+            "A=1+^-1",
+            "A=TIME*^-2",
+            "^TIME=1",
+            "^INTGRL=1",
+            "A=^=1",
+            "A=1^=2",
+            "A=1 ^2",
+            "A=(^)",
+            "A=(1^",
+            "A=1^)",
+            "A=B ^C",
+            "A=INSW(1,2^)",
+            "A=INSW(1,2,3^,4)",
+            "A=COMPAR(1^)",
+            "A=COMPAR(1,2^,3)",
+            "A=LIMIT ^1",
+            "A=^CONST",
+            "A=INTGRL^",
+            "A=INTGRL(1^)",
+            "A=INTGRL(1,2^",
+            "A=INTGRL(1,2)^+1",
+            "A=INTGRL(-^B,2)",
+            "A=INTGRL(^TIME,2)",
+            "A=INTGRL(^(1),2)",
+            "A=-^INTGRL(1,2)",
+            "A=1+^INTGRL(1,2)",
+            "CONST^",
+            "CONST A^",
+            "CONST A=^",
+            "CONST A=^B",
+            "CONST A=1,^",
+            "CONST A=1 ^B=2",
+            "CONST ^TIME=1",
+            "CONST A=-^-1",
+            "CONST A=1^+2",
+            "CONST^=1",
+            "^1=A",
+            "^=",
+            "PROCED^",
+            "PROCED A^",
+            "PROCED A=^",
+            "PROCED A=F^",
+            "PROCED A=F(^",
+            "PROCED A=F(^)",
+            "PROCED A=F(C^",
+            "PROCED A=F(C,^",
+            "PROCED A=F(C,^)",
+            "PROCED A=F(C)^)",
+            "PROCED A=F(C)^D",
+            "PROCED A=F(C) ^D",
+            "PROCED A=F(C)^,B",
+            "PROCED A=F(C ^D)",
+            "PROCED A=F(^-C)",
+            "PROCED A=F(C^+D)",
+            "PROCED A=F(^(C))",
+            "PROCED A=F(^1)",
+            "PROCED A=F(^TIME)",
+            "PROCED A=F(C,^TIME)",
+            "PROCED A=F(^ENDPRO)",
+            "PROCED A=^(C)",
+            "PROCED A=F ^G(C)",
+            "PROCED A=F^=G(C)",
+            "PROCED A=^1(C)",
+            "PROCED A=^TIME(C)",
+            "PROCED A=^INSW(C)",
+            "PROCED A=^PROCED(C)",
+            "PROCED ^=F(C)",
+            "PROCED F^(C)",
+            "PROCED A,^=F(C)",
+            "PROCED ^,A=F(C)",
+            "PROCED A ^B=F(C)",
+            "PROCED A,B ^F(C)",
+            "PROCED ^TIME=F(C)",
+            "PROCED A,^CONST=F(C)",
+            "PROCED^=1",
+            "PROCED ^PROCED A=F(C)",
+            "ENDPRO ^A",
+            "ENDPRO ^1",
+            "ENDPRO ^ENDPRO",
+            "ENDPRO^=1",
+            "ENDPRO^,",
+            "A=^PROCED",
+            "A=^ENDPRO+1",
+            "A=INTGRL(^ENDPRO,1)",
+            "CONST ^PROCED=1",
+            "PARAM A=1,^ENDPRO=1",
         ] {
-            assert_eq!(kinds(text), Err(GRAMMAR), "{text}");
+            assert_wrong(marked, GRAMMAR);
         }
     }
 
@@ -460,25 +490,31 @@ mod tests {
             assert_eq!(kinds(text), Ok(vec![]), "{text}");
         }
         // The header's parentheses are no level, nor is any inside them allowed.
-        assert_eq!(
-            kinds(&format!("PROCED A=F{}", "(".repeat(17))),
-            Err(GRAMMAR)
-        );
+        assert_wrong(&format!("PROCED A=F(^{}", "(".repeat(16)), GRAMMAR);
     }
 
     #[test]
     fn levels() {
-        let nested = |open: &str, n: usize, rest: &str| format!("A={}1{rest}", open.repeat(n));
-        assert!(kinds(&nested("(", 16, &")".repeat(16))).is_ok());
-        assert_eq!(kinds(&nested("(", 17, "")), Err(TOO_DEEP));
-        assert_eq!(kinds(&nested("COMPAR(", 17, "")), Err(TOO_DEEP));
-        assert_eq!(kinds(&nested("(", 16, "*INSW(")), Err(TOO_DEEP));
-        assert_eq!(kinds(&nested("(", 16, "*INSW)")), Err(GRAMMAR));
-        assert_eq!(kinds(&nested("(", 16, ")(((")), Err(GRAMMAR));
-        assert_eq!(kinds(&format!("A=({}", nested("", 0, ""))), Err(GRAMMAR));
+        let sixteen = format!("A={}", "(".repeat(16));
+        let calls = format!("A={}", "COMPAR(".repeat(16));
+        assert!(kinds(&format!("{sixteen}1{}", ")".repeat(16))).is_ok());
+        assert_wrong(&format!("{sixteen}^(1"), TOO_DEEP);
+        assert_wrong(&format!("{sixteen}-1*^(1"), TOO_DEEP);
+        assert_wrong(&format!("{calls}COMPAR^(1"), TOO_DEEP);
+        assert_wrong(&format!("{sixteen}1*INSW^("), TOO_DEEP);
+        assert_wrong(&format!("{sixteen}1*INSW^)"), GRAMMAR);
+        assert_wrong(&format!("{sixteen}1*INSW^"), GRAMMAR);
+        assert_wrong(&format!("{sixteen}1)^((("), GRAMMAR);
+        assert_wrong("A=(A^=1", GRAMMAR);
+        // Levels that are closed no longer count.
+        assert_wrong(&format!("{sixteen}1)*(1^("), GRAMMAR);
+        assert_wrong(&format!("{sixteen}1)*(^"), GRAMMAR);
+        assert_wrong(&format!("{sixteen}1)*(^)"), GRAMMAR);
+        assert_wrong(&format!("{sixteen}1)*(^="), GRAMMAR);
+        assert_wrong(&format!("{sixteen}1)*(1*^("), TOO_DEEP);
         let inside = format!("A=INTGRL(0,{}1{})", "(".repeat(16), ")".repeat(16));
         assert!(kinds(&inside).is_ok());
-        let inside = format!("A=INTGRL(0,{}1{})", "(".repeat(17), ")".repeat(17));
-        assert_eq!(kinds(&inside), Err(TOO_DEEP));
+        let deeper = format!("A=INTGRL(0,{}^(1)", "(".repeat(16));
+        assert_wrong(&deeper, TOO_DEEP);
     }
 }

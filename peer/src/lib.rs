@@ -10,6 +10,7 @@
 pub mod blocks;
 pub mod deck;
 pub mod evaluate;
+pub mod faults;
 pub mod grammar;
 pub mod listing;
 pub mod model;

@@ -2,16 +2,15 @@
 
 use std::io::Write;
 
-use crate::translate::translate_ordered;
+use crate::faults::FAULT;
+use crate::translate::{translate_ordered, FAULT_LIST};
 
-/// The bytes lent for the fault list.
-const FAULTS: usize = 1024;
 /// The bytes lent for the program.
 const PROGRAM: usize = 65_536;
 
 /// What the listing program prints for a text.
 pub fn listing(text: &[u8]) -> Vec<u8> {
-    let mut faults = vec![0; FAULTS];
+    let mut faults = vec![0; FAULT_LIST];
     let mut program = vec![0; PROGRAM];
     let (verdict, order) = translate_ordered(text, &mut faults, &mut program);
     let count = verdict.count as usize;
@@ -23,9 +22,10 @@ pub fn listing(text: &[u8]) -> Vec<u8> {
         }
     } else {
         print(&mut out, format_args!("NO {}", verdict.number));
-        for fault in faults.chunks_exact(4).take(count) {
-            let line = u16::from_le_bytes([fault[0], fault[1]]);
-            print(&mut out, format_args!("{line} {}", fault[2]));
+        for fault in faults.chunks_exact(FAULT).take(count) {
+            let pair = |at: usize| u16::from_le_bytes([fault[at], fault[at + 1]]);
+            let (line, code, place, column) = (pair(0), fault[2], pair(4), pair(6));
+            print(&mut out, format_args!("{line} {code} {place} {column}"));
         }
     }
     out

@@ -2,6 +2,7 @@
 //! in the whole text.
 
 use crate::blocks::{Block, Mark};
+use crate::faults::Fault;
 use crate::names::{slot, Names};
 use crate::program::{Item, STORE_AGAIN};
 use crate::tokens::Name;
@@ -17,13 +18,6 @@ pub const UNSORTABLE: u8 = 24;
 
 /// The most definitions that a model may have.
 pub const MAX_DEFINITIONS: usize = 255;
-
-/// A fault of the statement with this first line.
-#[derive(Clone, Copy, Debug, PartialEq)]
-pub struct Fault {
-    pub line: u32,
-    pub code: u8,
-}
 
 /// What a definition makes of its name.
 #[derive(Clone, Copy, Debug, PartialEq)]
@@ -173,7 +167,7 @@ impl Model {
         for &index in &self.later {
             let Definition { line, sort, .. } = self.definitions[index as usize];
             if sort != Sort::Again && faults.last().map(|fault| fault.line) != Some(line) {
-                faults.push(Fault { line, code: DOUBLE });
+                faults.push(Fault::at_first(line, DOUBLE));
             }
         }
         if faults.is_empty() {
@@ -193,10 +187,7 @@ impl Model {
                 None => self.resolve_single(unit.equations.0, names),
             };
             if let Some(code) = code {
-                faults.push(Fault {
-                    line: unit.line,
-                    code,
-                });
+                faults.push(Fault::at_first(unit.line, code));
             }
         }
         if faults.is_empty() {

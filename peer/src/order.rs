@@ -1,6 +1,7 @@
 //! The order of units: assignments and state statements outside, and blocks.
 
-use crate::model::{Fault, Model, Sort, Unit, UNSORTABLE};
+use crate::faults::Fault;
+use crate::model::{Model, Sort, Unit, UNSORTABLE};
 use crate::names::slot;
 
 /// A set of up to 256 units.
@@ -113,9 +114,6 @@ fn givers(model: &Model, units: &[Unit]) -> [u16; 256] {
 fn unsortable(units: &[Unit], nodes: &[Node]) -> Vec<Fault> {
     let stuck = units.iter().zip(nodes).filter(|(_, node)| node.waiting > 0);
     stuck
-        .map(|(unit, _)| Fault {
-            line: unit.line,
-            code: UNSORTABLE,
-        })
+        .map(|(unit, _)| Fault::at_first(unit.line, UNSORTABLE))
         .collect()
 }

@@ -79,11 +79,22 @@ fn class(byte: u8) -> Class {
     CLASSES[byte as usize]
 }
 
-/// Cuts one part of a statement into tokens, or gives the code of the first
-/// bad one. Parts are cut one by one, as no token crosses a line end.
-pub fn cut(part: &[u8], tokens: &mut Vec<Token>) -> Result<(), u8> {
+/// A bad token: its code, and how many bytes of its part stand before it.
+#[derive(Clone, Copy, Debug, PartialEq)]
+pub struct Bad {
+    pub code: u8,
+    pub before: u16,
+}
+
+/// Cuts one part of a statement into tokens, or gives the first bad one. Parts
+/// are cut one by one, as no token crosses a line end.
+pub fn cut(part: &[u8], tokens: &mut Vec<Token>) -> Result<(), Bad> {
     let mut rest = part;
     while let [first, behind @ ..] = rest {
+        let bad = |code| Bad {
+            code,
+            before: (part.len() - rest.len()) as u16,
+        };
         match class(*first) {
             Class::Space => rest = behind,
             Class::Mark => {
@@ -91,19 +102,49 @@ pub fn cut(part: &[u8], tokens: &mut Vec<Token>) -> Result<(), u8> {
                 rest = behind;
             }
             Class::Letter => {
-                let (name, behind) = cut_name(rest)?;
+                let (name, behind) = cut_name(rest).map_err(bad)?;
                 tokens.push(Token::Name(name));
                 rest = behind;
             }
             Class::Digit | Class::Point => {
-                let (value, behind) = cut_number(rest)?;
+                let (value, behind) = cut_number(rest).map_err(bad)?;
                 tokens.push(Token::Number(value));
                 rest = behind;
             }
-            Class::Bad => return Err(BAD_BYTE),
+            Class::Bad => return Err(bad(BAD_BYTE)),
         }
     }
     Ok(())
+}
+
+/// How many bytes stand before each token of a part that has no bad one.
+pub fn begins(part: &[u8]) -> impl Iterator<Item = usize> + '_ {
+    let mut next = 0;
+    std::iter::from_fn(move || {
+        while part.get(next) == Some(&b' ') {
+            next += 1;
+        }
+        let before = next;
+        next += length(&part[before..])?;
+        Some(before)
+    })
+}
+
+/// How many bytes the token in front has, if there is one.
+fn length(text: &[u8]) -> Option<usize> {
+    let in_name = |byte| matches!(class(byte), Class::Letter | Class::Digit);
+    let in_number = |byte| in_name(byte) || byte == b'.';
+    // The sign of an exponent is the only mark in a token with other bytes.
+    let is_sign = |last, byte| last == b'E' && matches!(byte, b'+' | b'-');
+    let mut pairs = text.windows(2);
+    let behind = match class(*text.first()?) {
+        Class::Letter => pairs.position(|pair| !in_name(pair[1])),
+        Class::Digit | Class::Point => {
+            pairs.position(|pair| !in_number(pair[1]) && !is_sign(pair[0], pair[1]))
+        }
+        _ => return Some(1),
+    };
+    Some(behind.map_or(text.len(), |last| last + 1))
 }
 
 /// Cuts the longest run of letters and digits.
@@ -200,8 +241,8 @@ fn scale(m: u64, k: i32) -> Result<f64, u8> {
 mod tests {
     use super::*;
 
-    /// Cuts a text, giving its tokens or the code.
-    fn cut_all(text: &str) -> Result<Vec<Token>, u8> {
+    /// Cuts a text, giving its tokens or the first bad one.
+    fn cut_all(text: &str) -> Result<Vec<Token>, Bad> {
         let mut tokens = Vec::new();
         cut(text.as_bytes(), &mut tokens).map(|()| tokens)
     }
@@ -219,6 +260,21 @@ mod tests {
             ]
         );
         assert_eq!(cut_all("  "), Ok(vec![]));
+    }
+
+    #[test]
+    fn beginnings() {
+        let all = |text: &str| begins(text.as_bytes()).collect::<Vec<_>>();
+        assert_eq!(all("AB2= 1.5E-1("), [0, 3, 5, 11]);
+        assert_eq!(all("  A  ,B "), [2, 5, 6]);
+        assert_eq!(all(""), []);
+        assert_eq!(all("   "), []);
+        // A sign behind an E belongs to a number, but not to a name.
+        assert_eq!(all("1E+5+1.E-2-.5E1"), [0, 4, 5, 10, 11]);
+        assert_eq!(all("E+1-ABE-2"), [0, 1, 2, 3, 4, 7, 8]);
+        // A point ends a name, and a number may begin with it.
+        assert_eq!(all("A.5"), [0, 1]);
+        assert_eq!(all("1.5(2)"), [0, 3, 4, 5]);
     }
 
     #[test]
@@ -244,35 +300,44 @@ mod tests {
 
     #[test]
     fn bad_tokens() {
-        for (text, code) in [
-            ("1..", 16),
-            (".", 16),
-            (".E5", 16),
-            ("1.2.3", 16),
-            ("2X", 16),
-            ("1E", 16),
-            ("1E+", 16),
-            ("1E+-2", 16),
-            ("1E100", 16),
-            ("1E5E", 16),
-            ("1E5.", 16),
-            ("1Ex", 16),
-            ("1000000000000000E99X", 16),
-            ("2x", 14),
-            ("1#", 14),
-            ("#", 14),
-            ("\t", 14),
-            ("1000000000000000", 17),
-            ("1.000000000000000", 17),
-            ("1E23", 17),
-            ("0E23", 17),
-            ("0.1E-22", 17),
-            ("1E-23", 17),
-            ("1E23+2X", 17),
-            ("ABCDEFG#", 15),
-            ("ABCDEF 1#", 14),
+        // The sign `^` stands before the bad token.
+        for (marked, code) in [
+            ("^1..", 16),
+            ("^.", 16),
+            ("^.E5", 16),
+            ("^1.2.3", 16),
+            ("^2X", 16),
+            ("^1E", 16),
+            ("^1E+", 16),
+            ("^1E+-2", 16),
+            ("^1E100", 16),
+            ("^1E5E", 16),
+            ("^1E5.", 16),
+            ("^1Ex", 16),
+            ("^1000000000000000E99X", 16),
+            ("A= 1+^2X+3", 16),
+            ("2^x", 14),
+            ("1^#", 14),
+            ("1E5^x", 14),
+            ("AB^a", 14),
+            ("^#", 14),
+            ("^\t", 14),
+            ("A=^##", 14),
+            ("^1000000000000000", 17),
+            ("^1.000000000000000", 17),
+            ("^1E23", 17),
+            ("^0E23", 17),
+            ("^0.1E-22", 17),
+            ("^1E-23", 17),
+            ("^1E23+2X", 17),
+            ("1  ^1E23", 17),
+            ("^ABCDEFG#", 15),
+            ("A=(^ABCDEFG+1", 15),
+            ("ABCDEF 1^#", 14),
         ] {
-            assert_eq!(cut_all(text), Err(code), "{text}");
+            let before = marked.find('^').unwrap() as u16;
+            let text = marked.replace('^', "");
+            assert_eq!(cut_all(&text), Err(Bad { code, before }), "{marked}");
         }
     }
 }

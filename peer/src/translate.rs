@@ -2,14 +2,15 @@
 
 use crate::blocks;
 use crate::deck::{Lines, Statement};
+use crate::faults::{Fault, Spot, Wrong, FAULT};
 use crate::grammar;
-use crate::model::{Fault, Model, Unit, MAX_DEFINITIONS};
+use crate::model::{Model, Unit, MAX_DEFINITIONS};
 use crate::order::order;
 use crate::program::{self, MAX_RECORDS, RECORD};
-use crate::tokens::{cut, Token};
+use crate::tokens::{cut, Bad, Token};
 
 /// The least length of a lent fault list.
-pub const FAULT_LIST: usize = 1024;
+pub const FAULT_LIST: usize = 2048;
 /// The most bytes of a text.
 pub const MAX_TEXT: usize = 16_384;
 /// The most statements of a text.
@@ -58,6 +59,14 @@ pub fn translate_ordered(
     }
 }
 
+/// The faults of a text, in line order; none unless it is refused with 5 or 7.
+pub fn faults(text: &[u8]) -> Vec<Fault> {
+    match judge(text, FAULT_LIST) {
+        Judged::Faulty(_, found) => found,
+        _ => Vec::new(),
+    }
+}
+
 /// What a text is before the room for its program is looked at.
 enum Judged {
     /// Refused by a number alone.
@@ -103,11 +112,8 @@ fn read_statements(lines: &Lines, model: &mut Model) -> Option<Vec<Fault>> {
         if index == MAX_STATEMENTS {
             return None;
         }
-        if let Err(code) = read_statement(&statement, &mut tokens, model) {
-            faults.push(Fault {
-                line: statement.line,
-                code,
-            });
+        if let Err(wrong) = read_statement(&statement, &mut tokens, model) {
+            faults.push(wrong.fault(lines, statement.line));
         }
     }
     Some(faults)
@@ -118,13 +124,16 @@ fn read_statement(
     statement: &Statement,
     tokens: &mut Vec<Token>,
     model: &mut Model,
-) -> Result<(), u8> {
-    if let Some(code) = statement.fault {
-        return Err(code);
+) -> Result<(), Wrong> {
+    if let Some(wrong) = statement.wrong() {
+        return Err(wrong);
     }
     tokens.clear();
-    for part in statement.parts() {
-        cut(part, tokens)?;
+    for (card, part) in (0..).zip(statement.parts()) {
+        cut(part, tokens).map_err(|Bad { code, before }| Wrong {
+            code,
+            spot: Spot::Bad { card, before },
+        })?;
     }
     tokens.push(Token::End);
     grammar::read(tokens, statement.line, model)
@@ -144,9 +153,8 @@ fn sorted(model: &mut Model) -> Result<Vec<Unit>, Vec<Fault>> {
 
 /// Writes the fault list; there are at most 256 faults.
 fn write_faults(number: u32, found: &[Fault], faults: &mut [u8]) -> Verdict {
-    for (place, fault) in faults.chunks_exact_mut(4).zip(found) {
-        let [low, high, ..] = fault.line.to_le_bytes();
-        place.copy_from_slice(&[low, high, fault.code, 0]);
+    for (place, fault) in faults.chunks_exact_mut(FAULT).zip(found) {
+        place.copy_from_slice(&fault.bytes());
     }
     Verdict {
         number,

@@ -498,8 +498,8 @@ fn every_setting_counts() {
 #[test]
 fn room() {
     let text = deck(&VALVE);
-    let (mut list, mut program) = (vec![7; 1024], vec![9; 27 * 16 - 1]);
+    let (mut list, mut program) = (vec![7; 2048], vec![9; 27 * 16 - 1]);
     let verdict = floesedge_peer::translate(text.as_bytes(), &mut list, &mut program);
     assert_eq!((verdict.number, verdict.count), (8, 0));
-    assert_eq!((list, program), (vec![7; 1024], vec![9; 27 * 16 - 1]));
+    assert_eq!((list, program), (vec![7; 2048], vec![9; 27 * 16 - 1]));
 }

@@ -132,7 +132,7 @@ fn records_of_a_program() {
 
 #[test]
 fn room() {
-    let mut faults = vec![7; 1024];
+    let mut faults = vec![7; 2048];
     for (room, number, count) in [(239, 8, 0), (240, 0, 15), (255, 0, 15), (0, 8, 0)] {
         let mut program = vec![9; room];
         let verdict = translate(TANK.as_bytes(), &mut faults, &mut program);
@@ -146,12 +146,12 @@ fn room() {
             count: 0
         }
     );
-    assert_eq!(faults, vec![7; 1024]);
+    assert_eq!(faults, vec![7; 2048]);
 }
 
 #[test]
 fn fault_list() {
-    for room in [0, 4, 1023] {
+    for room in [0, 8, 1024, 2047] {
         let mut faults = vec![7; room];
         let mut program = vec![9; 64];
         let verdict = translate(&[0; 20_000], &mut faults, &mut program);

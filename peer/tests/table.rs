@@ -192,9 +192,12 @@ fn dictionary_order() {
 fn listings() {
     assert_eq!(listing(TANK.as_bytes()), b"OK 15\n3\n5\n4\n");
     let bad = TANK.replace("Q=K*H", "Q=K*");
-    assert_eq!(listing(bad.as_bytes()), b"NO 5\n3 18\n");
+    assert_eq!(listing(bad.as_bytes()), b"NO 5\n3 18 3 4\n");
     assert_eq!(listing(b""), b"OK 0\n");
     assert_eq!(listing(&[b'\n'; 513]), b"NO 3\n");
-    assert_eq!(listing(b"A=B\nB=A\nD=A"), b"NO 7\n1 24\n2 24\n3 24\n");
-    assert_eq!(listing(b"A=3...\n*2"), b"NO 5\n1 11\n");
+    assert_eq!(
+        listing(b"A=B\nB=A\nD=A"),
+        b"NO 7\n1 24 1 1\n2 24 2 1\n3 24 3 1\n"
+    );
+    assert_eq!(listing(b"A=3...\n*2"), b"NO 5\n1 11 1 6\n");
 }

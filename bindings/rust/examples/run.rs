@@ -2,8 +2,9 @@
 //!
 //!     cargo run --example run -- DECK H STEPS [EVERY]
 //!
-//! Prints a line for every EVERY-th time (1 if not given): the value of each slot, TIME first, then the names of the deck
-//! in the order of their definitions. Exit status: 0; 1 if the deck is refused; 2 for a bad call.
+//! Prints a line for every EVERY-th time (1 if not given): the value of each slot, TIME first, then the names of the
+//! deck in the order of their definitions. Exit status: 0; 1 if the deck is refused, with each fault as
+//! DECK:LINE:COLUMN: and its words on standard error; 2 for a bad call.
 
 use std::process::ExitCode;
 
@@ -15,6 +16,7 @@ const INITIAL: u8 = 2;
 const STORE: u8 = 13;
 
 struct Call {
+    deck: String,
     text: Vec<u8>,
     h: f64,
     steps: u64,
@@ -27,6 +29,7 @@ fn call() -> Result<Call, String> {
         return Err("usage: run DECK H STEPS [EVERY]".to_string());
     }
     Ok(Call {
+        deck: words[0].clone(),
         text: std::fs::read(&words[0]).map_err(|e| format!("{}: {e}", words[0]))?,
         h: words[1].parse().map_err(|_| "H is a number".to_string())?,
         steps: words[2].parse().map_err(|_| "STEPS is a whole number".to_string())?,
@@ -59,9 +62,9 @@ fn main() -> ExitCode {
     let mut program = vec![0; PROGRAM_ROOM];
     let verdict = translate(&call.text, &mut faults, &mut program);
     let Verdict::Translated { records } = verdict else {
-        eprintln!("{verdict}");
+        eprintln!("{}: {verdict}", call.deck);
         for fault in faults_of(verdict, &faults) {
-            eprintln!("{fault}");
+            eprintln!("{}:{fault}", call.deck);
         }
         return ExitCode::FAILURE;
     };

@@ -18,13 +18,27 @@
 //! assert_eq!(step(program, 0.25, &mut values, &mut derivs), Answer::Done);
 //! assert_eq!(values[..2], [0.25, 0.75]); // TIME and X
 //! ```
+//!
+//! A text that can't be translated has its faults in the list, each with its place:
+//!
+//! ```
+//! use floesedge::{faults_of, translate, Verdict, FAULT_ROOM};
+//!
+//! let mut faults = [0; FAULT_ROOM];
+//! let verdict = translate(b"Q=K*\n", &mut faults, &mut []);
+//! assert_eq!(verdict, Verdict::StatementFaults { faults: 1 });
+//!
+//! let fault = faults_of(verdict, &faults).next().unwrap();
+//! assert_eq!((fault.line, fault.place_line, fault.column), (1, 1, 4));
+//! assert_eq!(fault.to_string(), "1:4: 18, the grammar: no statement goes on like this");
+//! ```
 
 pub mod raw;
 
 use std::fmt;
 
 /// Bytes to lend for the fault list; fewer is verdict 1.
-pub const FAULT_ROOM: usize = 1024;
+pub const FAULT_ROOM: usize = MOST_STATEMENTS * FAULT_BYTES;
 /// Bytes that hold every program.
 pub const PROGRAM_ROOM: usize = MOST_RECORDS * RECORD_BYTES;
 /// Places to lend in values and in derivatives; fewer is answer 1.
@@ -32,7 +46,7 @@ pub const SLOTS: usize = 256;
 /// Bytes of a record.
 pub const RECORD_BYTES: usize = 16;
 /// Bytes of a fault.
-pub const FAULT_BYTES: usize = 4;
+pub const FAULT_BYTES: usize = 8;
 /// Most bytes of a text.
 pub const MOST_TEXT_BYTES: usize = 16_384;
 /// Most lines of a text.
@@ -98,7 +112,7 @@ impl fmt::Display for Verdict {
         write!(f, "verdict {}: ", self.number())?;
         match self {
             Verdict::Translated { records } => write!(f, "translated, {records} records"),
-            Verdict::FaultListShort => f.write_str("the fault list lent has fewer than 1024 bytes"),
+            Verdict::FaultListShort => f.write_str("the fault list lent has fewer than 2048 bytes"),
             Verdict::TextTooLong => f.write_str("the text has more than 16384 bytes"),
             Verdict::TooManyLines => f.write_str("the text has more than 512 lines"),
             Verdict::TooManyStatements => f.write_str("the text has more than 256 statements"),
@@ -182,16 +196,35 @@ impl fmt::Display for Code {
     }
 }
 
-/// A fault: the first line of its statement, from 1, and its code.
+/// A fault of a statement, with its place. Lines and columns count from 1, and columns count bytes.
+///
+/// The place is the first byte of the token at fault, for [`Code::BadByte`] that byte itself, for [`Code::TooDeep`] the
+/// parenthesis. For [`Code::OpenEnd`], and for [`Code::Grammar`] where the statement ends too early, it is the last
+/// byte of the statement's last line, its dots and spaces included, or column 1 if that line is empty; a comment is no
+/// line of the statement. For [`Code::TooManyCards`], [`Code::LineTooLong`] and the model faults it is the statement's
+/// first byte: its first line, column 1, space or not.
 #[derive(Clone, Copy, Debug, PartialEq, Eq)]
 pub struct Fault {
+    /// The first line of the statement.
     pub line: u16,
     pub code: Code,
+    /// The byte behind the code, which is 0.
+    pub zero: u8,
+    /// The line of the place.
+    pub place_line: u16,
+    /// The column of the place.
+    pub column: u16,
 }
 
+/// `LINE:COLUMN: CODE, words`, by the place, as compilers write it; put the name of a file and a colon in front. The
+/// statement is named if it begins in another line.
 impl fmt::Display for Fault {
     fn fmt(&self, f: &mut fmt::Formatter<'_>) -> fmt::Result {
-        write!(f, "line {}: {}", self.line, self.code)
+        write!(f, "{}:{}: {}", self.place_line, self.column, self.code)?;
+        if self.place_line != self.line {
+            write!(f, " (statement of line {})", self.line)?;
+        }
+        Ok(())
     }
 }
 
@@ -205,6 +238,9 @@ pub fn faults_of(verdict: Verdict, list: &[u8]) -> impl Iterator<Item = Fault> +
         Some(Fault {
             line: u16::from_le_bytes([fault[0], fault[1]]),
             code: Code::from_number(fault[2])?,
+            zero: fault[3],
+            place_line: u16::from_le_bytes([fault[4], fault[5]]),
+            column: u16::from_le_bytes([fault[6], fault[7]]),
         })
     })
 }

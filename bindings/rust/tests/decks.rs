@@ -19,7 +19,7 @@ fn unit_line(text: &[u8], line: usize) -> usize {
     nearest.filter(|at| begins(at, b"PROCED")).unwrap_or(line)
 }
 
-/// OK, the record count and the first lines of the units in order; or NO, the number, and line and code of each fault.
+/// OK, the record count and the first lines of the units in order; or NO, the number, and four numbers for each fault.
 fn listing(text: &[u8]) -> String {
     let mut faults = [0; FAULT_ROOM];
     let mut program = vec![0; PROGRAM_ROOM];
@@ -40,7 +40,8 @@ fn listing(text: &[u8]) -> String {
         order.iter().for_each(|line| out += &format!("{line}\n"));
     }
     for fault in faults_of(verdict, &faults) {
-        out += &format!("{} {}\n", fault.line, fault.code as u8);
+        let (line, code, place_line, column) = (fault.line, fault.code as u8, fault.place_line, fault.column);
+        out += &format!("{line} {code} {place_line} {column}\n");
     }
     out
 }

@@ -1,27 +1,32 @@
-//! Each verdict, each fault code and each answer, worked out by hand. What a refusal may not write to is looked at.
+//! Each verdict, each fault code with its places, and each answer, worked out by hand. What a refusal may not write to
+//! is looked at.
 
-use floesedge::{evaluate, faults_of, start, step, translate, Answer, Code, Verdict};
-use floesedge::{FAULT_ROOM, MOST_RECORDS, PROGRAM_ROOM, RECORD_BYTES, SLOTS};
+use floesedge::{evaluate, faults_of, start, step, translate, Answer, Code, Fault, Verdict};
+use floesedge::{FAULT_BYTES, FAULT_ROOM, MOST_RECORDS, PROGRAM_ROOM, RECORD_BYTES, SLOTS};
 
 const LENT: u8 = 0xAA;
 
+/// A fault as the listing has it: line, code, line of the place, column.
+type Listed = (u16, u8, u16, u16);
+
 /// The verdict and the faults as numbers, with both buffers held to what the verdict may write.
-fn translated(text: &[u8]) -> (Verdict, Vec<(u16, u8)>) {
+fn translated(text: &[u8]) -> (Verdict, Vec<Listed>) {
     let mut faults = [LENT; FAULT_ROOM];
     let mut program = vec![LENT; PROGRAM_ROOM];
     let verdict = translate(text, &mut faults, &mut program);
     let written = match verdict {
         Verdict::Translated { .. } => 0,
-        _ => 4 * verdict.count(),
+        _ => FAULT_BYTES * verdict.count(),
     };
     assert!(faults[written..].iter().all(|b| *b == LENT));
     if verdict.number() != 0 {
         assert!(program.iter().all(|b| *b == LENT));
     }
-    (
-        verdict,
-        faults_of(verdict, &faults).map(|f| (f.line, f.code as u8)).collect(),
-    )
+    let listed = |fault: Fault| {
+        assert_eq!(fault.zero, 0);
+        (fault.line, fault.code as u8, fault.place_line, fault.column)
+    };
+    (verdict, faults_of(verdict, &faults).map(listed).collect())
 }
 
 fn repeated(line: &str, times: usize) -> Vec<u8> {
@@ -40,12 +45,18 @@ fn sizes() {
     // 4 comes before 5: the statements are faulty, each
     let (verdict, faults) = translated(&repeated("=\n", 256));
     assert_eq!(verdict, Verdict::StatementFaults { faults: 256 });
-    assert!(faults.iter().zip(1..).all(|(fault, line)| *fault == (line, 18)));
+    assert!(faults
+        .iter()
+        .zip(1..)
+        .all(|(fault, line)| *fault == (line, 18, line, 1)));
     assert_eq!(translated(&repeated("=\n", 257)).0, Verdict::TooManyStatements);
     // 6 comes before 7: the definitions are doubles
     let (verdict, faults) = translated(&repeated("A=1\n", 255));
     assert_eq!(verdict, Verdict::ModelFaults { faults: 254 });
-    assert!(faults.iter().zip(2..).all(|(fault, line)| *fault == (line, 21)));
+    assert!(faults
+        .iter()
+        .zip(2..)
+        .all(|(fault, line)| *fault == (line, 21, line, 1)));
     assert_eq!(translated(&repeated("A=1\n", 256)).0, Verdict::TooManyDefinitions);
     // 8: A=1+1+..+1 with 66 ones writes 66 + 65 + 1 = 132 records; 32 such statements are 4,224
     let long = |n: usize| {
@@ -59,6 +70,7 @@ fn sizes() {
 
 #[test]
 fn fault_list_comes_first() {
+    assert_eq!(FAULT_ROOM, 2048);
     let (mut faults, mut program) = ([LENT; FAULT_ROOM], [LENT; 64]);
     for text in [&b"A=1\n"[..], b"A=", &repeated("*", 16_385)] {
         assert_eq!(translate(text, &mut faults[1..], &mut program), Verdict::FaultListShort);
@@ -69,28 +81,26 @@ fn fault_list_comes_first() {
 #[test]
 fn faults() {
     let level = |n: usize| format!("A={}1{}", "(".repeat(n), ")".repeat(n));
-    let cases: Vec<(String, Vec<(u16, u8)>)> = vec![
-        ("A=1...".into(), vec![(1, 11)]),
-        ("A=3...\n*2".into(), vec![(1, 11)]),
-        ("A=1...\n+1...\n+1...\n+1...\n+1\nB=1".into(), vec![(1, 12)]),
-        (format!("A=1{}", " ".repeat(70)), vec![(1, 13)]),
-        ("A=1;B=2\na=1".into(), vec![(1, 14), (2, 14)]),
-        ("ABCDEFG=1".into(), vec![(1, 15)]),
-        ("A=2X\nB=1E\nC=1E100".into(), vec![(1, 16), (2, 16), (3, 16)]),
+    statement_faults(&[
+        ("A=1...", &[(1, 11, 1, 6)]),
+        ("A=1...\n+1...\n+1...\n+1...\n+1\nB=1", &[(1, 12, 1, 1)]),
+        (&format!("A=1{}", " ".repeat(70)), &[(1, 13, 1, 1)]),
+        ("A=1;B=2\na=1", &[(1, 14, 1, 4), (2, 14, 2, 1)]),
+        ("ABCDEFG=1", &[(1, 15, 1, 1)]),
+        ("A=2X\nB=1E\nC=1E100", &[(1, 16, 1, 3), (2, 16, 2, 3), (3, 16, 3, 3)]),
         (
-            "A=1E23\nB=0.1E-22\nC=1.000000000000000".into(),
-            vec![(1, 17), (2, 17), (3, 17)],
+            "A=1E23\nB=0.1E-22\nC=1.000000000000000",
+            &[(1, 17, 1, 3), (2, 17, 2, 3), (3, 17, 3, 3)],
         ),
-        ("Q=K*\nA=TIME*-2\nTIME=1".into(), vec![(1, 18), (2, 18), (3, 18)]),
-        (level(17), vec![(1, 19)]),
-    ];
-    for (text, wanted) in cases {
-        let (verdict, faults) = translated(text.as_bytes());
-        assert_eq!(verdict, Verdict::StatementFaults { faults: wanted.len() }, "{text}");
-        assert_eq!(faults, wanted, "{text}");
-    }
+        (
+            "Q=K*\nA=TIME*-2\nTIME=1",
+            &[(1, 18, 1, 4), (2, 18, 2, 8), (3, 18, 3, 1)],
+        ),
+        (&level(17), &[(1, 19, 1, 19)]),
+    ]);
     assert_eq!(translated(level(16).as_bytes()).0, Verdict::Translated { records: 2 });
 
+    // the place of each is the statement's first byte
     let cases: Vec<(&str, Vec<(u16, u8)>)> = vec![
         ("CONST A=1,A=2", vec![(1, 21)]),
         ("A=1\nB=C\nA=2", vec![(3, 21)]),
@@ -103,13 +113,83 @@ fn faults() {
         ("PROCED Q=V(U)\nQ=U\nENDPRO\nU=Q", vec![(1, 24), (4, 24)]),
         ("PROCED Q=V(U)\nQ=U\nU=1", vec![(1, 25)]),
         ("U=1\nPROCED Q=V(U)\nT=U\nENDPRO", vec![(2, 26)]),
-        ("U=1\nPROCED Q=V(U)\nQ=Q+U\nENDPRO", vec![(3, 26)]),
+        ("U=1\nPROCED Q=V(U)\n Q=...\n Q+U\nENDPRO", vec![(3, 26)]),
     ];
     for (text, wanted) in cases {
         let (verdict, faults) = translated(text.as_bytes());
+        let wanted: Vec<Listed> = wanted.into_iter().map(|(line, code)| (line, code, line, 1)).collect();
         assert_eq!(verdict, Verdict::ModelFaults { faults: wanted.len() }, "{text}");
         assert_eq!(faults, wanted, "{text}");
     }
+}
+
+fn statement_faults(cases: &[(&str, &[Listed])]) {
+    for (text, wanted) in cases {
+        let (verdict, faults) = translated(text.as_bytes());
+        assert_eq!(verdict, Verdict::StatementFaults { faults: wanted.len() }, "{text}");
+        assert_eq!(faults, *wanted, "{text}");
+    }
+}
+
+#[test]
+fn places() {
+    let deep = "(".repeat(16);
+    statement_faults(&[
+        // 11: the last byte of the last card, spaces behind the dots included, and not of a comment
+        ("A=3...\n*2", &[(1, 11, 1, 6)]),
+        ("A=3...  \n* C\n*\n", &[(1, 11, 1, 8)]),
+        ("A=1...\n* C\n +2 ...\n", &[(1, 11, 3, 7)]),
+        // columns count bytes, of which this letter has two
+        ("A=\u{b5}...", &[(1, 11, 1, 7)]),
+        // 12 and 13: the first byte, also if it is a space; the long line is the second
+        ("  A=1...\n+1...\n+1...\n+1...\n+1", &[(1, 12, 1, 1)]),
+        (&format!("\n  A=1...\n+1{}", " ".repeat(71)), &[(2, 13, 2, 1)]),
+        // 14 to 17: the token, on the card where it stands
+        ("A=1...\n* C\n  +B_1", &[(1, 14, 3, 5)]),
+        ("A=1...\n* C\n  +ABCDEFG", &[(1, 15, 3, 4)]),
+        ("A=1...\n +.5.5", &[(1, 16, 2, 3)]),
+        ("A=1+...\n1E23", &[(1, 17, 2, 1)]),
+        // 18: the token, or at an early end the last byte of the last card
+        ("A=(1...\n * *2)", &[(1, 18, 2, 4)]),
+        ("A=(1,2)", &[(1, 18, 1, 5)]),
+        ("B=(1  ", &[(1, 18, 1, 6)]),
+        ("A=1+...\n* C\n\nB=1", &[(1, 18, 3, 1)]),
+        ("A=INSW(1,...\n  2 ", &[(1, 18, 2, 4)]),
+        // 18: no tokens
+        ("...\n   ", &[(1, 18, 2, 3)]),
+        ("  ...\n\n", &[(1, 18, 2, 1)]),
+        // 19: the parenthesis, of a call too
+        (&format!("A={deep}INSW(1"), &[(1, 19, 1, 23)]),
+        (&format!("A={deep}...\n* C\n  INSW ("), &[(1, 19, 3, 8)]),
+    ]);
+}
+
+#[test]
+fn fault_bytes() {
+    let list = [44, 1, 18, 0, 46, 1, 72, 0, 0, 2, 13, 0, 0, 2, 1, 0];
+    let faults: Vec<Fault> = faults_of(Verdict::StatementFaults { faults: 2 }, &list).collect();
+    let fault = |line, code, place_line, column| Fault {
+        line,
+        code,
+        zero: 0,
+        place_line,
+        column,
+    };
+    assert_eq!(
+        faults,
+        [
+            fault(300, Code::Grammar, 302, 72),
+            fault(512, Code::LineTooLong, 512, 1)
+        ]
+    );
+    assert_eq!(
+        faults[0].to_string(),
+        "302:72: 18, the grammar: no statement goes on like this (statement of line 300)"
+    );
+    assert_eq!(
+        faults[1].to_string(),
+        "512:1: 13, a line of the statement, comments aside, has more than 72 bytes"
+    );
 }
 
 /// A record of a kind and a slot; line and value are 0.

@@ -120,7 +120,7 @@ pub room-is : {t : Bool} (m n : ℕ) → t ≡ leb m n → t ≡ true → m ≤ 
 room-is m n e h = leb-true m n (sym e ∙ h)
 
 -- the lowest m bytes and then n of the rest
-low-append : (m n v : ℕ) → lowBytes (m + n) v ≡ lowBytes m v ++ lowBytes n (v / 256 ^ m)
+pub low-append : (m n v : ℕ) → lowBytes (m + n) v ≡ lowBytes m v ++ lowBytes n (v / 256 ^ m)
 unfolding lowBytes
 low-append zero n v = rw (zero-add, div-one)
 low-append (suc m) n v =

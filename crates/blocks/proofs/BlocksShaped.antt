@@ -17,8 +17,8 @@ use Rattle.sheet.specs.Sheet.{Numbered, Fault}
 use Rattle.blocks.specs.Tests.{faultIf, orElse}
 use Rattle.blocks.specs.Pairing.{Bracket, opens, shuts, neither, bracketOf, brackets, Pair, pairOf, pairsFrom}
 use Rattle.blocks.specs.Pairing.{pairs, heads, tails, nested, unpaired, faults25From, faults25}
-use Rattle.blocks.specs.Inside.{freeKnown, setInside, headWrong, innerRight, Spot, outer, enclosed, fault26}
-use Rattle.blocks.specs.Inside.{spotNext, faults26From, faults26, blockFaults}
+use Rattle.blocks.specs.Inside.{freeKnown, setInside, headWrong, innerRight, Standing, outer, enclosed, fault26}
+use Rattle.blocks.specs.Inside.{standingNext, faults26From, faults26, blockFaults}
 use Rattle.blocks.specs.Places.{insideNext}
 use Rattle.blocks.proofs.PairPlaces.{tails-from}
 
@@ -180,7 +180,7 @@ Shaped false [] = Unit {0}
 Shaped true [] = ⊥
 Shaped inside (s ∷ ss) = Stands inside (s .says) × Shaped (insideNext inside (bracketOf (s .says))) ss
 
-abbrev insideOf : Spot → Bool
+abbrev insideOf : Standing → Bool
 insideOf outer = false
 insideOf (enclosed is above) = true
 
@@ -188,11 +188,11 @@ insideOf (enclosed is above) = true
 not-none : {A : Type 0} (l : ℕ) (fs : List Fault) → faultIf true l 26 ++ fs ≡ [] → A
 not-none l fs e = absurd (not-both refl (no-fault true l 26 (none-left (faultIf true l 26) fs e .0)))
 
--- a statement s that says x, and those behind it, if these are known from each spot
-shaped-step : (free ks : List ℕ) (p : Spot) (s : Numbered) (x : Says) (ss : List Numbered)
-    → ((q : Spot) → InTurn (insideOf q) (brackets ss) → faults26From free q ss ≡ [] → Shaped (insideOf q) ss)
+-- a statement s that says x, and those behind it, if these are known from each standing
+shaped-step : (free ks : List ℕ) (p : Standing) (s : Numbered) (x : Says) (ss : List Numbered)
+    → ((q : Standing) → InTurn (insideOf q) (brackets ss) → faults26From free q ss ≡ [] → Shaped (insideOf q) ss)
     → InTurn (insideOf p) (bracketOf x ∷ brackets ss)
-    → s .says ≡ x → fault26 free ks p s x ++ faults26From free (spotNext p x) ss ≡ []
+    → s .says ≡ x → fault26 free ks p s x ++ faults26From free (standingNext p x) ss ≡ []
     → Stands (insideOf p) x × Shaped (insideNext (insideOf p) (bracketOf x)) ss
 shaped-step free ks outer s (constants cs) ss rest t q e = (tt, rest outer t e)
 shaped-step free ks outer s (assignment k a) ss rest t q e = (tt, rest outer t e)
@@ -214,7 +214,7 @@ shaped-step free ks (enclosed is above) s (state k i a) ss rest t q e =
 shaped-step free ks (enclosed is above) s (header os js) ss rest t q e = absurd t
 shaped-step free ks (enclosed is above) s ending ss rest t q e = (tt, rest outer t e)
 
-shaped-from : (free : List ℕ) (p : Spot) (ss : List Numbered) → InTurn (insideOf p) (brackets ss)
+shaped-from : (free : List ℕ) (p : Standing) (ss : List Numbered) → InTurn (insideOf p) (brackets ss)
     → faults26From free p ss ≡ [] → Shaped (insideOf p) ss
 unfolding faults26From
 shaped-from free outer [] t e = tt

@@ -12,7 +12,7 @@ use Rattle.laws.specs.Lists.{concat-map}
 use Rattle.laws.specs.Places.{gather}
 use Rattle.laws.proofs.Sets.{sets-append}
 use Rattle.laws.proofs.Gathers.{gather-step, gather-done}
-use Rattle.sheet.specs.Sheet.{Fault, entryOf, faultEntry, faultList}
+use Rattle.sheet.specs.Sheet.{Fault, faultAtFirst, entryOf, faultEntry, faultList}
 use Rattle.sheet.proofs.Entries.{list-length, list-append}
 use Rattle.blocks.specs.Tests.{faultIf}
 use Rattle.blocks.specs.Working.{Reported}
@@ -23,10 +23,11 @@ if-length false line code = omega arith
 
 -- a fault that is written, and none
 pub fault-put : (line code c : ℕ) {stands : Bool} {list list′ : List ℕ} → stands ≡ true
-    → list′ ≡ sets list (faultBytes * c) (entryOf line code) → Reported (faultIf stands line code) c (c + 1) list list′
+    → list′ ≡ sets list (faultBytes * c) (entryOf (faultAtFirst line code))
+    → Reported (faultIf stands line code) c (c + 1) list list′
 unfolding faultList faultEntry concat-map
 fault-put line code c {stands} {list} {list′} t e =
-    let one = ap (sets list (faultBytes * c)) (sym (append-nil (entryOf line code))) in
+    let one = ap (sets list (faultBytes * c)) (sym (append-nil (entryOf (faultAtFirst line code)))) in
     rw t (record { behind = refl; written = e ∙ one })
 
 pub fault-none : (line code c : ℕ) (stands : Bool) (list : List ℕ) → stands ≡ false

@@ -18,7 +18,7 @@ use Rattle.blocks.specs.Tests.{faultIf}
 use Rattle.blocks.specs.Pairing.{Bracket, opens, shuts, neither}
 use Rattle.blocks.specs.InsidePlaces.{keyAt, keysAt, isSetting, setAbove, setBelow, headWrongAt, rightAt}
 use Rattle.blocks.specs.Places.{bracketAt}
-use Rattle.blocks.specs.InsidePlaces.{wrongAt, spotBehind, spotAt, fault26At}
+use Rattle.blocks.specs.InsidePlaces.{wrongAt, standingBehind, standingAt, fault26At}
 use Rattle.blocks.specs.InsideWorking.{outsideAt, badOutputAt, allowedAt}
 use Rattle.blocks.proofs.NamesPlaced.{within-places, header-places}
 use Rattle.blocks.proofs.FaultsListed.{if-length}
@@ -129,31 +129,31 @@ module _ (free bounds kinds args : List ℕ) (c j : ℕ) where
       (ends bounds j - begins bounds j) (begins bounds j)))
 
 -- ---- where statements stand
-pub spot-low : (bounds kinds : List ℕ) (j : ℕ) → spotAt bounds kinds j ≤ j
-unfolding spotAt
-spot-low bounds kinds zero = omega arith
-spot-low bounds kinds (suc j) = go (bracketAt bounds kinds j) (spot-low bounds kinds j)
+pub standing-low : (bounds kinds : List ℕ) (j : ℕ) → standingAt bounds kinds j ≤ j
+unfolding standingAt
+standing-low bounds kinds zero = omega arith
+standing-low bounds kinds (suc j) = go (bracketAt bounds kinds j) (standing-low bounds kinds j)
   where
-    go : (b : Bracket) → spotAt bounds kinds j ≤ j → spotBehind b j (spotAt bounds kinds j) ≤ suc j
+    go : (b : Bracket) → standingAt bounds kinds j ≤ j → standingBehind b j (standingAt bounds kinds j) ≤ suc j
     go opens h = omega arith
     go shuts h = omega arith
     go neither h = omega arith
 
-pub spot-next : (bounds kinds : List ℕ) (j : ℕ) {c r : ℕ} → c ≡ spotAt bounds kinds j
-    → r ≡ spotBehind (bracketAt bounds kinds j) j c → r ≡ spotAt bounds kinds (j + 1)
-unfolding spotAt
-spot-next bounds kinds j p q = rw (add-one j) (q ∙ ap (spotBehind (bracketAt bounds kinds j) j) p)
+pub standing-next : (bounds kinds : List ℕ) (j : ℕ) {c r : ℕ} → c ≡ standingAt bounds kinds j
+    → r ≡ standingBehind (bracketAt bounds kinds j) j c → r ≡ standingAt bounds kinds (j + 1)
+unfolding standingAt
+standing-next bounds kinds j p q = rw (add-one j) (q ∙ ap (standingBehind (bracketAt bounds kinds j) j) p)
 
 -- ---- 26 at a statement stands once
 pub wrong-single : (n : ℕ) (free lines bounds kinds args : List ℕ) (j : ℕ)
     → length (fault26At n free lines bounds kinds args j) ≤ 1
 wrong-single n free lines bounds kinds args j =
-    if-length (wrongAt n free bounds kinds args (bracketAt bounds kinds j) (spotAt bounds kinds j) j)
+    if-length (wrongAt n free bounds kinds args (bracketAt bounds kinds j) (standingAt bounds kinds j) j)
     (getD lines j 0) 26
 
 -- as it was found
 pub wrong-found : (n : ℕ) (free lines bounds kinds args : List ℕ) (j : ℕ) {c line : ℕ} {r : Bool}
-    → c ≡ spotAt bounds kinds j → r ≡ wrongAt n free bounds kinds args (bracketAt bounds kinds j) c j
+    → c ≡ standingAt bounds kinds j → r ≡ wrongAt n free bounds kinds args (bracketAt bounds kinds j) c j
     → line ≡ getD lines j 0 → faultIf r line 26 ≡ fault26At n free lines bounds kinds args j
 wrong-found n free lines bounds kinds args j p q l =
     ap₂ (λ b m. faultIf b m 26) (q ∙ ap (λ (m : ℕ). wrongAt n free bounds kinds args

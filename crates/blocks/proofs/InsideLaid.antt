@@ -21,7 +21,7 @@ use Rattle.blocks.specs.Inside.{freeSaid, freeKnown, setBy, setNext, set
 use Rattle.blocks.specs.Units.{Inner}
 use Rattle.blocks.specs.Members.{Pending, idle, partly, keysInside, innerOf, pendingBy}
 use Rattle.blocks.specs.Places.{bracketAt}
-use Rattle.blocks.specs.InsidePlaces.{spotBehind, spotAt, keyAt, keysAt, setAt, setAbove, unlessShut}
+use Rattle.blocks.specs.InsidePlaces.{standingBehind, standingAt, keyAt, keysAt, setAt, setAbove, unlessShut}
 use Rattle.blocks.specs.InsidePlaces.{setBelow, isFree, freeArgs}
 use Rattle.blocks.proofs.DraftsWalk.{kind-at, arg-at, in-part}
 use Rattle.blocks.proofs.SheetBrackets.{draftsBy, bounds-starts, bracket-laid}
@@ -63,7 +63,7 @@ pub record Enclosing (a : List Numbered) (c : ℕ) (os is ks : List ℕ) : Type 
   pub head : Numbered
   pub inside : List Numbered
   pub split : a ≡ before ++ head ∷ inside
-  pub spot : c ≡ suc (length before)
+  pub standing : c ≡ suc (length before)
   pub heads : head .says ≡ header os is
   pub names : concat-map settingBy inside ≡ ks
 
@@ -81,7 +81,7 @@ enclosing-more {a} s ms e v =
       head = v .head;
       inside = v .inside ++ (s ∷ []);
       split = ap (λ r. r ++ (s ∷ [])) (v .split) ∙ append-assoc (v .before) (v .head ∷ v .inside) (s ∷ []);
-      spot = v .spot;
+      standing = v .standing;
       heads = v .heads;
       names = concat-append settingBy (v .inside) (s ∷ [])
           ∙ ap₂ _++_ (v .names) (append-nil (settingBy s) ∙ e);
@@ -93,7 +93,7 @@ located-more a c idle s e v = v
 located-more a c (partly h os is ns) s e v = rw (append-nil (keysInside ns)) at (enclosing-more s [] e v)
 
 located-next : (a : List Numbered) (c : ℕ) (b : Pending) (s : Numbered) (x : Says) → s .says ≡ x → Located a c b
-    → Located (a ++ (s ∷ [])) (spotBehind (bracketOf x) (length a) c) (pendingBy b (s .line) x)
+    → Located (a ++ (s ∷ [])) (standingBehind (bracketOf x) (length a) c) (pendingBy b (s .line) x)
 unfolding concat-map
 located-next a c b s (constants cs) e v = located-more a c b s (ap setBy e) v
 located-next a c idle s (assignment k t) e v = v
@@ -102,7 +102,7 @@ located-next a c (partly h os is ns) s (assignment k t) e v =
     (enclosing-more s (k ∷ []) (ap setBy e) v)
 located-next a c b s (state k i t) e v = located-more a c b s (ap setBy e) v
 located-next a c b s (header os is) e v =
-    record { before = a; head = s; inside = []; split = refl; spot = refl; heads = e; names = refl }
+    record { before = a; head = s; inside = []; split = refl; standing = refl; heads = e; names = refl }
 located-next a c b s ending e v = refl
 
 -- ---- the arrays of the sheet of ss, each header of which names an output
@@ -172,7 +172,7 @@ module _ (ss : List Numbered) (headed : Headed ss) where
     head-keys : (kind : ℕ) → keysAt bounds kinds args kind (c - 1) ≡ concat-map (keyOfKind kind)
         (draftsOf (header os is))
     head-keys kind =
-        let h : c - 1 ≡ length (v .before) = omega (arith, v .spot) in
+        let h : c - 1 ≡ length (v .before) = omega (arith, v .standing) in
         ap (keysAt bounds kinds args kind) h
         ∙ keys-at (v .before) (v .head) (v .inside ++ b) whole kind
         ∙ ap (λ x. concat-map (keyOfKind kind) (draftsOf x)) (v .heads)
@@ -186,33 +186,33 @@ module _ (ss : List Numbered) (headed : Headed ss) where
     pub above-of : setAbove bounds kinds args c (length a) ≡ ks
     above-of =
         let front : List Numbered = v .before ++ (v .head ∷ []) in
-        let at : length front ≡ c = length-more (v .before) (v .head) ∙ sym (v .spot) in
+        let at : length front ≡ c = length-more (v .before) (v .head) ∙ sym (v .standing) in
         let long : length a - c ≡ length (v .inside) =
-        omega (arith, v .spot, ap length (v .split), length-append (v .before) (v .head ∷ v .inside)) in
+        omega (arith, v .standing, ap length (v .split), length-append (v .before) (v .head ∷ v .inside)) in
         let split : ss ≡ front ++ (v .inside ++ b) = whole ∙ sym
         (append-assoc (v .before) (v .head ∷ []) (v .inside ++ b)) in
         let row = gather-middle (setAt bounds kinds args) settingBy ss set-at front (v .inside) b split in
         rw long (rw at at row) ∙ v .names
 
   -- ---- THE SPOT of each statement
-  spot-more : (a : List Numbered) (s : Numbered) (b : List Numbered) → ss ≡ a ++ s ∷ b
-      → Located a (spotAt bounds kinds (length a)) (pendingAfter idle a)
-      → Located (a ++ (s ∷ [])) (spotAt bounds kinds (length (a ++ (s ∷ [])))) (pendingAfter idle (a ++ (s ∷ [])))
-  unfolding spotAt
-  spot-more a s b p v =
+  standing-more : (a : List Numbered) (s : Numbered) (b : List Numbered) → ss ≡ a ++ s ∷ b
+      → Located a (standingAt bounds kinds (length a)) (pendingAfter idle a)
+      → Located (a ++ (s ∷ [])) (standingAt bounds kinds (length (a ++ (s ∷ [])))) (pendingAfter idle (a ++ (s ∷ [])))
+  unfolding standingAt
+  standing-more a s b p v =
       rw (length-more a s, pending-more idle a s)
-      (rw (bracket-at a s b p) (located-next a (spotAt bounds kinds (length a)) (pendingAfter idle a) s
+      (rw (bracket-at a s b p) (located-next a (standingAt bounds kinds (length a)) (pendingAfter idle a) s
       (s .says) refl v))
 
-  spot-along : (a x b : List Numbered) → ss ≡ a ++ (x ++ b)
-      → Located a (spotAt bounds kinds (length a)) (pendingAfter idle a)
-      → Located (a ++ x) (spotAt bounds kinds (length (a ++ x))) (pendingAfter idle (a ++ x))
-  spot-along a [] b p v = rw (append-nil a) v
-  spot-along a (s ∷ x) b p v =
+  standing-along : (a x b : List Numbered) → ss ≡ a ++ (x ++ b)
+      → Located a (standingAt bounds kinds (length a)) (pendingAfter idle a)
+      → Located (a ++ x) (standingAt bounds kinds (length (a ++ x))) (pendingAfter idle (a ++ x))
+  standing-along a [] b p v = rw (append-nil a) v
+  standing-along a (s ∷ x) b p v =
       rw (append-assoc a (s ∷ []) x) at
-      (spot-along (a ++ (s ∷ [])) x b (p ∙ sym (append-assoc a (s ∷ []) (x ++ b))) (spot-more a s (x ++ b) p v))
+      (standing-along (a ++ (s ∷ [])) x b (p ∙ sym (append-assoc a (s ∷ []) (x ++ b))) (standing-more a s (x ++ b) p v))
 
   pub located : (a b : List Numbered) → ss ≡ a ++ b
-      → Located a (spotAt bounds kinds (length a)) (pendingAfter idle a)
-  unfolding spotAt pendingAfter
-  located a b p = spot-along [] a b p refl
+      → Located a (standingAt bounds kinds (length a)) (pendingAfter idle a)
+  unfolding standingAt pendingAfter
+  located a b p = standing-along [] a b p refl

@@ -19,12 +19,12 @@ use Rattle.sheet.specs.Sheet.{Numbered}
 use Rattle.sheet.specs.Layout.{draftsIn, draftKinds, draftArgs, Laid}
 use Rattle.blocks.specs.Tests.{faultIf}
 use Rattle.blocks.specs.Pairing.{bracketOf, Headed}
-use Rattle.blocks.specs.Inside.{freeKnown, setBy, setInside, headWrong, innerRight, innerFault, fault26, Spot}
-use Rattle.blocks.specs.Inside.{outer, enclosed, spotNext, faults26From, faults26, blockFaults}
+use Rattle.blocks.specs.Inside.{freeKnown, setBy, setInside, headWrong, innerRight, innerFault, fault26, Standing}
+use Rattle.blocks.specs.Inside.{outer, enclosed, standingNext, faults26From, faults26, blockFaults}
 use Rattle.blocks.specs.Units.{Inner, statedIn}
 use Rattle.blocks.specs.Members.{Pending, idle, partly, keysInside, innerOf, pendingBy, unitsOf}
 use Rattle.blocks.specs.Layout.{draftsStood, draftsStated}
-use Rattle.blocks.specs.InsidePlaces.{spotAt, setAt, setBelow, rightAt, wrongAt, fault26At}
+use Rattle.blocks.specs.InsidePlaces.{standingAt, setAt, setBelow, rightAt, wrongAt, fault26At}
 use Rattle.blocks.specs.InsidePlaces.{faults26In, roleBy, roleAt, roleKind, kindsWith}
 use Rattle.blocks.specs.InsidePlaces.{rewrittenKinds}
 use Rattle.blocks.proofs.DraftsWalk.{kind-at, in-part}
@@ -37,18 +37,18 @@ use Rattle.blocks.proofs.InsideLaid.{pendingAfter, pending-more, Locate
 use Rattle.blocks.proofs.InsideLaid.{free-known, set-below, outputs-of, inputs-of, above-of, located}
 
 -- where a statement stands behind what has been read
-abbrev spotOf : Pending → Spot
-spotOf idle = outer
-spotOf (partly h os is ns) = enclosed is (keysInside ns)
+abbrev standingOf : Pending → Standing
+standingOf idle = outer
+standingOf (partly h os is ns) = enclosed is (keysInside ns)
 
-spot-pending : (b : Pending) (l : ℕ) (x : Says) → spotOf (pendingBy b l x) ≡ spotNext (spotOf b) x
-spot-pending b l (constants cs) = refl
-spot-pending idle l (assignment k e) = refl
-spot-pending (partly h os is ns) l (assignment k e) =
+standing-pending : (b : Pending) (l : ℕ) (x : Says) → standingOf (pendingBy b l x) ≡ standingNext (standingOf b) x
+standing-pending b l (constants cs) = refl
+standing-pending idle l (assignment k e) = refl
+standing-pending (partly h os is ns) l (assignment k e) =
     ap (enclosed is) (map-append (λ (n : Inner). n .key) ns (innerOf os ns l k e ∷ []))
-spot-pending b l (state k i e) = refl
-spot-pending b l (header os is) = refl
-spot-pending b l ending = refl
+standing-pending b l (state k i e) = refl
+standing-pending b l (header os is) = refl
+standing-pending b l ending = refl
 
 -- a row of one for each draft
 ones : (r : ℕ) (ds : List Draft)
@@ -76,7 +76,7 @@ module _ (ss : List Numbered) (headed : Headed ss) where
     j = length a
 
     abbrev c : ℕ
-    c = spotAt bounds kinds j
+    c = standingAt bounds kinds j
 
     abbrev right : Bool
     right = rightAt free bounds kinds args c j
@@ -98,19 +98,19 @@ module _ (ss : List Numbered) (headed : Headed ss) where
     -- by what the statement says
     wrong-meant : (x : Says) → s .says ≡ x → setAt bounds kinds args j ≡ setBy x → (q : Pending) → Located a c q
         → faultIf (wrongAt (length ss) free bounds kinds args (bracketOf x) c j) (s .line) 26
-        ≡ fault26 free (setInside b) (spotOf q) s x
+        ≡ fault26 free (setInside b) (standingOf q) s x
     wrong-meant (constants cs) e w idle v = outside-none v
     wrong-meant (constants cs) e w (partly h os is ns) v =
-        inside-same is (keysInside ns) (constants cs) e (omega (arith, v .spot)) (rw w)
+        inside-same is (keysInside ns) (constants cs) e (omega (arith, v .standing)) (rw w)
     wrong-meant (assignment k t) e w idle v = outside-none v
     wrong-meant (assignment k t) e w (partly h os is ns) v =
         let used = keys-at ss headed a s b p kindFetch
         ∙ ap (λ x. concat-map (keyOfKind kindFetch) (draftsOf x)) e ∙ assignment-names k t in
-        inside-same is (keysInside ns) (assignment k t) e (omega (arith, v .spot))
+        inside-same is (keysInside ns) (assignment k t) e (omega (arith, v .standing))
         (rw (w, inputs-of ss headed v (s ∷ b) p, above-of ss headed v (s ∷ b) p, used))
     wrong-meant (state k i t) e w idle v = outside-none v
     wrong-meant (state k i t) e w (partly h os is ns) v =
-        inside-same is (keysInside ns) (state k i t) e (omega (arith, v .spot)) (rw w)
+        inside-same is (keysInside ns) (state k i t) e (omega (arith, v .standing)) (rw w)
     wrong-meant (header os is) e w q v =
         let outputs = keys-at ss headed a s b p kindOutput
         ∙ ap (λ x. concat-map (keyOfKind kindOutput) (draftsOf x)) e ∙ header-outputs os is in
@@ -124,7 +124,7 @@ module _ (ss : List Numbered) (headed : Headed ss) where
 
     -- 26 AT A STATEMENT
     fault-meant : fault26At (length ss) free lines bounds kinds args j
-        ≡ fault26 free (setInside b) (spotOf (pendingAfter idle a)) s (s .says)
+        ≡ fault26 free (setInside b) (standingOf (pendingAfter idle a)) s (s .says)
     fault-meant =
         rw (bracket-at ss headed a s b p, line-at (held ss headed) a s b p)
         (wrong-meant (s .says) refl (set-at ss headed a s b p) (pendingAfter idle a) (located ss headed a (s ∷ b) p))
@@ -139,7 +139,7 @@ module _ (ss : List Numbered) (headed : Headed ss) where
     role-by (constants cs) w q v = rw w (none-either (ltb 0 c))
     role-by (assignment k t) w idle v = rw v
     role-by (assignment k t) w (partly h os is ns) v =
-        let h : 0 < c = omega (arith, v .spot) in
+        let h : 0 < c = omega (arith, v .standing) in
         rw (lt-ltb 0 c h, w, outputs-of ss headed v (s ∷ b) p, above-of ss headed v (s ∷ b) p)
     role-by (state k i t) w q v = rw w (none-either (ltb 0 c))
     role-by (header os is) w q v = refl
@@ -168,15 +168,15 @@ module _ (ss : List Numbered) (headed : Headed ss) where
       let n : length lines ≡ length ss = length-map ss (λ (s : Numbered). s .line) in
       rw (n, free-known ss headed)
       (gather-fronts (fault26At (length ss) free lines bounds kinds args)
-      (λ a b. faults26From free (spotOf (pendingAfter idle a)) b) ss (λ a. refl)
+      (λ a b. faults26From free (standingOf (pendingAfter idle a)) b) ss (λ a. refl)
       (λ a s b p. ap₂ _++_ (sym (fault-meant free a s b p)) (next a s b)) [] ss refl)
     where
       next : (a : List Numbered) (s : Numbered) (b : List Numbered)
-          → faults26From (freeKnown ss) (spotNext (spotOf (pendingAfter idle a)) (s .says)) b
-          ≡ faults26From (freeKnown ss) (spotOf (pendingAfter idle (a ++ (s ∷ [])))) b
+          → faults26From (freeKnown ss) (standingNext (standingOf (pendingAfter idle a)) (s .says)) b
+          ≡ faults26From (freeKnown ss) (standingOf (pendingAfter idle (a ++ (s ∷ [])))) b
       next a s b =
           ap (λ q. faults26From (freeKnown ss) q b)
-          (sym (ap spotOf (pending-more idle a s) ∙ spot-pending (pendingAfter idle a) (s .line) (s .says)))
+          (sym (ap standingOf (pending-more idle a s) ∙ standing-pending (pendingAfter idle a) (s .line) (s .says)))
 
   -- THE KINDS after rewriting
   pub kinds-of : rewrittenKinds (length ss) bounds kinds args ≡ draftKinds (draftsStated (statedFrom idle ss))

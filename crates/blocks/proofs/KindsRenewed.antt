@@ -18,10 +18,10 @@ use Rattle.drafts.specs.Kinds.{kindOutput, kindAgain, kindGiven, kindOwn}
 use Rattle.drafts.specs.Places.{begins, ends}
 use Rattle.blocks.specs.Pairing.{opens, shuts, neither}
 use Rattle.blocks.specs.Places.{bracketAt}
-use Rattle.blocks.specs.InsidePlaces.{keysAt, isSetting, setAbove, spotBehind, spotAt, roleBy, roleAt}
+use Rattle.blocks.specs.InsidePlaces.{keysAt, isSetting, setAbove, standingBehind, standingAt, roleBy, roleAt}
 use Rattle.blocks.specs.InsidePlaces.{roleKind, rewrittenKinds}
 use Rattle.blocks.specs.InsideWorking.{keysRole, rolesIn, renewed, Turned}
-use Rattle.blocks.proofs.InsideFound.{spot-next}
+use Rattle.blocks.proofs.InsideFound.{standing-next}
 
 -- ---- what the store of a name becomes
 module _ (bounds kinds args : List ℕ) (c j key : ℕ) where
@@ -65,15 +65,15 @@ module _ (bounds kinds args : List ℕ) (c j : ℕ) where
 
 -- ---- the roles noted: the loop stands at statement j
 pub record Noting (bounds kinds args : List ℕ) (n : ℕ) (roles₀ : List ℕ) (c j : ℕ) (roles : List ℕ) : Type 0 where
-  pub spot : c ≡ spotAt bounds kinds j
+  pub standing : c ≡ standingAt bounds kinds j
   pub within : j ≤ n
   pub written : Writes (λ i. roleAt bounds kinds args i ∷ []) n 0 j 0 j roles₀ roles
 
 pub noting-first : (bounds kinds args : List ℕ) (n : ℕ) (roles : List ℕ) → Noting bounds kinds args n roles 0 0 roles
-unfolding spotAt
+unfolding standingAt
 noting-first bounds kinds args n roles =
     record {
-      spot = refl;
+      standing = refl;
       within = omega arith;
       written = writes-first (λ i. roleAt bounds kinds args i ∷ []) n 0 0 roles;
     }
@@ -82,12 +82,12 @@ module _ {bounds kinds args : List ℕ} {n : ℕ} {roles₀ : List ℕ} {c j : �
     (v : Noting bounds kinds args n roles₀ c j roles) where
   pub noting-next : {r d : ℕ} {roles′ : List ℕ} → j < n
       → r ≡ roleBy bounds kinds args (bracketAt bounds kinds j) c j → roles′ ≡ set roles j r
-      → d ≡ spotBehind (bracketAt bounds kinds j) j c → Noting bounds kinds args n roles₀ d (j + 1) roles′
+      → d ≡ standingBehind (bracketAt bounds kinds j) j c → Noting bounds kinds args n roles₀ d (j + 1) roles′
   noting-next {r} {d} {roles′} h p e q =
       let role : r ≡ roleAt bounds kinds args j =
-      p ∙ ap (λ (m : ℕ). roleBy bounds kinds args (bracketAt bounds kinds j) m j) (v .spot) in
+      p ∙ ap (λ (m : ℕ). roleBy bounds kinds args (bracketAt bounds kinds j) m j) (v .standing) in
       record {
-        spot = spot-next bounds kinds j (v .spot) q;
+        standing = standing-next bounds kinds j (v .standing) q;
         within = omega arith;
         written = writes-next (v .written) h (j + 1) roles′ refl (e ∙ ap (set roles j) role);
       }

@@ -15,7 +15,8 @@ use Rattle.laws.proofs.Along.{gather-all}
 use Rattle.drafts.specs.Places.{begins, ends}
 use Rattle.blocks.specs.Pairing.{Bracket, opens, shuts, neither}
 use Rattle.blocks.specs.Places.{bracketAt, fault25At, faults25In}
-use Rattle.blocks.specs.InsidePlaces.{spotAt, freeArgs, fault26At, faults26In, roleAt, kindsWith, rewrittenKinds}
+use Rattle.blocks.specs.InsidePlaces.{standingAt, freeArgs, fault26At, faults26In, roleAt, kindsWith}
+use Rattle.blocks.specs.InsidePlaces.{rewrittenKinds}
 use Rattle.blocks.specs.Grouped.{UnitArrays, GroupOutcome, united, rightInside, paired}
 use Rattle.blocks.specs.Working.{isBracket, bracketed}
 use Rattle.blocks.specs.InsideWorking.{Turned}
@@ -46,8 +47,8 @@ module _ (lines bounds kinds args : List ℕ) (none : anyIn (bracketed bounds ki
       (any-none (bracketed bounds kinds) (length lines) 0 none j (omega arith) (omega arith))
 
   -- every statement stands outside
-  outside : (j : ℕ) → j ≤ length lines → spotAt bounds kinds j ≡ 0
-  unfolding spotAt
+  outside : (j : ℕ) → j ≤ length lines → standingAt bounds kinds j ≡ 0
+  unfolding standingAt
   outside zero h = refl
   outside (suc j) h = rw (plain j (omega arith)) (outside j (omega arith))
 
@@ -66,7 +67,7 @@ module _ (lines bounds kinds args : List ℕ) (none : anyIn (bracketed bounds ki
 
   -- no store becomes another
   no-role : (j : ℕ) → j < length lines → roleAt bounds kinds args j ≡ 0
-  no-role j h = sym (role-outside bounds kinds args (spotAt bounds kinds j) j (plain j h) (outside j (omega arith)))
+  no-role j h = sym (role-outside bounds kinds args (standingAt bounds kinds j) j (plain j h) (outside j (omega arith)))
 
   -- the kinds of the first k statements are those up to where the next one begins
   kept : Turned (length lines) bounds kinds → (k : ℕ) → k ≤ length lines

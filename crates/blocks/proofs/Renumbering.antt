@@ -15,8 +15,8 @@ use Rattle.blocks.specs.Units.{constants, assignment, state, Inner, Unit
 use Rattle.blocks.specs.Units.{heading, closing, Stated, stated, statedInner, statedBy, statedIn, Equation}
 use Rattle.blocks.specs.Units.{equation, innerEquation, OrderUnit, orderUnit, orderUnitOf, orderUnits}
 use Rattle.blocks.specs.Pairing.{Pair, bracketOf, brackets, pairs, unpaired, faults25From, faults25}
-use Rattle.blocks.specs.Inside.{freeKnown, setNext, setInside, headWrong, innerRight, Spot, outer, enclosed}
-use Rattle.blocks.specs.Inside.{innerFault, fault26, spotNext, faults26From, faults26, blockFaults}
+use Rattle.blocks.specs.Inside.{freeKnown, setNext, setInside, headWrong, innerRight, Standing, outer, enclosed}
+use Rattle.blocks.specs.Inside.{innerFault, fault26, standingNext, faults26From, faults26, blockFaults}
 use Rattle.blocks.specs.Sound.{setsFor}
 use Rattle.blocks.specs.Members.{settings, Pending, idle, partly, innerOf, unitsBy, pendingBy}
 use Rattle.blocks.specs.Members.{unitsFrom, unitsOf}
@@ -112,15 +112,15 @@ module _ (g : ℕ → ℕ) where
   set-kept [] = refl
   set-kept (s ∷ ss) = ap (setNext (s .says)) (set-kept ss)
 
-  -- the fault of a statement at its spot
-  inner-renumbered : (free : List ℕ) (p : Spot) (s : Numbered)
+  -- the fault of a statement at its standing
+  inner-renumbered : (free : List ℕ) (p : Standing) (s : Numbered)
       → innerFault free p (renumberNumbered g s) ≡ renumberFaults (innerFault free p s)
   inner-renumbered free outer s = refl
   inner-renumbered free (enclosed is above) s =
       if-renumbered (not (innerRight free is above (s .says))) (s .line) 26
 
   -- .. whatever it says
-  fault26-renumbered : (free ks : List ℕ) (p : Spot) (s : Numbered) (x : Says)
+  fault26-renumbered : (free ks : List ℕ) (p : Standing) (s : Numbered) (x : Says)
       → fault26 free ks p (renumberNumbered g s) x ≡ renumberFaults (fault26 free ks p s x)
   fault26-renumbered free ks p s (constantsSaid cs) = inner-renumbered free p s
   fault26-renumbered free ks p s (assignmentSaid k e) = inner-renumbered free p s
@@ -128,14 +128,14 @@ module _ (g : ℕ → ℕ) where
   fault26-renumbered free ks p s (header os is) = if-renumbered (headWrong os ks) (s .line) 26
   fault26-renumbered free ks p s ending = refl
 
-  -- the faults of the statements from a spot on
-  inside-renumbered : (free : List ℕ) (p : Spot) (ss : List Numbered)
+  -- the faults of the statements from a standing on
+  inside-renumbered : (free : List ℕ) (p : Standing) (ss : List Numbered)
       → faults26From free p (renumbered ss) ≡ renumberFaults (faults26From free p ss)
   unfolding faults26From
   inside-renumbered free p [] = refl
   inside-renumbered free p (s ∷ ss) =
       let t = renumberNumbered g s in
-      let next = spotNext p (s .says) in
+      let next = standingNext p (s .says) in
       both-moved (renumberFault g) (fault26 free (setInside ss) p s (s .says)) (faults26From free next ss)
       (ap (λ ks. fault26 free ks p t (s .says)) (set-kept ss) ∙ fault26-renumbered free (setInside ss) p s (s .says))
       (inside-renumbered free next ss)

@@ -11,6 +11,8 @@ use Rattle.deck.specs.Reading.{Statement, cardsOf, fresh, reading}
 use Rattle.deck.specs.Reports.{report}
 use Rattle.deck.specs.Joined.{joined}
 use Rattle.deck.specs.Faults.{Flaw, none, flaw, sizeFlaw}
+use Rattle.deck.specs.declared.Place.{Place}
+use Rattle.deck.specs.declared.Spot.{Spot}
 use Rattle.tokens.specs.Symbol.{Symbol}
 use Rattle.tokens.specs.Row.{Placed, Close, all-good, bad, rowOf, symbols}
 use Rattle.drafts.specs.Tree.{Says}
@@ -20,7 +22,7 @@ use Rattle.grammar.specs.Grammar.{of-ending}
 use Rattle.grammar.specs.Parser.{Read, read, fault, readRow}
 use Rattle.grammar.proofs.Accepts.{accepts}
 use Rattle.sheet.specs.Sheet.{Told, says, faulty, said}
-use Rattle.sheet.specs.Reader.{parsed, scanned, sized, told, sheetOf}
+use Rattle.sheet.specs.Reader.{parsed, scanned, sized, cardsTold, spotted, told, sheetOf}
 use Rattle.blocks.specs.Pairing.{HeadedBy, Headed}
 
 -- names are one or more
@@ -37,7 +39,7 @@ derived-headed x (of-header k os is) = names-some os
 derived-headed x of-ending = tt
 
 -- what is told of a statement
-abbrev ToldHeaded : Told → Type 0
+abbrev ToldHeaded : {P : Type 0} → Told P → Type 0
 ToldHeaded (says x) = HeadedBy x
 ToldHeaded (faulty c p) = Unit {0}
 
@@ -54,19 +56,27 @@ sized-headed : (f : Flaw) (s : List ℕ) → ToldHeaded (sized f s)
 sized-headed none s = scanned-headed (rowOf s .tokens) (rowOf s .close)
 sized-headed (flaw c p) s = tt
 
-told-headed : (cards : List Line) (closed : Bool) → ToldHeaded (told cards closed)
+cards-headed : (cards : List Line) (closed : Bool) → ToldHeaded (cardsTold cards closed)
+unfolding cardsTold
+cards-headed cards closed = sized-headed (sizeFlaw cards closed) (joined cards)
+
+spotted-headed : (ls : List Line) (t : Told Place) → ToldHeaded t → ToldHeaded (spotted ls t)
+spotted-headed ls (says x) h = h
+spotted-headed ls (faulty c p) h = tt
+
+told-headed : (lines : List Line) (closed : Bool) → ToldHeaded (told lines closed)
 unfolding told
-told-headed cards closed = sized-headed (sizeFlaw cards closed) (joined cards)
+told-headed lines closed =
+    spotted-headed lines (cardsTold (cardsOf lines) closed) (cards-headed (cardsOf lines) closed)
 
 -- of all statements
 reports-headed : (ss : List Statement) → Headed (said (map (report told) ss))
 unfolding concat-map
 reports-headed [] = tt
 reports-headed (s ∷ ss) =
-    let cards = cardsOf (s .lines) in
-    go (told cards (s .closed)) (told-headed cards (s .closed)) (reports-headed ss)
+    go (told (s .lines) (s .closed)) (told-headed (s .lines) (s .closed)) (reports-headed ss)
   where
-    go : (t : Told) → ToldHeaded t → Headed (said (map (report told) ss))
+    go : (t : Told Spot) → ToldHeaded t → Headed (said (map (report told) ss))
         → Headed (said (record { line = s .first; what = t } ∷ map (report told) ss))
     go (says x) h r = (h, r)
     go (faulty c p) h r = r

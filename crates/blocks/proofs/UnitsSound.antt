@@ -18,7 +18,7 @@ use Rattle.drafts.specs.Tree.{state as stateSaid, header, ending}
 use Rattle.sheet.specs.Sheet.{Numbered}
 use Rattle.blocks.specs.Tests.{faultIf, within, again}
 use Rattle.blocks.specs.Inside.{freeSaid, freeKnown, setNext, setInside, headWrong, fault26, outer, enclosed}
-use Rattle.blocks.specs.Inside.{spotNext}
+use Rattle.blocks.specs.Inside.{standingNext}
 use Rattle.blocks.specs.Inside.{innerRight, innerFault, faults26From, blockFaults}
 use Rattle.blocks.specs.Units.{Inner, TextUnit}
 use Rattle.blocks.specs.Sound.{freeNames, setsFor, InnerSound, BodySound, UnitsSound}
@@ -130,7 +130,7 @@ module _ (free : List ℕ) where
       Bodies us = Every (λ (u : TextUnit). BodySound free (u .body)) us
 
       out : (x : Says) → SoundOut ss → SoundIn ss → Stands false x × Shaped (insideNext false (bracketOf x)) ss
-          → fault26 free (setInside ss) outer s x ++ faults26From free (spotNext outer x) ss ≡ []
+          → fault26 free (setInside ss) outer s x ++ faults26From free (standingNext outer x) ss ≡ []
           → Bodies (unitsBy idle (s .line) x ++ unitsFrom (pendingBy idle (s .line) x) ss)
       out (constantsSaid cs) o n w f = (tt, o (w .1) f)
       out (assignmentSaid k e) o n w f = (tt, o (w .1) f)
@@ -146,7 +146,7 @@ module _ (free : List ℕ) where
       inner : (x : Says) → s .says ≡ x → SoundOut ss → SoundIn ss → (h : ℕ) (os is : List ℕ) (ns : List Inner)
           → Stands true x × Shaped (insideNext true (bracketOf x)) ss
           → fault26 free (setInside ss) (enclosed is (keysInside ns)) s x
-          ++ faults26From free (spotNext (enclosed is (keysInside ns)) x) ss ≡ []
+          ++ faults26From free (standingNext (enclosed is (keysInside ns)) x) ss ≡ []
           → InnerSound free os is [] ns → ((k : ℕ) → k ∈ os → k ∈ (keysInside ns ++ setNext x (setInside ss)))
           → Bodies (unitsBy (partly h os is ns) (s .line) x ++ unitsFrom (pendingBy (partly h os is ns) (s .line) x) ss)
       inner (constantsSaid cs) e o n h os is ns w f i g = absurd (w .0)

@@ -59,37 +59,37 @@ innerRight free is above (header os is′) = false
 innerRight free is above ending = false
 
 -- where a statement stands: outside, or inside a block with these inputs, below these names
-pub data Spot : Type 0 where
-  outer : Spot
-  enclosed : List ℕ → List ℕ → Spot
+pub data Standing : Type 0 where
+  outer : Standing
+  enclosed : List ℕ → List ℕ → Standing
 
-abbrev pub innerFault : List ℕ → Spot → Numbered → List Fault
+abbrev pub innerFault : List ℕ → Standing → Numbered → List Fault
 innerFault free outer s = []
 innerFault free (enclosed is above) s = faultIf (not (innerRight free is above (s .says))) (s .line) 26
 
 -- the fault of a statement, and where the next one stands; ks are the names set below it before the next end
-abbrev pub fault26 : List ℕ → List ℕ → Spot → Numbered → Says → List Fault
+abbrev pub fault26 : List ℕ → List ℕ → Standing → Numbered → Says → List Fault
 fault26 free ks p s (constants cs) = innerFault free p s
 fault26 free ks p s (assignment k e) = innerFault free p s
 fault26 free ks p s (state k i e) = innerFault free p s
 fault26 free ks p s (header os is) = faultIf (headWrong os ks) (s .line) 26
 fault26 free ks p s ending = []
 
-abbrev pub spotBelow : Spot → List ℕ → Spot
-spotBelow outer ks = outer
-spotBelow (enclosed is above) ks = enclosed is (above ++ ks)
+abbrev pub standingBelow : Standing → List ℕ → Standing
+standingBelow outer ks = outer
+standingBelow (enclosed is above) ks = enclosed is (above ++ ks)
 
-abbrev pub spotNext : Spot → Says → Spot
-spotNext p (constants cs) = p
-spotNext p (assignment k e) = spotBelow p (k ∷ [])
-spotNext p (state k i e) = p
-spotNext p (header os is) = enclosed is []
-spotNext p ending = outer
+abbrev pub standingNext : Standing → Says → Standing
+standingNext p (constants cs) = p
+standingNext p (assignment k e) = standingBelow p (k ∷ [])
+standingNext p (state k i e) = p
+standingNext p (header os is) = enclosed is []
+standingNext p ending = outer
 
-unfoldable pub faults26From : List ℕ → Spot → List Numbered → List Fault
+unfoldable pub faults26From : List ℕ → Standing → List Numbered → List Fault
 faults26From free p [] = []
 faults26From free p (s ∷ ss) =
-    fault26 free (setInside ss) p s (s .says) ++ faults26From free (spotNext p (s .says)) ss
+    fault26 free (setInside ss) p s (s .says) ++ faults26From free (standingNext p (s .says)) ss
 
 abbrev pub faults26 : List Numbered → List Fault
 faults26 ss = faults26From (freeKnown ss) outer ss

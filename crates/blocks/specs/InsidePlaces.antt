@@ -20,14 +20,14 @@ use Rattle.blocks.specs.Layout.{setsKind}
 
 -- where a statement stands: 0 outside, inside a block one more than the number of its header. Behind statement j with
 -- this bracket, which stands at c:
-abbrev pub spotBehind : Bracket → ℕ → ℕ → ℕ
-spotBehind opens j c = suc j
-spotBehind shuts j c = 0
-spotBehind neither j c = c
+abbrev pub standingBehind : Bracket → ℕ → ℕ → ℕ
+standingBehind opens j c = suc j
+standingBehind shuts j c = 0
+standingBehind neither j c = c
 
-unfoldable pub spotAt : List ℕ → List ℕ → ℕ → ℕ
-spotAt bounds kinds zero = 0
-spotAt bounds kinds (suc j) = spotBehind (bracketAt bounds kinds j) j (spotAt bounds kinds j)
+unfoldable pub standingAt : List ℕ → List ℕ → ℕ → ℕ
+standingAt bounds kinds zero = 0
+standingAt bounds kinds (suc j) = standingBehind (bracketAt bounds kinds j) j (standingAt bounds kinds j)
 
 -- ---- the names of statements
 
@@ -96,7 +96,8 @@ wrongAt n free bounds kinds args neither c j = ltb 0 c && not (rightAt free boun
 
 abbrev pub fault26At : ℕ → List ℕ → List ℕ → List ℕ → List ℕ → List ℕ → ℕ → List Fault
 fault26At n free lines bounds kinds args j =
-    faultIf (wrongAt n free bounds kinds args (bracketAt bounds kinds j) (spotAt bounds kinds j) j) (getD lines j 0) 26
+    faultIf (wrongAt n free bounds kinds args (bracketAt bounds kinds j) (standingAt bounds kinds j) j)
+    (getD lines j 0) 26
 
 unfoldable pub faults26In : List ℕ → List ℕ → List ℕ → List ℕ → List Fault
 faults26In lines bounds kinds args =
@@ -120,7 +121,7 @@ roleBy bounds kinds args neither c j =
     0
 
 abbrev pub roleAt : List ℕ → List ℕ → List ℕ → ℕ → ℕ
-roleAt bounds kinds args j = roleBy bounds kinds args (bracketAt bounds kinds j) (spotAt bounds kinds j) j
+roleAt bounds kinds args j = roleBy bounds kinds args (bracketAt bounds kinds j) (standingAt bounds kinds j) j
 
 -- a draft's kind in a statement whose store becomes `role`: a name fetched is read there
 abbrev pub roleKind : ℕ → ℕ → ℕ

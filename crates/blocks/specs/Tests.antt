@@ -3,12 +3,11 @@ use Prim.Native.Nat.{ℕ}
 use mathlib.Core.Bool.{Bool, true, false, _&&_, _||_}
 use mathlib.Core.List.{List, [], _∷_, _++_}
 use Rattle.laws.specs.Counts.{has}
-use Rattle.deck.specs.Faults.{at-start}
-use Rattle.sheet.specs.Sheet.{Fault}
+use Rattle.sheet.specs.Sheet.{Fault, faultAtFirst}
 
--- the fault, if the test holds
+-- the fault, if the test holds; its place is the statement's first byte
 abbrev pub faultIf : Bool → ℕ → ℕ → List Fault
-faultIf true l c = record { line = l; code = c; place = at-start } ∷ []
+faultIf true l c = faultAtFirst l c ∷ []
 faultIf false l c = []
 
 -- the one list, or the other if that is empty

@@ -26,7 +26,7 @@ use super::names::is_set_above;
 use super::names::is_setting;
 use super::names::last_of;
 use super::names::sets_name;
-use super::names::spot_behind;
+use super::names::standing_behind;
 use super::report::add_fault;
 use bits::reads::byte_at;
 use bits::reads::short_at;
@@ -235,7 +235,7 @@ fn report_each(
     while j < lines.len() {
         let wrong = is_wrong(hints, free, bounds, kinds, args, lines.len(), c, j);
         count = add_fault(wrong, short_at(lines, j), 26, &mut *faults, count);
-        c = spot_behind(bounds, kinds, j, c);
+        c = standing_behind(bounds, kinds, j, c);
         j += 1;
     }
     count

@@ -6,7 +6,7 @@ ghost use Rattle.laws.specs.Counts.{has};
 ghost use Rattle.laws.specs.Places.{gather};
 ghost use Rattle.drafts.specs.Places.{ends};
 ghost use Rattle.blocks.specs.Places.{bracketAt};
-ghost use Rattle.blocks.specs.InsidePlaces.{spotBehind, keyAt, keysAt, isSetting, setAt};
+ghost use Rattle.blocks.specs.InsidePlaces.{standingBehind, keyAt, keysAt, isSetting, setAt};
 ghost use Rattle.blocks.specs.InsidePlaces.{setAbove};
 use super::brackets::leading_kind;
 use bits::reads::byte_at;
@@ -18,9 +18,9 @@ use drafts::OUTPUT;
 use drafts::STORE;
 
 // Where the statement behind statement j stands, which stands at c.
-pub(crate) fn spot_behind(bounds: &[u16], kinds: &[u8], j: usize, c: usize) -> usize
+pub(crate) fn standing_behind(bounds: &[u16], kinds: &[u8], j: usize, c: usize) -> usize
     requires { ⌜ j ≤ mostStatements ⌝ }
-    ensures { λ r. ⌜ r ≡ spotBehind (bracketAt (now (bounds .entry)) (now (kinds .entry)) j) j c ⌝ }
+    ensures { λ r. ⌜ r ≡ standingBehind (bracketAt (now (bounds .entry)) (now (kinds .entry)) j) j c ⌝ }
 {
     let kind = leading_kind(bounds, kinds, j);
     if kind == OUTPUT {

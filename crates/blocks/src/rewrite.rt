@@ -13,7 +13,7 @@ use super::names::is_named_by;
 use super::names::is_set_above;
 use super::names::is_setting;
 use super::names::last_of;
-use super::names::spot_behind;
+use super::names::standing_behind;
 use super::stores::put_byte;
 use bits::reads::byte_at;
 use bits::reads::short_at;
@@ -74,7 +74,7 @@ fn note_roles(bounds: &[u16], kinds: &[u8], args: &[u64], n: usize, roles: &mut 
     let mut j: usize = 0;
     while j < n {
         put_byte(&mut *roles, j, role_at(bounds, kinds, args, c, j));
-        c = spot_behind(bounds, kinds, j, c);
+        c = standing_behind(bounds, kinds, j, c);
         j += 1;
     }
 }

@@ -7,8 +7,12 @@ pub mod First
 pub mod Steps
 pub mod Parts
 pub mod Writes
+pub mod Spotting
 pub mod Walking
 pub mod Sizing
 pub mod Sharing
+pub mod Covered
 pub mod Comments
+pub mod Commented
+pub mod InPlace
 pub mod Agreement

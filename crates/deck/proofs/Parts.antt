@@ -12,7 +12,8 @@ use Rattle.limits.specs.Limits.{mostCards, cardBytes}
 use Rattle.laws.proofs.Tests.{cond-ind, and-true, not-both}
 use Rattle.deck.specs.Lines.{Line, kept, trimmed, dotsAt, dotted}
 use Rattle.deck.specs.Joined.{linePart, joined}
-use Rattle.deck.specs.Faults.{none, flaw, at-start, anyLong, sizeFlaw}
+use Rattle.deck.specs.declared.Place.the-variants.{AtStart}
+use Rattle.deck.specs.Faults.{none, flaw, anyLong, sizeFlaw}
 use Rattle.deck.specs.Codes.{sizeCode, flawOf, spaced, joinedRoom}
 
 -- ---- a line's part is a front of it
@@ -105,7 +106,7 @@ joined-short cards false e = let z : _≡_ {A = ℕ} 0 1 = cc in absurd (omega a
 joined-short cards true e = go (ltb mostCards (length cards)) (anyLong cards) refl refl e
   where
     go : (many long : Bool) → ltb mostCards (length cards) ≡ many → anyLong cards ≡ long
-        → cond many (flaw 12 at-start) (cond long (flaw 13 at-start) none) ≡ none → length (joined cards) ≤ joinedRoom
+        → cond many (flaw 12 AtStart) (cond long (flaw 13 AtStart) none) ≡ none → length (joined cards) ≤ joinedRoom
     go true long m n f = let z : _≡_ {A = ℕ} 0 1 = cc in absurd (omega arith)
     go false true m n f = let z : _≡_ {A = ℕ} 0 1 = cc in absurd (omega arith)
     go false false m n f = joined-few cards (ltb-false mostCards (length cards) m) n
@@ -118,7 +119,7 @@ size-flaw cards false = refl
 size-flaw cards true = go (ltb mostCards (length cards)) (anyLong cards)
   where
     go : (many long : Bool)
-        → cond many (flaw 12 at-start) (cond long (flaw 13 at-start) none) ≡ flawOf true (cond many 12 (cond long 13 0))
+        → cond many (flaw 12 AtStart) (cond long (flaw 13 AtStart) none) ≡ flawOf true (cond many 12 (cond long 13 0))
     go true long = refl
     go false true = refl
     go false false = refl

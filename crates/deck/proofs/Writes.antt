@@ -19,10 +19,18 @@ use Rattle.deck.proofs.Parts.{part-le, joined-cons}
 -- ---- the cards among so many lines from a place on
 module _ (t : List ℕ) (at left : ℕ) where
   -- the line there, and the others
-  lines-one : (e : ℕ) → 0 < left → LineAt t at e → linesAt t at left ≡ lineOf t at e ∷ linesAt t (e + 1) (left - 1)
+  pub lines-one : (e : ℕ) → 0 < left → LineAt t at e → linesAt t at left ≡ lineOf t at e ∷ linesAt t (e + 1) (left - 1)
   lines-one e z l =
       let s : left ≡ suc (left - 1) = omega arith in
       ap (λ (k : ℕ). linesAt t at k) s ∙ rw (l .lines)
+
+  -- no line is left behind the end
+  pub no-lines : length t ≤ at → linesAt t at left ≡ []
+  no-lines h = rw (lines-end t at h) (nothing left)
+    where
+      nothing : (k : ℕ) → _≡_ {A = List Line} (take k []) []
+      nothing zero = refl
+      nothing (suc k) = refl
 
   -- a comment there is none of them
   cards-over : (e : ℕ) → 0 < left → LineAt t at e → starred (lineOf t at e) ≡ true
@@ -44,11 +52,7 @@ module _ (t : List ℕ) (at left : ℕ) where
   -- none behind the end
   pub cards-end : length t ≤ at → cardsAt t at left ≡ []
   unfolding cardsOf
-  cards-end h = rw (lines-end t at h) (ap cardsOf (nothing left))
-    where
-      nothing : (k : ℕ) → _≡_ {A = List Line} (take k []) []
-      nothing zero = refl
-      nothing (suc k) = refl
+  cards-end h = ap cardsOf (no-lines h)
 
 -- ---- parts of cards
 module _ (apart : Bool) where

@@ -7,7 +7,8 @@ use lib.Dec.{eqb, ltb}
 use Rattle.limits.specs.Limits.{mostCards, cardBytes}
 use Rattle.deck.specs.Lines.{Line}
 use Rattle.deck.specs.Joined.{linePart, joined}
-use Rattle.deck.specs.Faults.{at-start, at-end, Flaw, none, flaw}
+use Rattle.deck.specs.Faults.{Flaw, none, flaw}
+use Rattle.deck.specs.declared.Place.the-variants.{AtStart, AtEnd}
 
 -- the code, or 0: by the count of cards, whether the statement is closed, and whether a card has more than cardBytes
 -- bytes
@@ -16,7 +17,7 @@ sizeCode k closed long = cond closed (cond (ltb mostCards k) 12 (cond long 13 0)
 
 -- the flaw of such a code
 abbrev pub flawOf : Bool → ℕ → Flaw
-flawOf closed code = cond (eqb code 0) none (flaw code (cond closed at-start at-end))
+flawOf closed code = cond (eqb code 0) none (flaw code (cond closed AtStart AtEnd))
 
 -- the parts of the cards behind a statement's first, each behind a space
 unfoldable pub spaced : List Line → List ℕ

@@ -8,10 +8,13 @@ use lib.Seq.{sets}
 use Rattle.deck.specs.Lines.{linesOf}
 use Rattle.deck.specs.Joined.{joined}
 use Rattle.deck.specs.Reading.{fresh, reading}
-use Rattle.deck.specs.Next.{foundFrom, Further, cardsAt}
+use Rattle.deck.specs.Next.{foundFrom, Further, linesAt, cardsAt}
+use Rattle.deck.specs.Spots.{spotOf}
 use Rattle.deck.specs.Codes.{sizeCode}
 use Rattle.deck.specs.declared.Cursor.{Cursor}
 use Rattle.deck.specs.declared.Found.{Found}
+use Rattle.deck.specs.declared.Place.{Place}
+use Rattle.deck.specs.declared.Spot.{Spot}
 
 -- `next_statement`: the next statement from a cursor on, with the cursor behind it; or the end
 abbrev pub FindsNext : List ℕ → Cursor → Found → Type 0
@@ -34,3 +37,7 @@ CodesSize cards closed long r = r ≡ sizeCode cards closed long
 abbrev pub Joins : List ℕ → ℕ → ℕ → List ℕ → ℕ → List ℕ → Type 0
 Joins text start lines out r o =
     (r ≡ length (joined (cardsAt text start lines))) × (o ≡ sets out 0 (joined (cardsAt text start lines)))
+
+-- `find_spot`: where a place of the statement of so many lines from a start on stands
+abbrev pub FindsSpot : List ℕ → ℕ → ℕ → Place → Spot → Type 0
+FindsSpot text start lines place r = r ≡ spotOf (linesAt text start lines) place

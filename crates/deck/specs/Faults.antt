@@ -1,4 +1,5 @@
--- A statement's fault and its place, and the faults 11, 12 and 13.
+-- A statement's fault and where it is, and the faults 11, 12 and 13. A place is the statement's first byte (`AtStart`),
+-- the token whose first byte has this place in the joined text (`AtToken`), or the statement's end (`AtEnd`).
 use Prim.Native.Nat.{ℕ}
 use mathlib.Core.Bool.{Bool, false, cond, _||_}
 use mathlib.Core.List.{List, [], _∷_}
@@ -6,13 +7,8 @@ use lib.Dec.{ltb}
 use lib.ListN.{length}
 use Rattle.limits.specs.Limits.{mostCards, cardBytes}
 use Rattle.deck.specs.Lines.{Line}
-
--- where a fault is: at the statement's first byte; at the token whose first byte has this place in the joined text; at
--- the statement's end
-pub data Place : Type 0 where
-  at-start : Place
-  at-token : ℕ → Place
-  at-end : Place
+use Rattle.deck.specs.declared.Place.{Place}
+use Rattle.deck.specs.declared.Place.the-variants.{AtStart, AtEnd}
 
 -- at most one fault per statement: none, or a code and a place
 pub data Flaw : Type 0 where
@@ -28,5 +24,5 @@ anyLong (l ∷ ls) = ltb cardBytes (length l) || anyLong ls
 -- bytes; in this order. Comments among the lines are no cards
 unfoldable pub sizeFlaw : List Line → Bool → Flaw
 sizeFlaw cards closed =
-    cond closed (cond (ltb mostCards (length cards)) (flaw 12 at-start) (cond (anyLong cards) (flaw 13 at-start) none))
-    (flaw 11 at-end)
+    cond closed (cond (ltb mostCards (length cards)) (flaw 12 AtStart) (cond (anyLong cards) (flaw 13 AtStart) none))
+    (flaw 11 AtEnd)

@@ -4,7 +4,9 @@ pub mod Reading
 pub mod Reports
 pub mod Joined
 pub mod Faults
+pub mod Spots
 pub mod Later
+pub mod InPlace
 -- as code holds it
 pub mod Next
 pub mod Codes

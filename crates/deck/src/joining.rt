@@ -12,7 +12,7 @@ ghost use Rattle.deck.specs.Joined.{linePart};
 ghost use Rattle.deck.specs.Codes.{partBehind};
 
 // The length of a line's part.
-fn part_len(line: &[u8]) -> usize
+pub fn part_len(line: &[u8]) -> usize
     ensures { λ r. ⌜ r ≡ length (linePart (now (line .entry))) ⌝ }
 {
     let n = trim(line);

@@ -2,6 +2,7 @@
 mod counts;
 mod joining;
 mod lines;
+mod spots;
 mod statements;
 
 use counts::count_ends;
@@ -9,8 +10,10 @@ use joining::put_card;
 use lines::is_comment;
 use lines::is_passed;
 use lines::line_end;
+use spots::byte_spot;
+use spots::last_spot;
 use statements::run;
-ghost use Rattle.deck.specs.Contract.{FindsNext, CountsLines, CountsStatements, CodesSize, Joins};
+ghost use Rattle.deck.specs.Contract.{FindsNext, CountsLines, CountsStatements, CodesSize, Joins, FindsSpot};
 
 // Where the next line begins, and its number.
 pub struct Cursor {
@@ -143,4 +146,28 @@ pub fn join(text: &[u8], start: usize, lines: usize, out: &mut [u8]) -> usize
         }
     }
     w
+}
+
+// A place of a statement: its first byte; the token whose first byte has this place in the joined text; its end.
+pub enum Place {
+    AtStart,
+    AtToken(usize),
+    AtEnd,
+}
+
+// Where a place stands: so many lines below the statement's first, at a column from 1.
+pub struct Spot {
+    pub down: usize,
+    pub column: usize,
+}
+
+// Where a place of the statement of so many lines from a start on stands.
+pub fn find_spot(text: &[u8], start: usize, lines: usize, place: Place) -> Spot
+    ensures { λ r. ⌜ FindsSpot (now (text .entry)) start lines place r ⌝ }
+{
+    match place {
+        Place::AtStart => Spot { down: 0, column: 1 },
+        Place::AtToken(n) => byte_spot(text, start, lines, n),
+        Place::AtEnd => last_spot(text, start, lines),
+    }
 }

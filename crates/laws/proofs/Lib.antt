@@ -16,5 +16,6 @@ pub mod Gathers
 pub mod Bools
 pub mod Stores
 pub mod Every
+pub mod Pairs
 pub mod Chosen
 pub mod Compares

@@ -1,16 +1,16 @@
 -- Runs from a place on, one step at a time, for a loop that goes by an index and reads 0 past the end.
 use Prim.Native.Nat.{ℕ, zero-le, suc-le-suc, _+_, _≤_, _<_}
-use mathlib.Core.Path.{_≡_, refl, ap, _∙_}
-use mathlib.Core.Bool.{Bool, true, false}
-use mathlib.Core.List.{List, [], _∷_}
+use mathlib.Core.Path.{_≡_, refl, sym, ap, _∙_}
+use mathlib.Core.Bool.{Bool, true, false, cond}
+use mathlib.Core.List.{List, [], _∷_, _++_}
 use mathlib.Core.Logic.{⊎-elim}
 use native.Mathlib.Numerals.{add-one}
 use native.Mathlib.Omega.{arith}
 use borrow.Author.Tests.{eq-eqb}
 use lib.Dec.{eqb}
-use lib.ListN.{length, getD, drop, length-drop, drop-of-length-le, List·getD-eq-default}
+use lib.ListN.{length, getD, take, drop, length-drop, drop-of-length-le, List·getD-eq-default}
 use lib.Seq.{drop-cons}
-use Rattle.laws.specs.Runs.{frontRun}
+use Rattle.laws.specs.Runs.{frontRun, Apart}
 use Rattle.laws.proofs.Tests.{bool-cases, not-both, lt-or-ge, cond-ind}
 
 module _ (p : ℕ → Bool) (s : List ℕ) (i : ℕ) where
@@ -71,3 +71,36 @@ module _ (p : ℕ → Bool) where
 
       none : p x ≡ false → ⊥
       none t = let f : [] ≡ x ∷ xs = rw t at e in let z : _≡_ {A = ℕ} 0 1 = cc in omega arith
+
+  -- behind a run none begins
+  pub run-behind : (xs : List ℕ) → frontRun p (drop (length (frontRun p xs)) xs) ≡ []
+  unfolding frontRun
+  run-behind [] = refl
+  run-behind (x ∷ xs) = go (p x) refl (run-behind xs)
+    where
+      go : (b : Bool) → p x ≡ b → frontRun p (drop (length (frontRun p xs)) xs) ≡ []
+          → frontRun p (drop (length (cond b (x ∷ frontRun p xs) [])) (x ∷ xs)) ≡ []
+      go true e ih = ih
+      go false e ih = rw e
+
+  -- it is the front of its list
+  pub run-take : (xs : List ℕ) → take (length (frontRun p xs)) xs ≡ frontRun p xs
+  unfolding frontRun
+  run-take [] = refl
+  run-take (x ∷ xs) = go (p x) (run-take xs)
+    where
+      go : (b : Bool) → take (length (frontRun p xs)) xs ≡ frontRun p xs
+          → take (length (cond b (x ∷ frontRun p xs) [])) (x ∷ xs) ≡ cond b (x ∷ frontRun p xs) []
+      go true ih = ap (λ (l : List ℕ). x ∷ l) ih
+      go false ih = refl
+
+  -- what stands apart is no part of it, where a space does not pass
+  pub run-apart : p 32 ≡ false → (xs r : List ℕ) → Apart r → frontRun p (xs ++ r) ≡ frontRun p xs
+  unfolding frontRun
+  run-apart z [] r a = ⊎-elim (λ e. rw e) (λ e. rw (e .1, z)) a
+  run-apart z (x ∷ xs) r a = rw (run-apart z xs r a)
+
+  -- and reads as what does not pass
+  pub head-apart : p 0 ≡ false → p 32 ≡ false → (xs r : List ℕ) → Apart r → p (getD (xs ++ r) 0 0) ≡ p (getD xs 0 0)
+  head-apart o z [] r a = ⊎-elim (λ e. rw e) (λ e. rw (e .1) (z ∙ sym o)) a
+  head-apart o z (x ∷ xs) r a = refl

@@ -9,4 +9,5 @@ pub mod Places
 pub mod Put
 -- what theorems are stated with
 pub mod Every
+pub mod Pairs
 pub mod Agree

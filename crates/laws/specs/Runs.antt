@@ -1,8 +1,14 @@
--- The longest front part of a list whose members all pass a test.
+-- The longest front part of a list whose members all pass a test; and what stands apart from what is before it.
 use Prim.Native.Nat.{ℕ}
+use mathlib.Core.Path.{_≡_}
 use mathlib.Core.Bool.{Bool, cond}
 use mathlib.Core.List.{List, [], _∷_}
+use mathlib.Core.Logic.{_⊎_}
 
 unfoldable pub frontRun : (ℕ → Bool) → List ℕ → List ℕ
 frontRun p [] = []
 frontRun p (x ∷ xs) = cond (p x) (x ∷ frontRun p xs) []
+
+-- nothing, or a space and what follows
+abbrev pub Apart : List ℕ → Type 0
+Apart r = (r ≡ []) ⊎ ((t : List ℕ) × (r ≡ 32 ∷ t))

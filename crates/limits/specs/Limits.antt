@@ -5,7 +5,7 @@ use Prim.Native.Nat.{ℕ}
 
 -- verdict 1: the lent fault list is shorter
 abbrev pub faultRoom : ℕ
-faultRoom = 1024
+faultRoom = 2048
 
 -- verdict 2: the text has more bytes
 abbrev pub textBytes : ℕ
@@ -64,7 +64,7 @@ abbrev pub recordBytes : ℕ
 recordBytes = 16
 
 abbrev pub faultBytes : ℕ
-faultBytes = 4
+faultBytes = 8
 
 -- values and derivatives: a place for each slot, 0 to 255
 abbrev pub slots : ℕ

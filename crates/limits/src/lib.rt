@@ -1,7 +1,7 @@
 // The paper's limits, each named once. The definitions have the same names in specs/Limits.antt.
 
 // The verdict's limits.
-pub const FAULT_ROOM: usize = 1024;
+pub const FAULT_ROOM: usize = 2048;
 
 pub const TEXT_BYTES: usize = 16384;
 
@@ -31,7 +31,7 @@ pub const LEVELS: usize = 16;
 // The program's and the evaluator's limits.
 pub const RECORD_BYTES: usize = 16;
 
-pub const FAULT_BYTES: usize = 4;
+pub const FAULT_BYTES: usize = 8;
 
 pub const SLOTS: usize = 256;
 

@@ -1,6 +1,6 @@
 -- Faults read back from the bytes of a fault list.
 use Prim.Native.Nat.{ℕ, _+_, _*_, _^_, _≤_, _<_}
-use mathlib.Core.Path.{_≡_, sym, ap, ap₂, _∙_}
+use mathlib.Core.Path.{_≡_, refl, sym, ap, _∙_}
 use mathlib.Core.List.{List, [], _∷_, _++_, append-assoc}
 use native.Mathlib.Nat.{suc-mul}
 use native.Mathlib.Omega.{arith}
@@ -17,7 +17,7 @@ use Rattle.bits.specs.Low.{lowBytes, lowWord}
 use Rattle.bits.proofs.Lows.{length-low, word-bytes}
 use Rattle.records.specs.Record.{field}
 use Rattle.sheet.specs.Sheet.{Fault, faultEntry, faultList}
-use Rattle.listing_text.specs.Listing.{line2}
+use Rattle.listing_text.specs.Listing.{faultLine4}
 use Rattle.listing_text.specs.Written.{faultAt}
 use Rattle.model.proofs.NumbersBelow.{FaultBelow}
 
@@ -63,25 +63,39 @@ length-entry : (f : Fault) → length (faultEntry f) ≡ faultBytes
 unfolding faultEntry
 length-entry f = simp (length-append, length-low)
 
--- its line and code are read back
+-- its four numbers are read back
 fault-back : (list rest : List ℕ) (i : ℕ) (f : Fault) → drop (i * faultBytes) list ≡ faultEntry f ++ rest
-    → f .line < 65536
-    → faultAt list i ≡ line2 (f .line) (f .code)
+    → FaultBelow 65536 f
+    → faultAt list i ≡ faultLine4 f
 unfolding faultEntry
 fault-back list rest i f e h =
     let o = i * faultBytes in
-    let low = lowBytes 2 (f .line) in
-    let d : drop o list ≡ low ++ (f .code ∷ 0 ∷ rest) = e ∙ append-assoc low (f .code ∷ 0 ∷ []) rest in
-    let m = number-back list (f .code ∷ 0 ∷ rest) o 2 (f .line) d h in
-    let n = byte-back list (0 ∷ rest) (o + 2) (f .code)
-    (further list low (f .code ∷ 0 ∷ rest) o 2 d (length-low 2 (f .line))) in
-    ap₂ line2 m n
+    let first = lowBytes 2 (f .line) in
+    let third = lowBytes 2 (f .place) in
+    let last = lowBytes 2 (f .column) in
+    let behind-code = third ++ (last ++ rest) in
+    let at-line : drop o list ≡ first ++ (f .code ∷ 0 ∷ behind-code) = e ∙ simp append-assoc in
+    let at-code : drop (o + 2) list ≡ f .code ∷ 0 ∷ behind-code =
+    further list first (f .code ∷ 0 ∷ behind-code) o 2 at-line (length-low 2 (f .line)) in
+    let four : o + 2 + 2 ≡ o + 4 = omega arith in
+    let at-place : drop (o + 4) list ≡ behind-code =
+    rw four at (further list (f .code ∷ 0 ∷ []) behind-code (o + 2) 2 at-code refl) in
+    let six : o + 4 + 2 ≡ o + 6 = omega arith in
+    let at-column : drop (o + 6) list ≡ last ++ rest =
+    rw six at (further list third (last ++ rest) (o + 4) 2 at-place (length-low 2 (f .place))) in
+    rw (
+      number-back list (f .code ∷ 0 ∷ behind-code) o 2 (f .line) at-line (h .0),
+      byte-back list (0 ∷ behind-code) (o + 2) (f .code) at-code,
+      number-back list (last ++ rest) (o + 4) 2 (f .place) at-place (h .1),
+      number-back list rest (o + 6) 2 (f .column) at-column (h .2),
+    )
+    refl
 
 -- .. of each fault of a list
 pub faults-back : (fs : List Fault) (rest : List ℕ) → Every (FaultBelow 65536) fs
-    → gather (faultAt (faultList fs ++ rest)) (length fs) 0 ≡ concat-map (λ (f : Fault). line2 (f .line) (f .code)) fs
+    → gather (faultAt (faultList fs ++ rest)) (length fs) 0 ≡ concat-map faultLine4 fs
 unfolding faultList
 faults-back fs rest p =
-    gather-over (faultAt (faultList fs ++ rest)) (λ (f : Fault). line2 (f .line) (f .code)) fs
+    gather-over (faultAt (faultList fs ++ rest)) faultLine4 fs
     (λ a f b e. fault-back (faultList fs ++ rest) (faultList b ++ rest) (length a) f
     (rw e (row-at faultEntry faultBytes length-entry a f b rest)) (every-inside (FaultBelow 65536) a f b (rw e at p)))

@@ -1,4 +1,4 @@
--- Each verdict on a text is fair: no other is 0 than that with a program, and the lines of faults fit two bytes.
+-- Each verdict on a text is fair: no other is 0 than that with a program, and the numbers of faults fit two bytes.
 use Prim.Native.Nat.{ℕ, _/_, _<_}
 use mathlib.Core.Bool.{cond, _||_}
 use mathlib.Core.List.{List, [], _∷_}
@@ -23,7 +23,7 @@ use Rattle.translator.specs.Verdict.{decided, verdictOf}
 use Rattle.model.proofs.NumbersBelow.{ReportBelow, SaidBelow, FaultBelow, sheet-below, faults-below}
 use Rattle.model.proofs.NumbersBelow.{said-below, all-below}
 
--- a number that is not 0, and small lines; of a program nothing is asked
+-- a number that is not 0, and small numbers; of a program nothing is asked
 abbrev pub Fair : Decision → Type 0
 Fair (refused n) = 0 < n
 Fair (faulty n fs) = (0 < n) × Every (FaultBelow 65536) fs
@@ -70,6 +70,7 @@ fair text faults room =
     cond-ind Fair (ltb faults faultRoom) (refused 1) (cond (ltb textBytes (length text)) (refused 2) long)
     (λ _. lit< tt)
     (λ _. cond-ind Fair (ltb textBytes (length text)) (refused 2) long (λ _. lit< tt)
-    (λ _. cond-ind Fair many (refused 3) next (λ _. lit< tt)
+    (λ short. cond-ind Fair many (refused 3) next (λ _. lit< tt)
     (λ e. fair-sheet room (sheetOf text)
-    (sheet-below 65536 text (omega (arith, ltb-false textLines (length (linesOf text)) e))))))
+    (sheet-below 65536 text (omega (arith, ltb-false textLines (length (linesOf text)) e))
+    (omega (arith, ltb-false textBytes (length text) short))))))

@@ -14,7 +14,7 @@ use Rattle.laws.specs.Put.{Put}
 use Rattle.laws.proofs.Gathers.{Writes, gather-step}
 use Rattle.bits.specs.Low.{lowWord}
 use Rattle.records.specs.Record.{field}
-use Rattle.listing_text.specs.Listing.{figures, line, line2}
+use Rattle.listing_text.specs.Listing.{figures, line, line2, line4}
 use Rattle.listing_text.specs.Written.{detailAt, head, InReach}
 use Rattle.listing_text.proofs.Figures.{few-figures}
 
@@ -70,6 +70,19 @@ line-short n = omega (arith, few-figures n, length-append (figures n) (10 ∷ []
 pair-short : (m n : ℕ) → length (line2 m n) ≤ m + n + 4
 pair-short m n = omega (arith, few-figures m, line-short n, length-append (figures m) (32 ∷ line n))
 
+-- a line of four
+four-short : (k l m n : ℕ) → length (line4 k l m n) ≤ k + l + m + n + 8
+four-short k l m n =
+    let rest = figures l ++ (32 ∷ line2 m n) in
+    omega (
+      arith,
+      few-figures k,
+      few-figures l,
+      pair-short m n,
+      length-append (figures k) (32 ∷ rest),
+      length-append (figures l) (32 ∷ line2 m n),
+    )
+
 -- a row of short parts
 gather-within : (f : ℕ → List ℕ) (m : ℕ) → ((i : ℕ) → length (f i) ≤ m) → (k i : ℕ) → length (gather f k i) ≤ k * m
 unfolding gather
@@ -78,17 +91,23 @@ gather-within f m h (suc k) i =
     rw (suc-mul k m) (omega (arith, h i, gather-within f m h k (suc i), length-append (f i) (gather f k (suc i))))
 
 -- the line of a statement, and of a fault
-detail-short : (ok : Bool) (o l : List ℕ) → Shorts o → Bytes l → (i : ℕ) → length (detailAt ok o l i) ≤ 65796
+detail-short : (ok : Bool) (o l : List ℕ) → Shorts o → Bytes l → (i : ℕ) → length (detailAt ok o l i) ≤ 196871
 detail-short true o l s b i = omega (arith, line-short (getD o i 0), s i)
 detail-short false o l s b i =
-    let m = field-small l (i * faultBytes) 2 b in
-    let n = field-small l (i * faultBytes + 2) 1 b in
-    omega (arith, pair-short (field l (i * faultBytes) 2) (field l (i * faultBytes + 2) 1))
+    let at = i * faultBytes in
+    omega (
+      arith,
+      field-small l at 2 b,
+      field-small l (at + 2) 1 b,
+      field-small l (at + 4) 2 b,
+      field-small l (at + 6) 2 b,
+      four-short (field l at 2) (field l (at + 2) 1) (field l (at + 4) 2) (field l (at + 6) 2),
+    )
 
 -- REACH: the first line, with no more than the most records, and as many lines behind it
 pub listing-reach : (ok : Bool) (a b n count : ℕ) (o l : List ℕ) → n ≤ mostRecords → count ≤ mostRecords → Shorts o
     → Bytes l
     → InReach (head a b n ++ gather (detailAt ok o l) count 0) 0
 listing-reach ok a b n count o l h few shorts bytes =
-    let g = gather-within (detailAt ok o l) 65796 (detail-short ok o l shorts bytes) count 0 in
+    let g = gather-within (detailAt ok o l) 196871 (detail-short ok o l shorts bytes) count 0 in
     omega (arith, line-short n, length-append (head a b n) (gather (detailAt ok o l) count 0))

@@ -1,4 +1,5 @@
--- The listing: the verdict on a line, then the first line of each ordered statement, or line and code of each fault.
+-- The listing: the verdict on a line, then the first line of each ordered statement, or of each fault line and code,
+-- and line and column of its place.
 use Prim.Native.Nat.{ℕ, zero, suc, _+_, _/_, _%_}
 use mathlib.Core.Bool.{cond}
 use mathlib.Core.List.{List, [], _∷_, _++_}
@@ -21,18 +22,24 @@ figuresIn (suc f) n =
 abbrev pub figures : ℕ → List ℕ
 figures n = figuresIn (suc n) n
 
--- a line of one number, and of two with a space between, each closed by byte 10
+-- a line of one number, and of four with a space between, each closed by byte 10
 abbrev pub line : ℕ → List ℕ
 line n = figures n ++ (10 ∷ [])
 
 abbrev pub line2 : ℕ → ℕ → List ℕ
 line2 m n = figures m ++ (32 ∷ line n)
 
--- OK and the record count, then the first line of each ordered statement; otherwise NO and the number, then line and
--- code of each fault
+abbrev pub line4 : ℕ → ℕ → ℕ → ℕ → List ℕ
+line4 k l m n = figures k ++ (32 ∷ (figures l ++ (32 ∷ line2 m n)))
+
+-- line and code of a fault, line and column of its place
+abbrev pub faultLine4 : Fault → List ℕ
+faultLine4 f = line4 (f .line) (f .code) (f .place) (f .column)
+
+-- OK and the record count, then the first line of each ordered statement; otherwise NO and the number, then the faults
 unfoldable pub listingOf : Decision → List ℕ
 listingOf (refused n) = bytes "NO " ++ line n
-listingOf (faulty n fs) = bytes "NO " ++ (line n ++ concat-map (λ (f : Fault). line2 (f .line) (f .code)) fs)
+listingOf (faulty n fs) = bytes "NO " ++ (line n ++ concat-map faultLine4 fs)
 listingOf (translated rs ls) = bytes "OK " ++ (line (length rs) ++ concat-map line ls)
 
 -- the listing program lends faultRoom and programRoom bytes

@@ -9,11 +9,13 @@ use Rattle.limits.specs.Limits.{faultBytes}
 use Rattle.laws.specs.Text.{bytes}
 use Rattle.laws.specs.Places.{gather}
 use Rattle.records.specs.Record.{field}
-use Rattle.listing_text.specs.Listing.{line, line2}
+use Rattle.listing_text.specs.Listing.{line, line4}
 
--- line and code of fault i of a list
+-- line and code of fault i of a list, line and column of its place
 abbrev pub faultAt : List ℕ → ℕ → List ℕ
-faultAt list i = line2 (field list (i * faultBytes) 2) (field list (i * faultBytes + 2) 1)
+faultAt list i =
+    let o = i * faultBytes in
+    line4 (field list o 2) (field list (o + 2) 1) (field list (o + 4) 2) (field list (o + 6) 2)
 
 -- the first line of ordered statement i
 abbrev pub orderedAt : List ℕ → ℕ → List ℕ

@@ -7,7 +7,7 @@ ghost use Rattle.laws.specs.Places.{gather};
 ghost use Rattle.laws.specs.Put.{Put};
 ghost use Rattle.records.specs.Record.{field};
 ghost use Rattle.translator.specs.Contract.{numberIn, countIn};
-ghost use Rattle.listing_text.specs.Listing.{figures, line, line2};
+ghost use Rattle.listing_text.specs.Listing.{figures, line, line2, line4};
 ghost use Rattle.listing_text.specs.Contract.{Lists};
 ghost use Rattle.listing_text.specs.Written.{faultAt, head, detailAt, written, InReach};
 use bits::reads::short_at;
@@ -63,6 +63,18 @@ fn put_pair(m: u64, n: u64, out: &mut [u8], at: usize) -> usize
     put_line(n, out, second)
 }
 
+// Writes a line of four numbers.
+fn put_row(k: u64, l: u64, m: u64, n: u64, out: &mut [u8], at: usize) -> usize
+    requires { ⌜ InReach (line4 k l m n) at ⌝ }
+    ensures { λ r. ⌜ Put (line4 k l m n) at r (now (out .entry)) (now (out .exit)) ⌝ }
+{
+    let gap = put_figures(k, &mut *out, at);
+    let second = put_byte(32, &mut *out, gap);
+    let next = put_figures(l, &mut *out, second);
+    let third = put_byte(32, &mut *out, next);
+    put_pair(m, n, out, third)
+}
+
 // Writes the first line: two letters, a space and a number.
 fn put_head(a: u8, b: u8, n: u64, out: &mut [u8]) -> usize
     requires { ⌜ InReach (head a b n) 0 ⌝ }
@@ -86,16 +98,20 @@ fn low_at(s: &[u8], at: usize, n: usize) -> u64
     bits::get_low(&s[at..], n)
 }
 
-// Writes line and code of a fault.
+// Writes line and code of a fault, line and column of its place.
 fn put_fault_line(list: &[u8], i: usize, out: &mut [u8], at: usize) -> usize
     requires { ⌜ (i < mostRecords) × InReach (faultAt (now list) i) at ⌝ }
     ensures { λ r. ⌜ Put (faultAt (now (list .entry)) i) at r (now (out .entry)) (now (out .exit)) ⌝ }
 {
     let o = i * FAULT_BYTES;
-    put_pair(low_at(list, o, 2), low_at(list, o + 2, 1), out, at)
+    let line = low_at(list, o, 2);
+    let code = low_at(list, o + 2, 1);
+    let place = low_at(list, o + 4, 2);
+    let column = low_at(list, o + 6, 2);
+    put_row(line, code, place, column, out, at)
 }
 
-// Writes the first line of an ordered statement, or else line and code of a fault.
+// Writes the first line of an ordered statement, or else the line of a fault.
 fn put_detail(ok: bool, ordered: &[u16], list: &[u8], i: usize, out: &mut [u8], at: usize) -> usize
     requires { ⌜ (i < mostRecords) × InReach (detailAt ok (now ordered) (now list) i) at ⌝ }
     ensures { λ r. ⌜ Put (detailAt ok (now (ordered .entry)) (now (list .entry)) i) at r (now (out .entry))

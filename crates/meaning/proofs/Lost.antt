@@ -15,6 +15,7 @@ use Rattle.laws.proofs.Members.{at-in}
 use Rattle.laws.proofs.Tests.{not-both, eq-or-ne}
 use Rattle.laws.proofs.Every.{every-map}
 use Rattle.laws.proofs.Counts.{count-append, once-same, once-other}
+use Rattle.deck.specs.declared.Spot.{Spot}
 use Rattle.drafts.specs.Kinds.{kindConstant, kindInitial, kindStore, kindRate, kindAgain}
 use Rattle.drafts.specs.Tree.{Tree, Constant, Initial}
 use Rattle.sheet.specs.Sheet.{Told, says, faulty, Sheet, saidBy, said, faultBy, statementFaults}
@@ -54,7 +55,7 @@ unfolding concat-map
 all-taken [] e = refl
 all-taken (r ∷ rs) e = go (r .what) e (all-taken rs)
   where
-    go : (t : Told) → faultBy (r .line) t ++ statementFaults rs ≡ []
+    go : (t : Told Spot) → faultBy (r .line) t ++ statementFaults rs ≡ []
         → (statementFaults rs ≡ [] → rs ≡ map reported (said rs))
         → record { line = r .line; what = t } ∷ rs ≡ map reported (saidBy (r .line) t ++ said rs)
     go (says x) e f = ap (λ z. record { line = r .line; what = says x } ∷ z) (f e)

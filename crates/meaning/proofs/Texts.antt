@@ -14,6 +14,7 @@ use Rattle.deck.specs.Reading.{Statement, cardsOf, fresh, reading}
 use Rattle.deck.specs.Reports.{Report, report}
 use Rattle.deck.specs.Joined.{joined}
 use Rattle.deck.specs.Faults.{Flaw, none, flaw, sizeFlaw}
+use Rattle.deck.specs.declared.Spot.{Spot}
 use Rattle.tokens.specs.Symbol.{Symbol, mark, number, name, word}
 use Rattle.tokens.specs.Row.{Close, all-good, bad, rowOf, symbols}
 use Rattle.tokens.proofs.Rows.{Fine, symbols-fine}
@@ -26,8 +27,8 @@ use Rattle.grammar.proofs.Accepts.{accepts}
 use Rattle.drafts.specs.Items.{peak, peakOf}
 use Rattle.grammar.proofs.Stack.{suffices}
 use Rattle.sheet.specs.Sheet.{Told, says, faulty, Numbered, saidBy, said}
-use Rattle.sheet.specs.Reader.{scanned, sized, told, sheetOf}
-use Rattle.sheet.proofs.StatementMeans.{parsed-says}
+use Rattle.sheet.specs.Reader.{scanned, sized, cardsTold, told, sheetOf}
+use Rattle.sheet.proofs.StatementMeans.{parsed-says, told-says}
 use Rattle.blocks.specs.Units.{Single, constants, assignment, state, Sets, given, own, anew, Inner, UnitBody, single}
 use Rattle.blocks.specs.Units.{block, TextUnit, closing, Stated, stated, statedInner, statedBy, Equation, OrderUnit}
 use Rattle.blocks.specs.Units.{innerEquation, orderUnitOf, orderUnits}
@@ -72,16 +73,18 @@ sized-fits none s x e = scanned-fits s (rowOf s .close) x e
 sized-fits (flaw c p) s x e = clash (cc)
 
 -- what a statement says fits
-told-fits : (cards : List Line) (closed : Bool) (x : Says) → told cards closed ≡ says x → Fits x
-unfolding told
-told-fits cards closed x e = sized-fits (sizeFlaw cards closed) (joined cards) x e
+told-fits : (lines : List Line) (closed : Bool) (x : Says) → told lines closed ≡ says x → Fits x
+unfolding cardsTold
+told-fits lines closed x e =
+    let cards = cardsOf lines in
+    sized-fits (sizeFlaw cards closed) (joined cards) x (told-says lines closed x e)
 
 -- what is told in a report
-abbrev Reported : Report Told → Type 0
+abbrev Reported : Report (Told Spot) → Type 0
 Reported r = (x : Says) → r .what ≡ says x → Fits x
 
 -- what is told and has no fault fits
-said-fits : (l : ℕ) (t : Told) → ((x : Says) → t ≡ says x → Fits x)
+said-fits : (l : ℕ) (t : Told Spot) → ((x : Says) → t ≡ says x → Fits x)
     → Every (λ (s : Numbered). Fits (s .says)) (saidBy l t)
 said-fits l (says x) f = (f x refl, tt)
 said-fits l (faulty c p) f = tt
@@ -90,10 +93,10 @@ said-fits l (faulty c p) f = tt
 text-fits : (text : List ℕ) → Every (λ (s : Numbered). Fits (s .says)) (said (sheetOf text))
 unfolding sheetOf
 text-fits text =
-    every-concat Reported (λ (s : Numbered). Fits (s .says)) (λ (r : Report Told). saidBy (r .line) (r .what))
+    every-concat Reported (λ (s : Numbered). Fits (s .says)) (λ (r : Report (Told Spot)). saidBy (r .line) (r .what))
     (λ r f. said-fits (r .line) (r .what) f) (sheetOf text)
     (every-mapped (λ (s : Statement). Unit {0}) Reported (report told)
-    (λ s _ x e. told-fits (cardsOf (s .lines)) (s .closed) x e)
+    (λ s _ x e. told-fits (s .lines) (s .closed) x e)
     (reading fresh 1 (linesOf text))
     (every-all (λ (s : Statement). Unit {0}) (λ s. tt) (reading fresh 1 (linesOf text))))
 

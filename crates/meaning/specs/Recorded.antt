@@ -11,6 +11,7 @@ use Rattle.laws.specs.Every.{Every}
 use Rattle.deck.specs.Lines.{linesOf}
 use Rattle.deck.specs.Reading.{fresh, reading}
 use Rattle.deck.specs.Reports.{Report, report}
+use Rattle.deck.specs.declared.Spot.{Spot}
 use Rattle.drafts.specs.Items.{postfix}
 use Rattle.drafts.specs.Kinds.{kindConstant, kindInitial, kindStore, kindRate, kindAgain}
 use Rattle.drafts.specs.Tree.{Tree, Constant, Initial}
@@ -169,7 +170,7 @@ pub record MadeOf (us : List TextUnit) (rs : List Rec) : Type 0 where
       ++ concat-map (λ (i : ℕ). stepsFrom slot (equatingAt us i .line) (equatingAt us i .body)) q)
 
 -- a statement without fault as the sheet has it
-abbrev pub reported : Numbered → Report Told
+abbrev pub reported : Numbered → Report (Told Spot)
 reported s = record { line = s .line; what = says (s .says) }
 
 -- NOTHING IS LOST of a text: for each statement of the reading there is what it says, and no other; each unit of these

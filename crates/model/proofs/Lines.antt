@@ -10,6 +10,7 @@ use Rattle.deck.specs.Lines.{linesOf}
 use Rattle.deck.specs.Reading.{Statement, fresh, reading}
 use Rattle.deck.specs.Reports.{Report, report}
 use Rattle.deck.proofs.Rising.{firsts, reading-rises}
+use Rattle.deck.specs.declared.Spot.{Spot}
 use Rattle.drafts.specs.Tree.{Says, constants as constantsSaid, assignment as assignmentSaid, state as stateSaid}
 use Rattle.drafts.specs.Tree.{header, ending}
 use Rattle.sheet.specs.Sheet.{Told, says, faulty, Sheet, Numbered, said}
@@ -34,16 +35,17 @@ orderLines os = map (λ (o : OrderUnit). o .line) os
 
 -- ---- from the reading to the sheet and to the statements without fault
 sheet-rises : (b : ℕ) (ss : List Statement) → Rising b (firsts ss)
-    → Rising b (map (λ (r : Report Told). r .line) (map (report told) ss))
+    → Rising b (map (λ (r : Report (Told Spot)). r .line) (map (report told) ss))
 sheet-rises b [] r = tt
 sheet-rises b (s ∷ ss) r = (r .0, sheet-rises (suc (s .first)) ss (r .1))
 
-said-rises : (b : ℕ) (rs : Sheet) → Rising b (map (λ (r : Report Told). r .line) rs) → Rising b (numbersOf (said rs))
+said-rises : (b : ℕ) (rs : Sheet) → Rising b (map (λ (r : Report (Told Spot)). r .line) rs)
+    → Rising b (numbersOf (said rs))
 unfolding concat-map
 said-rises b [] h = tt
 said-rises b (r ∷ rs) h = go (r .what) (said-rises (suc (r .line)) rs (h .1))
   where
-    go : (t : Told) → Rising (suc (r .line)) (numbersOf (said rs))
+    go : (t : Told Spot) → Rising (suc (r .line)) (numbersOf (said rs))
         → Rising b (numbersOf (said (record { line = r .line; what = t } ∷ rs)))
     go (says x) k = (h .0, k)
     go (faulty c p) k = rising-le (suc (r .line)) b (numbersOf (said rs)) k (omega (arith, h .0))

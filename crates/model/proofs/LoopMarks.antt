@@ -19,7 +19,7 @@ use Rattle.blocks.specs.Tests.{faultIf}
 use Rattle.model.specs.Places.{loops}
 use Rattle.blocks.specs.Working.{Reported}
 use Rattle.model.specs.Working.{Marked, unmarkedAt, unmarked}
-use Rattle.model.proofs.FaultsListed.{if-length}
+use Rattle.blocks.proofs.FaultsListed.{if-length}
 
 -- the first k that are placed are marked
 pub record Marking (placed : List ℕ) (k : ℕ) (marks : List ℕ) : Type 0 where

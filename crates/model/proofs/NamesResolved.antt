@@ -21,7 +21,7 @@ use Rattle.drafts.specs.Kinds.{kindConstant, kindFrom, defines, isUse, asks, is
 use Rattle.drafts.specs.Places.{homeOf, begins, ends, anyOf}
 use Rattle.model.specs.Places.{resolvedAt, resolved, unknown, undefinedAt, unfitAt, namesAt}
 use Rattle.model.specs.Working.{flawedBy, flawedAt, Resolved, Resolving, nameFlaw}
-use Rattle.model.proofs.FaultsListed.{if-length}
+use Rattle.blocks.proofs.FaultsListed.{if-length}
 
 -- ---- tests one after the other
 or-true-right : (a : Bool) {b : Bool} → b ≡ true → (a || b) ≡ true

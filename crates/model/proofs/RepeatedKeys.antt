@@ -22,7 +22,7 @@ use Rattle.drafts.specs.Kinds.{defines}
 use Rattle.drafts.specs.Places.{begins, ends}
 use Rattle.model.specs.Places.{definedAt, keysIn, placesIn, doubleAt, doubles}
 use Rattle.model.specs.Working.{before, repeats, repeatAt, repeated, Rises}
-use Rattle.model.proofs.FaultsListed.{if-length}
+use Rattle.blocks.proofs.FaultsListed.{if-length}
 
 -- ---- how many places in front are below an end
 pub before-le : (e : ℕ) (l : List ℕ) → before e l ≤ length l

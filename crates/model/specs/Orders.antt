@@ -6,8 +6,7 @@ use mathlib.Core.Logic.{_↔_}
 use mathlib.Core.List.{List, map}
 use Rattle.laws.specs.Counts.{_∈_}
 use Rattle.laws.specs.Rising.{Rising}
-use Rattle.deck.specs.Faults.{at-start}
-use Rattle.sheet.specs.Sheet.{Fault}
+use Rattle.sheet.specs.Sheet.{Fault, faultAtFirst}
 use Rattle.order.specs.Order.{_≼_, Unsortable}
 use Rattle.blocks.specs.Units.{TextUnit}
 use Rattle.model.specs.Definitions.{unitCount}
@@ -20,7 +19,7 @@ NoOrder us = (q : List ℕ) → GoodOrder us q → ⊥
 
 -- a fault 24 at unit i, of a block at its header
 abbrev pub loopFault : List TextUnit → ℕ → Fault
-loopFault us i = record { line = lineAt us i; code = 24; place = at-start }
+loopFault us i = faultAtFirst (lineAt us i) 24
 
 -- the faults are a 24 at each unit from which a chain of n + 1 starts, and at no other, in text order and each
 -- once

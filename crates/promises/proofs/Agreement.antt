@@ -44,10 +44,12 @@ deck =
       statement-count = of-deck.statement-count;
       size-code = of-deck.size-code;
       join = of-deck.join;
+      find-spot = of-deck.find-spot;
     }
 
 pub tokens : Tokens
-tokens = record { take-cut = of-tokens.take-cut; row = of-tokens.row }
+tokens =
+    record { take-cut = of-tokens.take-cut; row = of-tokens.row; token-place = of-tokens.token-place }
 
 pub drafts : Drafts
 drafts =

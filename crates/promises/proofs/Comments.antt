@@ -1,5 +1,5 @@
--- Comments change nothing: the sheet of a text with a comment more is that of the text, its line numbers moved, and so
--- is all that is made of it.
+-- Comments change nothing: what a text with a comment more says, and its faults, are those of the text, line numbers
+-- moved, and so is all that is made of them.
 use Prim.Native.Nat.{ℕ, zero-le}
 use mathlib.Core.Path.{_≡_, refl, sym, ap, ap₂, _∙_, _≡⟨_⟩_, _∎}
 use mathlib.Core.List.{List, [], _∷_, _++_, map, append-nil}
@@ -10,10 +10,10 @@ use Rattle.deck.specs.Lines.{Line, linesOf}
 use Rattle.deck.specs.Later.{lineMoved}
 use Rattle.deck.proofs.Comments.{moved-stays}
 use Rattle.deck.proofs.Cutting.{lines-append, lines-lacking, lines-whole}
-use Rattle.sheet.specs.Sheet.{Numbered, said, statementFaults}
+use Rattle.sheet.specs.Sheet.{Numbered, said}
 use Rattle.sheet.specs.Reader.{sheetOf}
 use Rattle.sheet.specs.Numbers.{renumberFault}
-use Rattle.sheet.proofs.Numbers.{renumberNumbered, faults-renumbered, said-renumbered}
+use Rattle.sheet.proofs.Numbers.{renumberNumbered}
 use Rattle.sheet.proofs.Comments.{sheet-commented}
 use Rattle.blocks.specs.Units.{TextUnit}
 use Rattle.blocks.specs.Members.{unitsOf}
@@ -43,14 +43,14 @@ unchanged pre c post a b w f p ok-a ok-b =
     let zero = moved-stays (length pre) 0 zero-le in
     let sheet = sheet-commented pre c post a b (w .without) (w .with) (w .comment) in
     let ss = said (sheetOf a) in
-    let said-moved = ap said sheet ∙ said-renumbered move (sheetOf a) in
+    let said-moved = sheet .all-said in
     let verdict = verdict-renumbered move zero a b sheet f p ok-a ok-b in
     let us = textUnits a in
     let sorted : List TextUnit → List Rec = λ (v : List TextUnit). program v (orderOf v) in
     record {
       number = ap numberOf verdict ∙ number-kept move (verdictOf a f p);
       count = ap countOf verdict ∙ count-kept move (verdictOf a f p);
-      statement-faults = ap statementFaults sheet ∙ faults-renumbered move (sheetOf a);
+      statement-faults = sheet .all-faults;
       model-faults = ap modelFaultsIn said-moved ∙ faults-in-renumbered move zero ss;
       records =
           recordsOf b ≡⟨ ap (λ (ss : List Numbered). sorted (unitsOf ss)) said-moved ⟩

@@ -15,7 +15,7 @@ pub means : (row : List Symbol) → Means row
 means = lower.means
 
 -- WHAT A STATEMENT MEANS
-pub statement-means : (cards : List Line) (closed : Bool) → StatementMeans cards closed
+pub statement-means : (lines : List Line) (closed : Bool) → StatementMeans lines closed
 statement-means = sheets.statement-means
 
 -- THE EXCEPTION stands: as many openings as levels and then a function's name begin a statement with one level more,

@@ -3,6 +3,7 @@ pub mod Demand1
 pub mod Demand2
 pub mod Demand3
 pub mod Comments
+pub mod InPlace
 pub mod Grammar
 pub mod Words
 pub mod Stack

@@ -13,6 +13,7 @@ use Rattle.deck.specs.Lines.{linesOf, trimmed, dotted, passed}
 use Rattle.deck.specs.Reading.{cardsOf, after, ended, left, reading}
 use Rattle.deck.specs.Joined.{linePart, joined}
 use Rattle.deck.specs.Faults.{anyLong, sizeFlaw}
+use Rattle.deck.specs.Spots.{byteSpot, lastSpot}
 use Rattle.tokens.specs.Number.{decimal, digitsFrom, exponentFrom, tenTo, scaled, rangedNumber as tokenOf}
 use Rattle.tokens.specs.Token.{numberCut, nameAt, tokenAt, cutAt}
 use Rattle.tokens.specs.Symbol.{lookUp, symbolNamed}
@@ -22,7 +23,7 @@ use Rattle.drafts.specs.Items.{postfix}
 use Rattle.grammar.specs.Look.{next, rest, byteOf, give-to, factorStart, startOf}
 use Rattle.grammar.specs.Parser.{bind, parse, signedNumber, many, initially, assigned, integrated, manyNames, headed}
 use Rattle.grammar.specs.Parser.{statement, entire, readRow}
-use Rattle.sheet.specs.Reader.{told, sheetOf}
+use Rattle.sheet.specs.Reader.{cardsTold, told, sheetOf}
 use Rattle.order.specs.Order.{any, chained}
 use Rattle.order.specs.Greedy.{all, first, ready, leastReady, place, order}
 use Rattle.model.specs.Definitions.{placeIn}
@@ -40,7 +41,7 @@ use Rattle.promises.specs.Table.{Trial, trials, shown, wanted, tank, dec
 -- THE TABLE. Each text has the verdict and the listing that stand beside it
 pub tried : map shown trials ≡ map wanted trials
 unfolding trials listing listingOf figuresIn verdictOf decided linesOf trimmed dotted passed cardsOf after ended left
-    reading linePart joined anyLong sizeFlaw told sheetOf
+    reading linePart joined anyLong sizeFlaw byteSpot lastSpot cardsTold told sheetOf
     concat-map sameBytes numbers frontRun count lowWord decimal digitsFrom exponentFrom tenTo scaled tokenOf numberCut
     nameAt tokenAt cutAt
     lookUp symbolNamed rowFrom rowOf
@@ -61,7 +62,7 @@ pub computed : (heightOf (verdictOf deck faultRoom programRoom) ≡ stackPlaces)
     × (numberFor (bytes tank) ≡ 0) × Plain (bytes tank)
     × (numberFor loop ≡ 7) × Plain loop
 unfolding highest verdictOf decided linesOf trimmed dotted passed cardsOf after ended left reading linePart joined
-    anyLong sizeFlaw told sheetOf concat-map
+    anyLong sizeFlaw cardsTold told sheetOf concat-map
     sameBytes numbers frontRun count lowWord decimal digitsFrom exponentFrom tenTo scaled tokenOf numberCut
     nameAt tokenAt cutAt
     lookUp symbolNamed rowFrom rowOf names

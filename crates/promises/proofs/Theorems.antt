@@ -55,12 +55,14 @@ use Rattle.promises.specs.Table.{numberFor}
 use Rattle.promises.specs.Demand2.{Decided, DecidedFor}
 use Rattle.promises.specs.Demand3.{Change, Local, LocalFor}
 use Rattle.promises.specs.Comments.{Commented, Unchanged, UnchangedFor}
+use Rattle.promises.specs.InPlace.{InPlace}
 use Rattle.promises.specs.Agreement as agree
 use Rattle.promises.proofs.Table as table
 use Rattle.promises.proofs.Demand1 as demand-one
 use Rattle.promises.proofs.Demand2 as demand-two
 use Rattle.promises.proofs.Demand3 as demand-three
 use Rattle.promises.proofs.Comments as comments
+use Rattle.promises.proofs.InPlace as places
 use Rattle.promises.proofs.Grammar as rows
 use Rattle.promises.proofs.Words as words
 use Rattle.promises.proofs.WallLoss as wall
@@ -190,12 +192,17 @@ pub comment-last : (c : List ℕ) → Every (λ (x : ℕ). x ≡ 10 → ⊥) c �
     ((x ++ (last ∷ [])) ++ (10 ∷ ((42 ∷ c) ++ (10 ∷ []))))
 comment-last = comments.comment-last
 
+-- ---- the place is in the statement
+
+pub in-place : (text : List ℕ) → InPlace text
+in-place = places.in-place
+
 -- ---- the grammar
 
 pub means : (row : List Symbol) → Means row
 means = rows.means
 
-pub statement-means : (cards : List Line) (closed : Bool) → StatementMeans cards closed
+pub statement-means : (lines : List Line) (closed : Bool) → StatementMeans lines closed
 statement-means = rows.statement-means
 
 pub exception : Front (suc levels) (deepest levels) × (Front levels (deepest levels) → ⊥)

@@ -8,8 +8,9 @@ use Rattle.laws.specs.Agree.{Agree, Agree2, Agree3, Agree4, Agree5}
 use Rattle.bits.specs.Contract.{Widens, Indexes, ReadsByte, ReadsShort, ReadsWord, TakesLeast, LeavesRoom, GetsLow}
 use Rattle.bits.specs.Contract.{PutsLow, PutsEight, GivesFloat, GivesBits}
 use Rattle.deck.specs.declared.Cursor.{Cursor}
-use Rattle.deck.specs.Contract.{FindsNext, CountsLines, CountsStatements, CodesSize, Joins}
-use Rattle.tokens.specs.Contract.{TakesCut, WritesRow}
+use Rattle.deck.specs.declared.Place.{Place}
+use Rattle.deck.specs.Contract.{FindsNext, CountsLines, CountsStatements, CodesSize, Joins, FindsSpot}
+use Rattle.tokens.specs.Contract.{TakesCut, WritesRow, PlacesToken}
 use Rattle.drafts.specs.Contract.{WhetherDefining, WhetherUse, WhetherAsking, WhetherNamed, WhetherClosing}
 use Rattle.drafts.specs.Contract.{CountsDraft, FindsHome}
 use Rattle.grammar.specs.Contract.{ParsesRow}
@@ -50,11 +51,13 @@ pub record Deck : Type 0 where
   pub statement-count : (text : List ℕ) → Agree (CountsStatements text)
   pub size-code : (cards : ℕ) (closed long : Bool) → Agree (CodesSize cards closed long)
   pub join : (text : List ℕ) (start cards : ℕ) (out : List ℕ) → Agree2 (Joins text start cards out)
+  pub find-spot : (text : List ℕ) (start lines : ℕ) (place : Place) → Agree (FindsSpot text start lines place)
 
 -- tokens
 pub record Tokens : Type 0 where
   pub take-cut : (body : List ℕ) (from : ℕ) → Agree (TakesCut body from)
   pub row : (body kinds args : List ℕ) → Agree3 (WritesRow body kinds args)
+  pub token-place : (body : List ℕ) (i : ℕ) → Agree (PlacesToken body i)
 
 -- what the kind of a draft is for, and where a slot is defined
 pub record Drafts : Type 0 where
@@ -82,7 +85,8 @@ pub record Records : Type 0 where
 
 -- a fault listed
 pub record Sheets : Type 0 where
-  pub put-fault : (list : List ℕ) (count line code : ℕ) → Agree (PutsFault list count line code)
+  pub put-fault : (list : List ℕ) (count line code place column : ℕ)
+      → Agree (PutsFault list count line code place column)
 
 -- statements grouped
 pub record Blocks : Type 0 where

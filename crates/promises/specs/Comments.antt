@@ -24,8 +24,8 @@ pub record Commented (pre : List Line) (c : Line) (post : List Line) (a b : List
   pub comment : starred c ≡ true
 
 -- COMMENTS CHANGE NOTHING. f and p bytes are lent for either text, and n lines stand before the comment: the verdict's
--- number and its count are the same; each fault has the same code and place at its line, moved by the comment if that
--- stands in front of it; the records are the same but for the line fields, moved alike
+-- number and its count are the same; each fault has the same code and column, its line and that of its place moved by
+-- the comment if that stands in front of them; the records are the same but for the line fields, moved alike
 pub record Unchanged (n : ℕ) (a b : List ℕ) (f p : ℕ) : Type 0 where
   pub number : numberOf (verdictOf b f p) ≡ numberOf (verdictOf a f p)
   pub count : countOf (verdictOf b f p) ≡ countOf (verdictOf a f p)

@@ -3,4 +3,5 @@ pub mod Table
 pub mod Demand2
 pub mod Demand3
 pub mod Comments
+pub mod InPlace
 pub mod Agreement

@@ -5,5 +5,6 @@ use mathlib.Core.List.{List}
 use Rattle.laws.specs.Agree.{Agree}
 use Rattle.sheet.specs.Contract.{PutsFault}
 
-pub put-fault : (list : List ℕ) (count line code : ℕ) → Agree (PutsFault list count line code)
-put-fault list count line code l m p q = p ∙ sym q
+pub put-fault : (list : List ℕ) (count line code place column : ℕ)
+    → Agree (PutsFault list count line code place column)
+put-fault list count line code place column l m p q = p ∙ sym q

@@ -7,5 +7,7 @@ use Rattle.limits.specs.Limits.{faultBytes}
 use Rattle.sheet.specs.Sheet.{entryOf}
 
 -- `put_fault`: the bytes of a fault stand behind so many others, as far as there is room; the other bytes are as lent
-abbrev pub PutsFault : List ℕ → ℕ → ℕ → ℕ → List ℕ → Type 0
-PutsFault list count line code l = l ≡ sets list (faultBytes * count) (entryOf line code)
+abbrev pub PutsFault : List ℕ → ℕ → ℕ → ℕ → ℕ → ℕ → List ℕ → Type 0
+PutsFault list count line code place column l =
+    l ≡ sets list (faultBytes * count)
+    (entryOf (record { line = line; code = code; place = place; column = column }))

@@ -6,6 +6,7 @@ use mathlib.Core.List.{List, map}
 use Rattle.deck.specs.Lines.{Line, linesOf}
 use Rattle.deck.specs.Reading.{Statement, fresh, reading, closedIn, stateAfter}
 use Rattle.deck.specs.Reports.{Report, report}
+use Rattle.deck.specs.declared.Spot.{Spot}
 use Rattle.sheet.specs.Sheet.{Told, Sheet, Fault, statementFaults}
 use Rattle.sheet.specs.Reader.{told}
 
@@ -35,16 +36,17 @@ FreshBehind ls = stateAfter fresh 1 ls ≡ fresh
 abbrev pub statementLine : Statement → ℕ
 statementLine s = s .first
 
-abbrev pub reportLine : Report Told → ℕ
+abbrev pub reportLine : Report (Told Spot) → ℕ
 reportLine r = r .line
 
 abbrev pub faultLine : Fault → ℕ
 faultLine f = f .line
 
--- a fault with the line that g gives for its own
+-- a fault with the lines that g gives for its own and for its place's
 abbrev pub renumberFault : (ℕ → ℕ) → Fault → Fault
-renumberFault g f = record { line = g (f .line); code = f .code; place = f .place }
+renumberFault g f =
+    record { line = g (f .line); code = f .code; place = g (f .place); column = f .column }
 
--- a fault with its line raised by k
+-- a fault with both raised by k
 abbrev pub laterFault : ℕ → Fault → Fault
 laterFault k = renumberFault (λ (n : ℕ). k + n)

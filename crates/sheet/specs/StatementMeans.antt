@@ -6,8 +6,13 @@ use mathlib.Core.List.{List}
 use mathlib.Core.Logic.{_⊎_, _↔_}
 use Rattle.limits.specs.Limits.{levels}
 use Rattle.deck.specs.Lines.{Line}
+use Rattle.deck.specs.Reading.{cardsOf}
 use Rattle.deck.specs.Joined.{joined}
-use Rattle.deck.specs.Faults.{Place, at-token, none, flaw, sizeFlaw}
+use Rattle.deck.specs.Faults.{none, flaw, sizeFlaw}
+use Rattle.deck.specs.Spots.{spotOf}
+use Rattle.deck.specs.declared.Place.{Place}
+use Rattle.deck.specs.declared.Place.the-variants.{AtToken}
+use Rattle.deck.specs.declared.Spot.{Spot}
 use Rattle.tokens.specs.Row.{Placed, all-good, bad, rowOf, symbols}
 use Rattle.drafts.specs.Tree.{Says}
 use Rattle.grammar.specs.Grammar.{Derives}
@@ -24,18 +29,22 @@ pub record Scanned (cards : List Line) (closed : Bool) : Type 0 where
   pub sized : sizeFlaw cards closed ≡ none
   pub good : rowOf (joined cards) .close ≡ all-good
 
--- what it says, or its fault
-pub record StatementMeans (cards : List Line) (closed : Bool) : Type 0 where
-  pub for-size : (c : ℕ) (p : Place) → sizeFlaw cards closed ≡ flaw c p → told cards closed ≡ faulty c p
-  pub for-token : sizeFlaw cards closed ≡ none → (c at : ℕ) → rowOf (joined cards) .close ≡ bad c at
-      → told cards closed ≡ faulty c (at-token at)
-  pub for-grammar : Scanned cards closed → (x : Says)
-      → (told cards closed ≡ says x) ↔ Derives levels (symbols (tokensOf cards)) x
-  pub for-eighteen : Scanned cards closed → (i : ℕ) → Eighteen (symbols (tokensOf cards)) i
-      → told cards closed ≡ faulty 18 (placeOf (tokensOf cards) i)
-  pub for-nineteen : Scanned cards closed → (i : ℕ) → Nineteen (symbols (tokensOf cards)) i
-      → told cards closed ≡ faulty 19 (placeOf (tokensOf cards) i)
+-- what it says, or its fault with its place
+pub record StatementMeans (lines : List Line) (closed : Bool) : Type 0 where
+  -- 11, 12 or 13
+  pub for-size : (c : ℕ) (p : Place) → sizeFlaw (cardsOf lines) closed ≡ flaw c p
+      → told lines closed ≡ faulty c (spotOf lines p)
+  -- the first bad token
+  pub for-token : sizeFlaw (cardsOf lines) closed ≡ none → (c at : ℕ) → rowOf (joined (cardsOf lines)) .close ≡ bad c at
+      → told lines closed ≡ faulty c (spotOf lines (AtToken at))
+  pub for-grammar : Scanned (cardsOf lines) closed → (x : Says)
+      → (told lines closed ≡ says x) ↔ Derives levels (symbols (tokensOf (cardsOf lines))) x
+  pub for-eighteen : Scanned (cardsOf lines) closed → (i : ℕ) → Eighteen (symbols (tokensOf (cardsOf lines))) i
+      → told lines closed ≡ faulty 18 (spotOf lines (placeOf (tokensOf (cardsOf lines)) i))
+  pub for-nineteen : Scanned (cardsOf lines) closed → (i : ℕ) → Nineteen (symbols (tokensOf (cardsOf lines))) i
+      → told lines closed ≡ faulty 19 (spotOf lines (placeOf (tokensOf (cardsOf lines)) i))
   -- and there is no other fault
-  pub no-other : Scanned cards closed → (c : ℕ) (p : Place) → told cards closed ≡ faulty c p
-      → (i : ℕ) × (p ≡ placeOf (tokensOf cards) i)
-      × (((c ≡ 18) × Eighteen (symbols (tokensOf cards)) i) ⊎ ((c ≡ 19) × Nineteen (symbols (tokensOf cards)) i))
+  pub no-other : Scanned (cardsOf lines) closed → (c : ℕ) (p : Spot) → told lines closed ≡ faulty c p
+      → (i : ℕ) × (p ≡ spotOf lines (placeOf (tokensOf (cardsOf lines)) i))
+      × (((c ≡ 18) × Eighteen (symbols (tokensOf (cardsOf lines))) i)
+      ⊎ ((c ≡ 19) × Nineteen (symbols (tokensOf (cardsOf lines))) i))

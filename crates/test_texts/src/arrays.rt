@@ -2,6 +2,7 @@
 // room.
 use bits::reads::short_at;
 use bits::reads::word_at;
+use limits::FAULT_BYTES;
 use limits::STATEMENTS;
 use model::answer::Plan;
 use tally::Tally;
@@ -42,7 +43,7 @@ fn amid(t0: Tally) -> Tally {
     let kinds = [3u8, 1, 13];
     let mut args = [7u64, 5, 6];
     let mut used = [170u16; 3];
-    let mut faults = [170u8; 4];
+    let mut faults = [170u8; FAULT_BYTES];
     let mut places = [170u16; STATEMENTS];
     let mut equated = [170u16; STATEMENTS];
     let mut order = [170u16; STATEMENTS];
@@ -66,14 +67,14 @@ fn amid(t0: Tally) -> Tally {
     shorts(t, &order, 0, 170, 170)
 }
 
-// So it is the first of two of one name: the statement has fault 21.
+// So it is the first of two of one name: the statement has fault 21, and its place is its first byte.
 fn amid_twice(t0: Tally) -> Tally {
     let lines = [1u16; 1];
     let bounds = [0u16, 3];
     let kinds = [3u8, 1, 13];
     let mut args = [7u64, 5, 5];
     let mut used = [170u16; 3];
-    let mut faults = [170u8; 4];
+    let mut faults = [170u8; FAULT_BYTES];
     let mut places = [170u16; STATEMENTS];
     let mut equated = [170u16; STATEMENTS];
     let mut order = [170u16; STATEMENTS];
@@ -91,7 +92,7 @@ fn amid_twice(t0: Tally) -> Tally {
         &mut order,
     );
     let t = planned(t0, p, 7, 1, 0, 0);
-    tally::right(t, check::same(&faults, b"\x01\x00\x15\x00"))
+    tally::right(t, check::same(&faults, b"\x01\x00\x15\x00\x01\x00\x01\x00"))
 }
 
 // A name in the expression of a statement that is no unit of the order is resolved, and is no use.
@@ -101,7 +102,7 @@ fn unused(t0: Tally) -> Tally {
     let kinds = [4u8, 3, 13];
     let mut args = [6u64, 9, 6];
     let mut used = [170u16; 3];
-    let mut faults = [170u8; 8];
+    let mut faults = [170u8; 2 * FAULT_BYTES];
     let mut places = [170u16; STATEMENTS];
     let mut equated = [170u16; STATEMENTS];
     let mut order = [170u16; STATEMENTS];

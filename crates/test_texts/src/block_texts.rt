@@ -1,64 +1,50 @@
 // Texts with procedural blocks that the table of promises does not have.
 use crate::wanted::blank;
-use crate::wanted::faulty;
 use crate::wanted::record;
+use crate::wanted::refused;
 use crate::wanted::translated;
 use tally::Tally;
 
 // Both words are reserved everywhere, and TIME is no input.
-fn ungrammatical(t0: Tally) -> Tally {
-    let mut t = faulty(t0, b"PROCED A=P(TIME)", 5, b"\x01\x00\x12\x00");
-    t = faulty(t, b"PROCED=1", 5, b"\x01\x00\x12\x00");
-    t = faulty(t, b"A=ENDPRO", 5, b"\x01\x00\x12\x00");
-    t = faulty(t, b"ENDPRO A", 5, b"\x01\x00\x12\x00");
-    faulty(t, b"PROCED A,=P(B)", 5, b"\x01\x00\x12\x00")
+fn ungrammatical(t: Tally) -> Tally {
+    refused(
+        t,
+        5,
+        b"1 18 1 12|PROCED A=P(TIME)|\
+          1 18 1 7|PROCED=1|\
+          1 18 1 3|A=ENDPRO|\
+          1 18 1 8|ENDPRO A|\
+          1 18 1 10|PROCED A,=P(B)|",
+    )
 }
 
 // Only assignments stand inside, and an output is named once.
-fn inside(t0: Tally) -> Tally {
-    let t = faulty(
-        t0,
-        b"PROCED A=P(B)\nA=B\nX=INTGRL(0,1)\nENDPRO\nB=1",
-        7,
-        b"\x03\x00\x1a\x00",
-    );
-    faulty(
+fn inside(t: Tally) -> Tally {
+    refused(
         t,
-        b"PROCED A,A=P(B)\nA=B\nENDPRO\nB=1",
         7,
-        b"\x01\x00\x1a\x00",
+        b"3 26 3 1|PROCED A=P(B)\nA=B\nX=INTGRL(0,1)\nENDPRO\nB=1|\
+          1 26 1 1|PROCED A,A=P(B)\nA=B\nENDPRO\nB=1|",
     )
 }
 
 // As an initial an output is no constant, and a name of the block's own is not known.
-fn initials(t0: Tally) -> Tally {
-    let t = faulty(
-        t0,
-        b"PROCED A=P(B)\nA=B\nENDPRO\nB=1\nX=INTGRL(A,1)",
-        7,
-        b"\x05\x00\x17\x00",
-    );
-    faulty(
+fn initials(t: Tally) -> Tally {
+    refused(
         t,
-        b"PROCED A=P(B)\nC=B\nA=C\nENDPRO\nB=1\nX=INTGRL(C,1)",
         7,
-        b"\x06\x00\x16\x00",
+        b"5 23 5 1|PROCED A=P(B)\nA=B\nENDPRO\nB=1\nX=INTGRL(A,1)|\
+          6 22 6 1|PROCED A=P(B)\nC=B\nA=C\nENDPRO\nB=1\nX=INTGRL(C,1)|",
     )
 }
 
 // Two blocks that set one name; and an input that is a name of another block's own.
-fn two_blocks(t0: Tally) -> Tally {
-    let t = faulty(
-        t0,
-        b"PROCED A=P(T)\nL=T\nA=L\nENDPRO\nPROCED B=Q(T)\nL=T\nB=L\nENDPRO\nT=1",
-        7,
-        b"\x06\x00\x15\x00",
-    );
-    faulty(
+fn two_blocks(t: Tally) -> Tally {
+    refused(
         t,
-        b"PROCED A=P(T)\nL=T\nA=L\nENDPRO\nPROCED B=Q(L)\nB=L\nENDPRO\nT=1",
         7,
-        b"\x05\x00\x16\x00",
+        b"6 21 6 1|PROCED A=P(T)\nL=T\nA=L\nENDPRO\nPROCED B=Q(T)\nL=T\nB=L\nENDPRO\nT=1|\
+          5 22 5 1|PROCED A=P(T)\nL=T\nA=L\nENDPRO\nPROCED B=Q(L)\nB=L\nENDPRO\nT=1|",
     )
 }
 

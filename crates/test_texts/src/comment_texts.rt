@@ -1,26 +1,22 @@
 // Texts with comment cards inside statements.
 use crate::wanted::blank;
 use crate::wanted::faulty;
+use crate::wanted::faulty_front;
 use crate::wanted::record;
+use crate::wanted::refused;
 use crate::wanted::silent;
 use crate::wanted::translated;
 use tally::Tally;
 
 // 11: the text ends behind dots, or behind comments that follow them. It comes before 12.
-fn unfinished(t0: Tally) -> Tally {
-    let mut t = faulty(t0, b"A=3...\n*2", 5, b"\x01\x00\x0b\x00");
-    t = faulty(t, b"A=3...\n*2\n", 5, b"\x01\x00\x0b\x00");
-    t = faulty(
+fn unfinished(t: Tally) -> Tally {
+    refused(
         t,
-        b"B=2\nA=1...\n* ONE\n* TWO ...\n*",
         5,
-        b"\x02\x00\x0b\x00",
-    );
-    faulty(
-        t,
-        b"A=1...\n+1...\n+1...\n+1...\n+1...\n*\n",
-        5,
-        b"\x01\x00\x0b\x00",
+        b"1 11 1 6|A=3...\n*2|\
+          1 11 1 6|A=3...\n*2\n|\
+          2 11 2 6|B=2\nA=1...\n* ONE\n* TWO ...\n*|\
+          1 11 5 5|A=1...\n+1...\n+1...\n+1...\n+1...\n*\n|",
     )
 }
 
@@ -46,7 +42,7 @@ fn between(t0: Tally) -> Tally {
         9,
         &w,
     );
-    faulty(t, b"A=1...\n*\n2", 5, b"\x01\x00\x12\x00")
+    faulty(t, b"A=1...\n*\n2", 5, b"1 18 3 1")
 }
 
 // Four cards with comments among them are not too many, and five are.
@@ -66,7 +62,7 @@ fn cards(t0: Tally) -> Tally {
         t,
         b"A=1...\n*\n+1...\n*\n+1...\n*\n+1...\n*\n+1\nB=1",
         5,
-        b"\x01\x00\x0c\x00",
+        b"1 12 1 1",
     )
 }
 
@@ -94,22 +90,14 @@ fn lengths(t0: Tally) -> Tally {
     record(&mut w, 2, 5, 0, 1, 0);
     record(&mut w, 3, 13, 1, 1, 0);
     let t = translated(t0, &long_comment(), 4, &w);
-    faulty(t, &long_card(), 5, b"\x01\x00\x0d\x00")
-}
-
-// The first n bytes of a text end inside their first statement.
-fn cut(t: Tally, text: &[u8], n: usize) -> Tally {
-    if text.len() < n {
-        return tally::right(t, false);
-    }
-    faulty(t, &text[..n], 5, b"\x01\x00\x0b\x00")
+    faulty(t, &long_card(), 5, b"1 13 1 1")
 }
 
 // A card that continues, and a comment behind it up to the largest size of a text: it counts for that.
 fn largest(t0: Tally) -> Tally {
     let mut text = [42u8; 16385];
     bytes::copy(b"A=1...\n", &mut text);
-    let t = cut(t0, &text, 16384);
+    let t = faulty_front(t0, &text, 16384, 5, b"1 11 1 6");
     silent(t, &text, 2)
 }
 
@@ -123,7 +111,7 @@ fn blanks(t0: Tally) -> Tally {
     record(&mut w, 2, 3, 0, 4, two);
     record(&mut w, 3, 13, 2, 4, 0);
     let t = translated(t0, b"A=1...\n* C\n\nB=2", 4, &w);
-    faulty(t, b"A=1...\n* C\n  \n+2", 5, b"\x04\x00\x12\x00")
+    faulty(t, b"A=1...\n* C\n  \n+2", 5, b"4 18 4 1")
 }
 
 // Comments inside count as lines of the text; and the header, the end and a setting of a block may have them.
@@ -136,8 +124,8 @@ fn numbered(t0: Tally) -> Tally {
     record(&mut w, 3, 4, 2, 4, 0);
     record(&mut w, 4, 5, 0, 4, 0);
     record(&mut w, 5, 13, 1, 4, 0);
-    let mut t = faulty(t0, b"A=1...\n*\n*\n+2\nB=", 5, b"\x05\x00\x12\x00");
-    t = faulty(t, b"A=1...\n*\n*\n+2\nA=3", 7, b"\x05\x00\x15\x00");
+    let mut t = faulty(t0, b"A=1...\n*\n*\n+2\nB=", 5, b"5 18 5 2");
+    t = faulty(t, b"A=1...\n*\n*\n+2\nA=3", 7, b"5 21 5 1");
     translated(
         t,
         b"PROCED A...\n* OUT\n=F(C)\nA=C...\n* TWICE\n+C\nENDPRO...\n*\n\nC=1",

@@ -4,6 +4,7 @@ use crate::wanted::blank;
 use crate::wanted::exact;
 use crate::wanted::faulty;
 use crate::wanted::lent;
+use crate::wanted::put_faults;
 use crate::wanted::record;
 use crate::wanted::silent;
 use crate::wanted::translated;
@@ -176,7 +177,7 @@ fn statements(t0: Tally) -> Tally {
     t = front_silent(t, &text, 1792, 6);
     t = silent(t, &text, 4);
     let other = comma();
-    faulty(t, &other, 5, b"\xff\x00\x12\x00")
+    faulty(t, &other, 5, b"255 18 255 7")
 }
 
 // 254 statements, and one of 14 bytes.
@@ -202,21 +203,16 @@ fn bytes(t0: Tally) -> Tally {
     let mut text = [32u8; 73];
     bytes::copy(b"A=1", &mut text);
     let t = stored(t0, &text[..72]);
-    faulty(t, &text, 5, b"\x01\x00\x0d\x00")
+    faulty(t, &text, 5, b"1 13 1 1")
 }
 
 // 4 and 5 lines, 6 and 7 letters.
 fn runs_and_names(t0: Tally) -> Tally {
     let w = program_of(8, 8);
     let mut t = exact(t0, b"A=1...\n+1...\n+1...\n+1", 8, &w);
-    t = faulty(
-        t,
-        b"A=1...\n+1...\n+1...\n+1...\n+1",
-        5,
-        b"\x01\x00\x0c\x00",
-    );
+    t = faulty(t, b"A=1...\n+1...\n+1...\n+1...\n+1", 5, b"1 12 1 1");
     t = stored(t, b"ABCDEF=1");
-    faulty(t, b"ABCDEFG=1", 5, b"\x01\x00\x0f\x00")
+    faulty(t, b"ABCDEFG=1", 5, b"1 15 1 1")
 }
 
 // 16 and 17 levels, of parentheses and of calls; those of INTGRL are not counted.
@@ -233,19 +229,14 @@ fn levels(t0: Tally) -> Tally {
     record(&mut x, 2, 12, 0, 1, 0);
     record(&mut x, 3, 13, 1, 1, 0);
     let mut t = stored(t0, b"A=((((((((((((((((1))))))))))))))))");
-    t = faulty(
-        t,
-        b"A=(((((((((((((((((1)))))))))))))))))",
-        5,
-        b"\x01\x00\x13\x00",
-    );
+    t = faulty(t, b"A=(((((((((((((((((1)))))))))))))))))", 5, b"1 19 1 19");
     t = translated(t, b"A=INTGRL(1,((((((((((((((((1)))))))))))))))))", 3, &w);
     t = translated(t, b"A=(((((((((((((((COMPAR(1,2))))))))))))))))", 4, &x);
     faulty(
         t,
         b"A=((((((((((((((((COMPAR(1,2)))))))))))))))))",
         5,
-        b"\x01\x00\x13\x00",
+        b"1 19 1 25",
     )
 }
 
@@ -272,14 +263,94 @@ fn records(t0: Tally) -> Tally {
     silent(t, &text, 8)
 }
 
-// Lent room: 1,023 bytes for faults are too few, and so are 63 for four records.
+// ---- lent room
+
+// Writes fault k, from 0, of lines that end early behind five bytes.
+fn put_end(list: &mut [u8], k: usize)
+    requires { ⌜ k < 256 ⌝ }
+{
+    let o = k * 8;
+    let line = k as u64 + 1;
+    bits::put_low(&mut *list, o, 2, line);
+    bits::put_low(&mut *list, o + 2, 2, 18);
+    bits::put_low(&mut *list, o + 4, 2, line);
+    bits::put_low(list, o + 6, 2, 5);
+}
+
+// The faults of 256 such lines.
+fn put_ends(list: &mut [u8]) {
+    let mut k: usize = 0;
+    while k < 256 {
+        put_end(&mut *list, k);
+        k += 1;
+    }
+}
+
+// 256 statements end behind their equals sign, and their faults fill 2,048 bytes.
+fn full_list(t: Tally) -> Tally {
+    let mut text = [0u8; 1536];
+    fill_lines(&mut text, 5);
+    let mut faults = [170u8; 2048];
+    let mut program = [170u8; 64];
+    let mut list = [170u8; 2048];
+    put_ends(&mut list);
+    let kept = [170u8; 64];
+    lent(t, &text, &mut faults, &mut program, 5, 256, &list, &kept)
+}
+
+// With n bytes lent for faults, a text with one has this number and count, and those bytes then hold what is wanted.
+fn with_room(t: Tally, n: usize, number: usize, count: usize, list: &[u8]) -> Tally
+    requires { ⌜ n ≤ 2056 ⌝ }
+{
+    if list.len() < n {
+        return tally::right(t, false);
+    }
+    let mut faults = [170u8; 2056];
+    let mut program = [170u8; 64];
+    let kept = [170u8; 64];
+    lent(
+        t,
+        b"A=#",
+        &mut faults[..n],
+        &mut program,
+        number,
+        count,
+        &list[..n],
+        &kept,
+    )
+}
+
+// Fewer than 2,048 bytes are too few, and nothing is written.
+fn fault_room(t: Tally, n: usize) -> Tally
+    requires { ⌜ n ≤ 2056 ⌝ }
+{
+    let mut list = [170u8; 2056];
+    if n < 2048 {
+        return with_room(t, n, 1, 0, &list);
+    }
+    put_faults(b"1 14 1 3", &mut list);
+    with_room(t, n, 5, 1, &list)
+}
+
+// Every room from a fault less to a fault more.
+fn fault_rooms(t0: Tally) -> Tally {
+    let mut t = t0;
+    let mut n: usize = 2040;
+    while n <= 2056 {
+        t = fault_room(t, n);
+        n += 1;
+    }
+    t
+}
+
+// 2,047 bytes for faults are too few for a text without fault too, and so are 63 for four records.
 fn short_rooms(t0: Tally) -> Tally {
-    let mut faults = [170u8; 1023];
+    let mut faults = [170u8; 2047];
     let mut program = [170u8; 63];
-    let mut list = [170u8; 1024];
-    let short = [170u8; 1023];
+    let mut list = [170u8; 2048];
+    let short = [170u8; 2047];
     let kept = [170u8; 63];
-    let whole = [170u8; 1024];
+    let whole = [170u8; 2048];
     let t = lent(
         t0,
         b"A=1\nB=2",
@@ -297,8 +368,8 @@ fn short_rooms(t0: Tally) -> Tally {
 fn rooms(t0: Tally) -> Tally {
     let one = 0x3ff0_0000_0000_0000;
     let two = 0x4000_0000_0000_0000;
-    let mut faults = [170u8; 1024];
-    let whole = [170u8; 1024];
+    let mut faults = [170u8; 2048];
+    let whole = [170u8; 2048];
     let mut program = [170u8; 64];
     let mut wanted = [170u8; 64];
     record(&mut wanted, 0, 3, 0, 1, one);
@@ -339,6 +410,8 @@ pub fn all(t0: Tally) -> Tally {
     t = levels(t);
     t = size(t);
     t = records(t);
+    t = full_list(t);
+    t = fault_rooms(t);
     t = short_rooms(t);
     rooms(t)
 }

@@ -1,10 +1,11 @@
 // Translates the texts that no table proves: the other texts of the paper's table, the slips to shut out, texts with
-// procedural blocks, texts with comments inside statements, and texts at each limit. Verdict, faults, records and
-// untouched bytes are compared with what the papers say. Then arrays that no text gives.
+// procedural blocks, texts with comments inside statements, texts for the places of faults, and texts at each limit.
+// Verdict, faults, records and untouched bytes are compared with what the papers say. Then arrays that no text gives.
 mod arrays;
 mod block_texts;
 mod comment_texts;
 mod limits_met;
+mod place_texts;
 mod slips;
 mod table;
 mod wanted;
@@ -16,6 +17,7 @@ fn main() {
     t = slips::all(t);
     t = block_texts::all(t);
     t = comment_texts::all(t);
+    t = place_texts::all(t);
     t = limits_met::all(t);
     t = arrays::all(t);
     tally::finish(t);

@@ -7,12 +7,7 @@ use tally::Tally;
 
 // A long run is one statement: its fifth line starts none.
 fn long_run(t: Tally) -> Tally {
-    faulty(
-        t,
-        b"A=1...\n+1...\n+1...\n+1...\nC=1\nB=1",
-        5,
-        b"\x01\x00\x0c\x00",
-    )
+    faulty(t, b"A=1...\n+1...\n+1...\n+1...\nC=1\nB=1", 5, b"1 12 1 1")
 }
 
 // A leading minus negates the whole first term: the product is written first.
@@ -36,7 +31,7 @@ fn behind_a_loop(t: Tally) -> Tally {
         t,
         b"A=B\nB=A\nD=A\nE=1\nF=D+E",
         7,
-        b"\x01\x00\x18\x00\x02\x00\x18\x00\x03\x00\x18\x00\x05\x00\x18\x00",
+        b"1 24 1 1, 2 24 2 1, 3 24 3 1, 5 24 5 1",
     )
 }
 
@@ -60,7 +55,7 @@ fn states(t0: Tally) -> Tally {
 
 // Names are not missed while an unread statement may define them.
 fn unread(t: Tally) -> Tally {
-    faulty(t, b"A=B\nB=*", 5, b"\x02\x00\x12\x00")
+    faulty(t, b"A=B\nB=*", 5, b"2 18 2 3")
 }
 
 // A star behind a space multiplies, also on a continued line.

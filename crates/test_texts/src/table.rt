@@ -1,7 +1,7 @@
 // The texts of the paper's table that no proof computes, and further texts for each code.
 use crate::wanted::blank;
-use crate::wanted::faulty;
 use crate::wanted::record;
+use crate::wanted::refused;
 use crate::wanted::translated;
 use tally::Tally;
 
@@ -21,52 +21,62 @@ fn numbers(t0: Tally) -> Tally {
 }
 
 // 17: m or k out of range.
-fn ranges(t0: Tally) -> Tally {
-    let mut t = faulty(t0, b"A=1.000000000000000", 5, b"\x01\x00\x11\x00");
-    t = faulty(t, b"A=1E23", 5, b"\x01\x00\x11\x00");
-    faulty(t, b"A=0.1E-22", 5, b"\x01\x00\x11\x00")
+fn ranges(t: Tally) -> Tally {
+    refused(
+        t,
+        5,
+        b"1 17 1 3|A=1.000000000000000|\
+          1 17 1 3|A=1E23|\
+          1 17 1 3|A=0.1E-22|",
+    )
 }
 
 // 16: malformed numbers.
-fn malformed(t0: Tally) -> Tally {
-    let mut t = faulty(t0, b"A=2X", 5, b"\x01\x00\x10\x00");
-    t = faulty(t, b"A=1E", 5, b"\x01\x00\x10\x00");
-    faulty(t, b"A=1E100", 5, b"\x01\x00\x10\x00")
+fn malformed(t: Tally) -> Tally {
+    refused(
+        t,
+        5,
+        b"1 16 1 3|A=2X|\
+          1 16 1 3|A=1E|\
+          1 16 1 3|A=1E100|",
+    )
 }
 
 // 18: the grammar.
-fn ungrammatical(t0: Tally) -> Tally {
-    let mut t = faulty(t0, b"A=TIME*-2", 5, b"\x01\x00\x12\x00");
-    t = faulty(t, b"TIME=1", 5, b"\x01\x00\x12\x00");
-    faulty(t, b"A=", 5, b"\x01\x00\x12\x00")
+fn ungrammatical(t: Tally) -> Tally {
+    refused(
+        t,
+        5,
+        b"1 18 1 8|A=TIME*-2|\
+          1 18 1 1|TIME=1|\
+          1 18 1 2|A=|",
+    )
 }
 
 // 14, 15 and 11, and two faults in line order.
-fn others(t0: Tally) -> Tally {
-    let mut t = faulty(t0, b"A=#", 5, b"\x01\x00\x0e\x00");
-    t = faulty(t, b"ABCDEFG=1", 5, b"\x01\x00\x0f\x00");
-    t = faulty(t, b"A=1...\n", 5, b"\x01\x00\x0b\x00");
-    faulty(
+fn others(t: Tally) -> Tally {
+    refused(
         t,
-        b"A=b\n\nC=1\nD=(",
         5,
-        b"\x01\x00\x0e\x00\x04\x00\x12\x00",
+        b"1 14 1 3|A=#|\
+          1 15 1 1|ABCDEFG=1|\
+          1 11 1 6|A=1...\n|\
+          1 14 1 3, 4 18 4 3|A=b\n\nC=1\nD=(|",
     )
 }
 
 // The model's faults, and which of them is sought while others stand.
-fn models(t0: Tally) -> Tally {
-    let mut t = faulty(t0, b"A=1\nA=B", 7, b"\x02\x00\x15\x00");
-    t = faulty(t, b"A=B", 7, b"\x01\x00\x16\x00");
-    t = faulty(t, b"X=INTGRL(Y,1)\nY=2", 7, b"\x01\x00\x17\x00");
-    t = faulty(
+fn models(t: Tally) -> Tally {
+    refused(
         t,
-        b"X=INTGRL(Y,1)\nY=Z",
         7,
-        b"\x01\x00\x17\x00\x02\x00\x16\x00",
-    );
-    t = faulty(t, b"X=INTGRL(Y,Z)\nY=2", 7, b"\x01\x00\x16\x00");
-    faulty(t, b"A=A\nB=Z", 7, b"\x02\x00\x16\x00")
+        b"2 21 2 1|A=1\nA=B|\
+          1 22 1 1|A=B|\
+          1 23 1 1|X=INTGRL(Y,1)\nY=2|\
+          1 23 1 1, 2 22 2 1|X=INTGRL(Y,1)\nY=Z|\
+          1 22 1 1|X=INTGRL(Y,Z)\nY=2|\
+          2 22 2 1|A=A\nB=Z|",
+    )
 }
 
 // The tank, record by record.

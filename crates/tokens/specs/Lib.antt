@@ -5,6 +5,7 @@ pub mod Values
 pub mod Token
 pub mod Symbol
 pub mod Row
+pub mod Seen
 -- as code holds it
 pub mod Kinds
 pub mod Held

@@ -48,6 +48,10 @@ rowFrom (suc f) s from =
 unfoldable pub rowOf : List ℕ → Row
 rowOf s = rowFrom (suc (length s)) s 0
 
+-- what stands behind the last token
+abbrev pub noToken : Placed
+noToken = record { symbol = mark 0; at = 0 }
+
 -- what the grammar sees of the tokens
 abbrev pub symbols : List Placed → List Symbol
 symbols ps = map (λ (p : Placed). p .symbol) ps

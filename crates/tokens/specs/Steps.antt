@@ -1,5 +1,6 @@
 -- What one cut gives a row, as code holds it.
 use Prim.Native.Nat.{ℕ}
+use mathlib.Core.Bool.{Bool, true, false}
 use mathlib.Core.List.{List}
 use lib.ListN.{take, drop}
 use Rattle.tokens.specs.declared.Token.{Token}
@@ -26,3 +27,11 @@ stepOf s (Bad code) at next = Refused code at
 -- from a place on
 abbrev pub rowStepAt : List ℕ → ℕ → Step
 rowStepAt s from = stepOf s (cutAt s from .token) (cutAt s from .at) (cutAt s from .next)
+
+-- a token of a row: neither the end nor a bad one
+abbrev pub isGood : Token → Bool
+isGood (Name p n) = true
+isGood (Mark b) = true
+isGood (Number x) = true
+isGood End = false
+isGood (Bad code) = false

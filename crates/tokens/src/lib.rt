@@ -15,7 +15,8 @@ use step::Step;
 use step::take_step;
 ghost use mathlib.Core.Path.{_≡_};
 ghost use Rattle.tokens.specs.Token.{badAt};
-ghost use Rattle.tokens.specs.Contract.{TakesCut, WritesRow};
+ghost use Rattle.tokens.specs.Steps.{isGood};
+ghost use Rattle.tokens.specs.Contract.{TakesCut, WritesRow, PlacesToken};
 
 // A name's place and length, a mark's byte, a number's value; the end of the text; a bad token's code.
 pub enum Token {
@@ -135,6 +136,40 @@ pub fn row(body: &[u8], kinds: &mut [u8], args: &mut [u64]) -> RowEnd
                 n += 1;
                 from = next;
             }
+        }
+    }
+}
+
+// Whether a token is one of a row: neither the end nor a bad one.
+fn is_good(t: Token) -> bool
+    ensures { λ r. ⌜ r ≡ isGood t ⌝ }
+{
+    match t {
+        Token::Name(_, _) => true,
+        Token::Mark(_) => true,
+        Token::Number(_) => true,
+        Token::End => false,
+        Token::Bad(_) => false,
+    }
+}
+
+// The place of the first byte of token i of a text, which is cut again; 0 where it has none.
+pub fn token_place(body: &[u8], i: usize) -> usize
+    ensures { λ r. ⌜ PlacesToken (now (body .entry)) i r ⌝ }
+{
+    let mut from: usize = 0;
+    let mut left = i;
+    loop {
+        let c = take_cut(body, from);
+        let t = c.token;
+        if is_good(t) {
+            if left == 0 {
+                return c.at;
+            }
+            left -= 1;
+            from = c.next;
+        } else {
+            return 0;
         }
     }
 }

@@ -14,6 +14,7 @@ use Rattle.laws.specs.Lists.{concat-map, numbers}
 use Rattle.laws.proofs.Bools.{or-false}
 use Rattle.laws.proofs.Tests.{cond-ind}
 use Rattle.deck.specs.Lines.{linesOf}
+use Rattle.deck.specs.declared.Spot.{Spot}
 use Rattle.drafts.specs.Tree.{Says, constants as constantsSaid, assignment as assignmentSaid, state as stateSaid}
 use Rattle.drafts.specs.Tree.{header, ending}
 use Rattle.drafts.specs.Kinds.{writes}
@@ -26,8 +27,8 @@ use Rattle.blocks.specs.Units.{Single, constants, assignment, state, UnitBody, 
 use Rattle.blocks.specs.Units.{statedBy, statedIn, unitOfOne, orderUnitOf}
 use Rattle.blocks.specs.Tests.{faultIf, orElse, again, within}
 use Rattle.blocks.specs.Pairing.{Pair, bracketOf, unpaired, faults25From, pairs, brackets, faults25}
-use Rattle.blocks.specs.Inside.{headWrong, innerRight, Spot, outer, enclosed, setInside, innerFault, fault26, spotNext}
-use Rattle.blocks.specs.Inside.{freeKnown, faults26From, faults26, blockFaults}
+use Rattle.blocks.specs.Inside.{headWrong, innerRight, Standing, outer, enclosed, setInside, innerFault, fault26}
+use Rattle.blocks.specs.Inside.{standingNext, freeKnown, faults26From, faults26, blockFaults}
 use Rattle.blocks.specs.Members.{settings, unitsOf}
 use Rattle.blocks.proofs.StatedFew.{stated-few}
 use Rattle.model.specs.Definitions.{Def, keys, definedBy, definitions, unitAt, unitCount}
@@ -153,27 +154,27 @@ unpaired-few ps i (s ∷ ss) =
     )
 
 -- of one statement at its spot
-inner-one : (free : List ℕ) (p : Spot) (s : Numbered) → length (innerFault free p s) ≤ 1
+inner-one : (free : List ℕ) (p : Standing) (s : Numbered) → length (innerFault free p s) ≤ 1
 inner-one free outer s = omega arith
 inner-one free (enclosed is above) s = one-if (not (innerRight free is above (s .says))) (s .line) 26
 
-spot-one : (free ks : List ℕ) (p : Spot) (s : Numbered) (x : Says) → length (fault26 free ks p s x) ≤ 1
-spot-one free ks p s (constantsSaid cs) = inner-one free p s
-spot-one free ks p s (assignmentSaid k e) = inner-one free p s
-spot-one free ks p s (stateSaid k i e) = inner-one free p s
-spot-one free ks p s (header os is) = one-if (headWrong os ks) (s .line) 26
-spot-one free ks p s ending = omega arith
+standing-one : (free ks : List ℕ) (p : Standing) (s : Numbered) (x : Says) → length (fault26 free ks p s x) ≤ 1
+standing-one free ks p s (constantsSaid cs) = inner-one free p s
+standing-one free ks p s (assignmentSaid k e) = inner-one free p s
+standing-one free ks p s (stateSaid k i e) = inner-one free p s
+standing-one free ks p s (header os is) = one-if (headWrong os ks) (s .line) 26
+standing-one free ks p s ending = omega arith
 
-inside-few : (free : List ℕ) (p : Spot) (ss : List Numbered) → length (faults26From free p ss) ≤ length ss
+inside-few : (free : List ℕ) (p : Standing) (ss : List Numbered) → length (faults26From free p ss) ≤ length ss
 unfolding faults26From
 inside-few free p [] = omega arith
 inside-few free p (s ∷ ss) =
     let own = fault26 free (setInside ss) p s (s .says) in
-    let more = faults26From free (spotNext p (s .says)) ss in
+    let more = faults26From free (standingNext p (s .says)) ss in
     omega (
       arith,
-      spot-one free (setInside ss) p s (s .says),
-      inside-few free (spotNext p (s .says)) ss,
+      standing-one free (setInside ss) p s (s .says),
+      inside-few free (standingNext p (s .says)) ss,
       length-append own more,
     )
 
@@ -192,7 +193,7 @@ unfolding concat-map
 counts [] = refl
 counts (r ∷ done) = go (r .what) (counts done)
   where
-    go : (t : Told) → length (said done) + length (statementFaults done) ≡ length done
+    go : (t : Told Spot) → length (said done) + length (statementFaults done) ≡ length done
         → length (saidBy (r .line) t ++ said done) + length (faultBy (r .line) t ++ statementFaults done)
         ≡ suc (length done)
     go (says x) h = omega arith

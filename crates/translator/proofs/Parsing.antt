@@ -11,6 +11,8 @@ use Rattle.limits.specs.Limits.{levels}
 use Rattle.deck.specs.Lines.{Line}
 use Rattle.deck.specs.Joined.{joined}
 use Rattle.deck.specs.Faults.{Flaw, none, flaw, sizeFlaw}
+use Rattle.deck.specs.declared.Place.{Place}
+use Rattle.deck.specs.declared.Place.the-variants.{AtStart}
 use Rattle.tokens.specs.Held.{heldRow}
 use Rattle.tokens.specs.Row.{Placed, Close, all-good, bad, rowOf, symbols}
 use Rattle.tokens.proofs.Rows.{row-short}
@@ -23,7 +25,7 @@ use Rattle.grammar.specs.declared.Parsed.the-variants.{Done, Fault, NoRoom}
 use Rattle.grammar.proofs.Accepts.{written}
 use Rattle.grammar.proofs.Room.{room}
 use Rattle.sheet.specs.Sheet.{says}
-use Rattle.sheet.specs.Reader.{parsed, scanned, sized, told}
+use Rattle.sheet.specs.Reader.{placeOf, parsed, scanned, sized, cardsTold}
 use Rattle.sheet.specs.Layout.{draftKinds, draftArgs}
 use Rattle.translator.specs.declared.Told.{Told as Answer}
 use Rattle.translator.specs.declared.Told.the-variants.{Says, Faulty}
@@ -35,10 +37,10 @@ take-before p l i [] h = refl
 take-before p l i (a ∷ vs) h = take-before p (set l i a) (suc i) vs (omega arith) ∙ take-set-le p l i a h
 
 -- the answer here for the grammar's
-abbrev pub answerOf : Parsed → Answer
-answerOf (Done q) = Says q
-answerOf (Fault c i) = Faulty c
-answerOf NoRoom = Faulty 0
+abbrev pub answerOf : List Placed → Parsed → Answer
+answerOf ps (Done q) = Says q
+answerOf ps (Fault c i) = Faulty c (placeOf ps i)
+answerOf ps NoRoom = Faulty 0 AtStart
 
 -- what reading a row writes
 abbrev outOf : List Placed → List Draft
@@ -74,21 +76,21 @@ module _ {ks us : List ℕ} {p : ℕ} {l u : List ℕ} (h : RowRoom ks us p l u)
 
   -- by what was read
   by-read : (d : Read) → readRow (symbols ps) ≡ d → r ≡ parsedAs (p + length (outOf ps)) d
-      → TellsOf (parsed ps d) p l u (answerOf r) l′ u′
+      → TellsOf (parsed ps d) p l u (answerOf ps r) l′ u′
   by-read (read x) e a =
       let d : outOf ps ≡ draftsOf x = written (symbols ps) x e in (
-        ap answerOf a ∙ ap (λ (ds : List Draft). Says (p + length ds)) d,
+        ap (answerOf ps) a ∙ ap (λ (ds : List Draft). Says (p + length ds)) d,
         kinds-are ∙ ap (λ (ds : List Draft). sets l p (draftKinds ds)) d,
         args-are ∙ ap (λ (ds : List Draft). sets u p (draftArgs ds)) d,
       )
   by-read (fault c i) e a = (
-    ap answerOf a,
+    ap (answerOf ps) a,
     ap (take p) kinds-are ∙ take-before p l p (draftKinds (outOf ps)) (omega arith),
     ap (take p) args-are ∙ take-before p u p (draftArgs (outOf ps)) (omega arith),
   )
 
   -- the answer and the buffers are what the row tells
-  telling : Tells (parsed ps (readRow (symbols ps))) p l u (answerOf r) l′ u′
+  telling : Tells (parsed ps (readRow (symbols ps))) p l u (answerOf ps r) l′ u′
   telling =
       record {
         long-kinds = ap length kinds-are ∙ length-sets l p (draftKinds (outOf ps));
@@ -97,8 +99,13 @@ module _ {ks us : List ℕ} {p : ℕ} {l u : List ℕ} (h : RowRoom ks us p l u)
       }
 
   -- the same by the answer's case
-  pub parsed-tells : {d : Parsed} → r ≡ d → Tells (parsed ps (readRow (symbols ps))) p l u (answerOf d) l′ u′
+  pub parsed-tells : {d : Parsed} → r ≡ d → Tells (parsed ps (readRow (symbols ps))) p l u (answerOf ps d) l′ u′
   parsed-tells e = rw e at telling
+
+  -- of a fault, with where it is
+  pub parsed-faulty : {c i : ℕ} {q : Place} → r ≡ Fault c i → q ≡ placeOf ps i
+      → Tells (parsed ps (readRow (symbols ps))) p l u (Faulty c q) l′ u′
+  parsed-faulty e f = rw f (parsed-tells e)
 
 -- ---- how many drafts there are
 
@@ -128,7 +135,7 @@ module _ (s : List ℕ) (x : Statement) where
   few-sized (flaw c p) q = absurd (let z : _≡_ {A = ℕ} 0 1 = cc in omega arith)
 
 -- each draft of a statement takes a byte of its joined text
-pub drafts-few : (cards : List Line) (closed : Bool) (x : Statement) → told cards closed ≡ says x
+pub drafts-few : (cards : List Line) (closed : Bool) (x : Statement) → cardsTold cards closed ≡ says x
     → length (draftsOf x) ≤ length (joined cards)
-unfolding told
+unfolding cardsTold
 drafts-few cards closed x q = few-sized (joined cards) x (sizeFlaw cards closed) q

@@ -13,16 +13,16 @@ use Rattle.laws.specs.Lists.{concat-map}
 use Rattle.laws.proofs.Lists.{concat-append}
 use Rattle.laws.proofs.Concats.{map-append}
 use Rattle.laws.proofs.Sets.{sets-append}
-use Rattle.deck.specs.Faults.{Place}
+use Rattle.deck.specs.declared.Spot.{Spot}
 use Rattle.deck.specs.Reading.{Statement}
 use Rattle.deck.specs.Reports.{Report, report}
-use Rattle.deck.specs.Next.{statementsFrom, cardsAt}
+use Rattle.deck.specs.Next.{statementsFrom, linesAt}
 use Rattle.deck.specs.declared.Cursor.{Cursor}
 use Rattle.deck.specs.Walks.{Walk}
 use Rattle.drafts.specs.Tree.{Says}
 use Rattle.drafts.specs.Drafts.{Draft, draftsOf}
-use Rattle.sheet.specs.Sheet.{Told, says, faulty, Sheet, Numbered, said, Fault, statementFaults, entryOf, faultEntry}
-use Rattle.sheet.specs.Sheet.{faultList}
+use Rattle.sheet.specs.Sheet.{Told, says, faulty, Sheet, Numbered, said, Fault, faultAtSpot, statementFaults, entryOf}
+use Rattle.sheet.specs.Sheet.{faultEntry, faultList}
 use Rattle.sheet.specs.Reader.{told, sheetOf}
 use Rattle.sheet.specs.Layout.{draftsIn, draftKinds, draftArgs, boundsFrom}
 use Rattle.sheet.proofs.Entries.{list-length}
@@ -67,7 +67,7 @@ lines-snoc : (ss₁ ss₀ : List Numbered) (s : Numbered) → ss₁ ≡ ss₀ ++
 lines-snoc ss₁ ss₀ s e = ap (map (λ (z : Numbered). z .line)) e ∙ map-append (λ (z : Numbered). z .line) ss₀ (s ∷ [])
 
 -- ---- one report more
-module _ (done : Sheet) (r : Report Told) where
+module _ (done : Sheet) (r : Report (Told Spot)) where
   said-snoc : said (done ++ (r ∷ [])) ≡ said done ++ said (r ∷ [])
   said-snoc = concat-append _ done (r ∷ [])
 
@@ -121,10 +121,10 @@ module _ (text list : List ℕ) (kinds args lines bounds : List ℕ) where
 module _ {text list₀ kinds args lines bounds list : List ℕ} {c : Cursor} {n : SoFar}
     (p : Progress text list₀ c n kinds args lines bounds list) {f s m k : ℕ} {d g : Bool}
     {nx : Cursor} (w : Walk text c f s m k d g nx) where
-  here : Told → Report Told
+  here : Told Spot → Report (Told Spot)
   here t = record { line = f; what = t }
 
-  split-next : {t : Told} → told (cardsAt text s m) d ≡ t
+  split-next : {t : Told Spot} → told (linesAt text s m) d ≡ t
       → sheetOf text ≡ (p .done ++ (here t ∷ [])) ++ map (report told) (statementsFrom text nx)
   unfolding here
   split-next {t} e =
@@ -133,7 +133,7 @@ module _ {text list₀ kinds args lines bounds list : List ℕ} {c : Cursor} {n 
       ∙ rw e (sym (append-assoc (p .done) (here t ∷ []) (map (report told) (statementsFrom text nx))))
 
   -- it says x: its drafts stand behind those before it, its number and the end of its drafts are noted
-  pub progress-said : (x : Says) → told (cardsAt text s m) d ≡ says x → n .drafts + length (draftsOf x) ≤ nx .at
+  pub progress-said : (x : Says) → told (linesAt text s m) d ≡ says x → n .drafts + length (draftsOf x) ≤ nx .at
       → n .drafts + length (draftsOf x) ≤ length text
       → n .drafts + length (draftsOf x) ≤ length kinds → n .drafts + length (draftsOf x) ≤ length args
       → n .statements < length lines → n .statements + 1 < length bounds
@@ -173,17 +173,17 @@ module _ {text list₀ kinds args lines bounds list : List ℕ} {c : Cursor} {n 
       }
 
   -- it has a fault: what is held stays, and the fault is listed behind those before it
-  pub progress-faulty : (code : ℕ) (q : Place) → told (cardsAt text s m) d ≡ faulty code q
+  pub progress-faulty : (code : ℕ) (q : Spot) → told (linesAt text s m) d ≡ faulty code q
       → (kinds′ args′ list′ : List ℕ)
       → take (n .drafts) kinds′ ≡ take (n .drafts) kinds → take (n .drafts) args′ ≡ take (n .drafts) args
-      → list′ ≡ sets list (faultBytes * n .faults) (entryOf f code)
+      → list′ ≡ sets list (faultBytes * n .faults) (entryOf (faultAtSpot f code q))
       → Progress text list₀ nx (record { statements = n .statements; drafts = n .drafts; faults = n .faults + 1 })
       kinds′ args′ lines bounds list′
   unfolding here concat-map faultEntry
   progress-faulty code q e kinds′ args′ list′ hk ha hl =
       let done : Sheet = p .done ++ (here (faulty code q) ∷ []) in
       let old : List Fault = statementFaults (p .done) in
-      let new : Fault = record { line = f; code = code; place = q } in
+      let new : Fault = faultAtSpot f code q in
       let more : statementFaults done ≡ old ++ (new ∷ []) = faults-snoc (p .done) (here (faulty code q)) in
       let same : said done ≡ said (p .done) =
       said-snoc (p .done) (here (faulty code q)) ∙ append-nil (said (p .done)) in

@@ -8,11 +8,11 @@ use lib.ListN.{length, length-map}
 use Rattle.limits.specs.Limits.{mostStatements, mostDefinitions, mostRecords, recordBytes, faultRoom, textBytes}
 use Rattle.limits.specs.Limits.{textLines}
 use Rattle.deck.specs.Lines.{linesOf}
-use Rattle.deck.specs.Later.{renumber}
 use Rattle.sheet.specs.Sheet.{Sheet, Numbered, Fault, said, statementFaults}
 use Rattle.sheet.specs.Reader.{sheetOf}
 use Rattle.sheet.specs.Numbers.{renumberFault}
-use Rattle.sheet.proofs.Numbers.{renumberNumbered, faults-renumbered, said-renumbered}
+use Rattle.sheet.proofs.Numbers.{renumberNumbered}
+use Rattle.sheet.proofs.Comments.{Renumbered}
 use Rattle.blocks.specs.Units.{TextUnit}
 use Rattle.blocks.specs.Members.{settings, unitsOf}
 use Rattle.blocks.proofs.Renumbering.{renumberUnit, settings-kept, units-renumbered}
@@ -102,28 +102,27 @@ module _ (g : ℕ → ℕ) where
         rw (settings-kept g ss) (test-renumbered (ltb mostDefinitions (length (settings ss))) 6 _ faults)
 
 -- THE DECISION on a renumbered sheet is renumbered: 4, 5 and the rest
-pub decided-renumbered : (g : ℕ → ℕ) → g 0 ≡ 0 → (room : ℕ) (sheet : Sheet)
-    → decided room (map (renumber g) sheet) ≡ renumberDecision g (decided room sheet)
+pub decided-renumbered : (g : ℕ → ℕ) → g 0 ≡ 0 → (room : ℕ) (old new : Sheet) → Renumbered g old new
+    → decided room new ≡ renumberDecision g (decided room old)
 unfolding decided
-decided-renumbered g z room sheet =
-    let next = ap (modelled room) (said-renumbered g sheet) ∙ modelled-renumbered g z room (said sheet) in
-    let faults =
-    faulty-renumbered g 5 (statementFaults sheet) (modelled room (said sheet)) (faults-renumbered g sheet) next in
-    rw (length-map sheet (renumber g)) (test-renumbered g (ltb mostStatements (length sheet)) 4 _ faults)
+decided-renumbered g z room old new w =
+    let next = ap (modelled room) (w .all-said) ∙ modelled-renumbered g z room (said old) in
+    let faults = faulty-renumbered g 5 (statementFaults old) (modelled room (said old)) (w .all-faults) next in
+    rw (w .many) (test-renumbered g (ltb mostStatements (length old)) 4 _ faults)
 
 -- 1, 2 and 3 stand before what is decided by the sheet
 abbrev sized : Bool → Bool → Bool → Decision → Decision
 sized room bytes lines d = cond room (refused 1) (cond bytes (refused 2) (cond lines (refused 3) d))
 
 -- THE VERDICT on a text whose sheet is another's renumbered, where neither is refused for size
-pub verdict-renumbered : (g : ℕ → ℕ) → g 0 ≡ 0 → (a b : List ℕ) → sheetOf b ≡ map (renumber g) (sheetOf a)
+pub verdict-renumbered : (g : ℕ → ℕ) → g 0 ≡ 0 → (a b : List ℕ) → Renumbered g (sheetOf a) (sheetOf b)
     → (f p : ℕ) → Admitted (verdictOf a f p) → Admitted (verdictOf b f p)
     → verdictOf b f p ≡ renumberDecision g (verdictOf a f p)
 unfolding verdictOf
 verdict-renumbered g z a b sheet f p ok-a ok-b =
     go (ltb f faultRoom) (ltb textBytes (length a)) (ltb textLines (length (linesOf a))) (ltb textBytes (length b))
     (ltb textLines (length (linesOf b))) (decided p (sheetOf a)) (decided p (sheetOf b))
-    (ap (decided p) sheet ∙ decided-renumbered g z p (sheetOf a))
+    (decided-renumbered g z p (sheetOf a) (sheetOf b) sheet)
     (ok-a .not-two) (ok-a .not-three) (ok-b .not-two) (ok-b .not-three)
   where
     go : (room bytes lines bytes′ lines′ : Bool) (x y : Decision) → y ≡ renumberDecision g x

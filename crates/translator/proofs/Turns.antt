@@ -17,9 +17,11 @@ use Rattle.deck.specs.Walks.{Walk}
 use Rattle.deck.proofs.Walking.{walk, walk-end}
 use Rattle.sheet.specs.Sheet.{Told, says, faulty}
 use Rattle.sheet.specs.Reader.{told, sheetOf}
+use Rattle.sheet.proofs.StatementMeans.{told-says}
 use Rattle.translator.specs.declared.SoFar.{SoFar}
 use Rattle.translator.specs.Working.{Able, AddsOf, Adds, Progress, Room, ReadThrough}
 use Rattle.translator.proofs.Counted.{counts}
+use Rattle.deck.specs.declared.Spot.{Spot}
 use Rattle.translator.proofs.Parsing.{drafts-few}
 use Rattle.translator.proofs.Spans.{Span, span}
 use Rattle.translator.proofs.Progress.{progress-first, progress-said, progress-faulty, progress-last}
@@ -105,6 +107,7 @@ module _ {text kinds₀ args₀ lines₀ bounds₀ list₀ kinds args lines boun
                 room-args = omega (arith, places, room .args-room, g .long-args);
               };
           first-fits = omega (arith, step .near, room .taken .brief);
+          brief = room .taken .brief;
           drafts-fit = omega (arith, places, room .taken .brief);
           lines-room = omega (arith, left, room .taken .few, room .lines-room, g .long-lines);
           bounds-room = omega (arith, left, room .taken .few, room .bounds-room, g .long-bounds);
@@ -113,10 +116,10 @@ module _ {text kinds₀ args₀ lines₀ bounds₀ list₀ kinds args lines boun
 
     -- behind it
     pub going-next : {kinds′ args′ lines′ bounds′ list′ : List ℕ} {n′ : SoFar}
-        → Adds (told (cardsAt text s m) d) f n kinds args lines bounds list n′ kinds′ args′ lines′ bounds′ list′
+        → Adds (told (linesAt text s m) d) f n kinds args lines bounds list n′ kinds′ args′ lines′ bounds′ list′
         → Going text kinds₀ args₀ lines₀ bounds₀ list₀ kinds′ args′ lines′ bounds′ list′ n′ nx
     going-next {kinds′} {args′} {lines′} {bounds′} {list′} {n′} w =
-        let both = go (told (cardsAt text s m) d) refl (w .by-told) in
+        let both = go (told (linesAt text s m) d) refl (w .by-told) in
         record {
           progress = both .0;
           long-kinds = w .long-kinds ∙ g .long-kinds;
@@ -125,12 +128,12 @@ module _ {text kinds₀ args₀ lines₀ bounds₀ list₀ kinds args lines boun
           long-bounds = both .2 ∙ g .long-bounds;
         }
       where
-        go : (t : Told) → told (cardsAt text s m) d ≡ t
+        go : (t : Told Spot) → told (linesAt text s m) d ≡ t
             → AddsOf t f n kinds args lines bounds list n′ kinds′ args′ lines′ bounds′ list′
             → Progress text list₀ nx n′ kinds′ args′ lines′ bounds′ list′ × (length lines′ ≡ length lines)
             × (length bounds′ ≡ length bounds)
         go (says x) q (en, ek, ea, el, eb, ef) =
-            let few = drafts-few (cardsAt text s m) d x q in
+            let few = drafts-few (cardsAt text s m) d x (told-says (linesAt text s m) d x q) in
             let p = g .progress in
             let row : List ℕ = replicate joinedRoom 0 in
             let a = going-able {ks = row} {us = row} (omega arith) (omega arith) in

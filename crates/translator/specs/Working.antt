@@ -1,5 +1,5 @@
 -- What the parts of `translate` meet.
-use Prim.Native.Nat.{ℕ, suc, _+_, _-_, _*_, _/_, _≤_, _<_}
+use Prim.Native.Nat.{ℕ, suc, _+_, _*_, _/_, _≤_, _<_}
 use mathlib.Core.Path.{_≡_}
 use mathlib.Core.Bool.{Bool, true}
 use mathlib.Core.List.{List, [], _∷_, _++_, map}
@@ -7,6 +7,8 @@ use lib.ListN.{length, getD, take, set, replicate}
 use lib.Seq.{sets}
 use Rattle.limits.specs.Limits.{mostStatements, mostDefinitions, textBytes, faultRoom, faultBytes}
 use Rattle.deck.specs.declared.Cursor.{Cursor}
+use Rattle.deck.specs.declared.Place.{Place}
+use Rattle.deck.specs.declared.Spot.{Spot}
 use Rattle.deck.specs.Lines.{Line}
 use Rattle.deck.specs.Joined.{joined}
 use Rattle.deck.specs.Faults.{sizeFlaw}
@@ -15,7 +17,8 @@ use Rattle.deck.specs.Reports.{report}
 use Rattle.deck.specs.Next.{statementsFrom, cardsAt}
 use Rattle.deck.specs.Walks.{BytesFrom}
 use Rattle.drafts.specs.Drafts.{draftsOf}
-use Rattle.sheet.specs.Sheet.{Told, says, faulty, Sheet, Numbered, said, statementFaults, entryOf, faultList}
+use Rattle.sheet.specs.Sheet.{Told, says, faulty, Sheet, Numbered, said, statementFaults, faultAtSpot, entryOf}
+use Rattle.sheet.specs.Sheet.{faultList}
 use Rattle.sheet.specs.Reader.{told, sheetOf}
 use Rattle.sheet.specs.Layout.{draftsIn, draftKinds, draftArgs, boundsFrom, Laid}
 use Rattle.blocks.specs.Units.{TextUnit}
@@ -38,14 +41,14 @@ use Rattle.translator.specs.declared.SoFar.{SoFar}
 -- ---- one statement
 
 -- what is told of it: where it says something, the answer is the place behind its drafts, which stand from the place p
--- on; where it has a fault, the answer is the code, and what stands before the place is kept
-abbrev pub TellsOf : Told → ℕ → List ℕ → List ℕ → Answer → List ℕ → List ℕ → Type 0
+-- on; where it has a fault, the answer is the code and where it is, and what stands before the place is kept
+abbrev pub TellsOf : Told Place → ℕ → List ℕ → List ℕ → Answer → List ℕ → List ℕ → Type 0
 TellsOf (says x) p l u r l′ u′ = (r ≡ Says (p + length (draftsOf x))) × (l′ ≡ sets l p (draftKinds (draftsOf x)))
     × (u′ ≡ sets u p (draftArgs (draftsOf x)))
-TellsOf (faulty c q) p l u r l′ u′ = (r ≡ Faulty c) × (take p l′ ≡ take p l) × (take p u′ ≡ take p u)
+TellsOf (faulty c q) p l u r l′ u′ = (r ≡ Faulty c q) × (take p l′ ≡ take p l) × (take p u′ ≡ take p u)
 
 -- of what was told, by reading, and by what stands in the buffers before and after
-pub record Tells (t : Told) (p : ℕ) (l u : List ℕ) (r : Answer) (l′ u′ : List ℕ) : Type 0 where
+pub record Tells (t : Told Place) (p : ℕ) (l u : List ℕ) (r : Answer) (l′ u′ : List ℕ) : Type 0 where
   pub long-kinds : length l′ ≡ length l
   pub long-args : length u′ ≡ length u
   pub by-told : TellsOf t p l u r l′ u′
@@ -90,6 +93,7 @@ pub record Able (text : List ℕ) (first start span cards : ℕ) (closed long : 
   pub size : Size (cardsAt text start span) closed (sizeCode cards closed long)
   pub before : Before text start span next (sizeCode cards closed long) ks us (n .drafts) kinds args
   pub first-fits : first ≤ textBytes
+  pub brief : length text ≤ textBytes
   pub drafts-fit : n .drafts + length (joined (cardsAt text start span)) ≤ textBytes
   pub lines-room : n .statements < length lines
   pub bounds-room : n .statements + 1 < length bounds
@@ -97,7 +101,7 @@ pub record Able (text : List ℕ) (first start span cards : ℕ) (closed long : 
 
 -- what it gives: where the statement says x, its drafts, its number and their end are noted; where it has a fault, that
 -- is listed
-abbrev pub AddsOf : Told → ℕ → SoFar → List ℕ → List ℕ → List ℕ → List ℕ → List ℕ
+abbrev pub AddsOf : Told Spot → ℕ → SoFar → List ℕ → List ℕ → List ℕ → List ℕ → List ℕ
     → SoFar → List ℕ → List ℕ → List ℕ → List ℕ → List ℕ → Type 0
 AddsOf (says x) first n l u ls bs fs r l′ u′ ls′ bs′ fs′ =
     (r ≡ record { statements = n .statements + 1; drafts = n .drafts + length (draftsOf x); faults = n .faults })
@@ -112,10 +116,10 @@ AddsOf (faulty c q) first n l u ls bs fs r l′ u′ ls′ bs′ fs′ =
     × (take (n .drafts) u′ ≡ take (n .drafts) u)
     × (ls′ ≡ ls)
     × (bs′ ≡ bs)
-    × (fs′ ≡ sets fs (faultBytes * n .faults) (entryOf first c))
+    × (fs′ ≡ sets fs (faultBytes * n .faults) (entryOf (faultAtSpot first c q)))
 
 -- by what was told, and by what stands in the buffers before and after
-pub record Adds (t : Told) (first : ℕ) (n : SoFar) (l u ls bs fs : List ℕ) (r : SoFar)
+pub record Adds (t : Told Spot) (first : ℕ) (n : SoFar) (l u ls bs fs : List ℕ) (r : SoFar)
     (l′ u′ ls′ bs′ fs′ : List ℕ) : Type 0 where
   pub long-kinds : length l′ ≡ length l
   pub long-args : length u′ ≡ length u

@@ -1,13 +1,15 @@
 // The translator: from a text to a verdict, with the fault list or the program.
 ghost use mathlib.Core.Path.{_≡_};
-ghost use mathlib.Core.Bool.{Bool};
-ghost use mathlib.Core.List.{List};
+ghost use mathlib.Core.Bool.{cond};
+ghost use lib.Dec.{ltb};
+ghost use lib.ListN.{length, getD};
 ghost use Rattle.tokens.specs.Held.{heldRow};
-ghost use Rattle.tokens.specs.Row.{Placed, symbols, rowOf};
+ghost use Rattle.tokens.specs.Row.{noToken, symbols, rowOf};
 ghost use Rattle.grammar.specs.Parser.{readRow};
 ghost use Rattle.deck.specs.Joined.{joined};
-ghost use Rattle.deck.specs.Next.{cardsAt};
-ghost use Rattle.sheet.specs.Reader.{parsed, tokened, told};
+ghost use Rattle.deck.specs.declared.Place.the-variants.{AtStart, AtToken, AtEnd};
+ghost use Rattle.deck.specs.Next.{linesAt, cardsAt};
+ghost use Rattle.sheet.specs.Reader.{parsed, tokened, cardsTold, told};
 ghost use Rattle.translator.specs.Working.{Tells, RowRoom, JoinedRoom, CardsRoom, Size, Before};
 ghost use Rattle.translator.specs.Working.{Able, Adds, Room, ReadThrough};
 ghost use Rattle.translator.specs.Contract.{Translates, TranslatesInOrder};
@@ -17,6 +19,7 @@ mod room;
 
 use deck::Cursor;
 use deck::Found;
+use deck::Place;
 use grammar::Parsed;
 use limits::FAULT_ROOM;
 use limits::STATEMENTS;
@@ -38,10 +41,10 @@ pub struct Ordered {
     pub units: usize,
 }
 
-// What reading one statement gives: the place behind its drafts, or its fault.
+// What reading one statement gives: the place behind its drafts, or its fault and where it is.
 enum Told {
     Says(usize),
-    Faulty(u8),
+    Faulty(u8, Place),
 }
 
 // How many statements without fault, drafts and faults there are so far.
@@ -53,18 +56,36 @@ struct SoFar {
 
 // ---- one statement
 
-// What a row of tokens, given by their kinds and their arguments, says, or its fault.
-fn parse(row: &[u8], values: &[u64], kinds: &mut [u8], args: &mut [u64], place: usize) -> Told
+// Where token i of a joined text of so many tokens is: the text is cut again for its place. Behind the last, the end.
+fn place_of(body: &[u8], count: usize, i: usize) -> Place
+    ensures { λ r. ⌜ r ≡ cond (ltb i count) (AtToken (getD (rowOf (now (body .entry)) .tokens) i noToken .at)) AtEnd ⌝ }
+{
+    if i < count {
+        return Place::AtToken(tokens::token_place(body, i));
+    }
+    Place::AtEnd
+}
+
+// What a joined text says, or its fault; its row of tokens is given by their kinds and their arguments.
+fn parse(
+    body: &[u8],
+    row: &[u8],
+    values: &[u64],
+    kinds: &mut [u8],
+    args: &mut [u64],
+    place: usize,
+) -> Told
     requires { ⌜ RowRoom (now row) (now values) place (now kinds) (now args) ⌝ }
-    ensures { λ r. ⌜ ((ps : List Placed) → heldRow (now (row .entry)) (now (values .entry)) ≡ symbols ps
+    ensures { λ r. ⌜ (let ps = rowOf (now (body .entry)) .tokens in
+        heldRow (now (row .entry)) (now (values .entry)) ≡ symbols ps → length ps ≡ length (now (row .entry))
         → Tells (parsed ps (readRow (symbols ps))) place (now (kinds .entry)) (now (args .entry)) r (now (kinds .exit))
         (now (args .exit))) ⌝ }
 {
     let r = grammar::parse_row(row, values, kinds, args, place);
     match r {
         Parsed::Done { next } => Told::Says(next),
-        Parsed::Fault { code, at: _ } => Told::Faulty(code),
-        Parsed::NoRoom => Told::Faulty(0),
+        Parsed::Fault { code, at } => Told::Faulty(code, place_of(body, row.len(), at)),
+        Parsed::NoRoom => Told::Faulty(0, Place::AtStart),
     }
 }
 
@@ -83,13 +104,9 @@ fn read_joined(
 {
     let end = tokens::row(body, &mut *row_kinds, &mut *row_args);
     match end {
-        RowEnd::NoRoom => Told::Faulty(0),
-        RowEnd::Fault {
-            code,
-            count: _,
-            at: _,
-        } => Told::Faulty(code),
-        RowEnd::Tokens(n) => parse(&row_kinds[..n], &row_args[..n], kinds, args, place),
+        RowEnd::NoRoom => Told::Faulty(0, Place::AtStart),
+        RowEnd::Fault { code, count: _, at } => Told::Faulty(code, Place::AtToken(at)),
+        RowEnd::Tokens(n) => parse(body, &row_kinds[..n], &row_args[..n], kinds, args, place),
     }
 }
 
@@ -115,6 +132,16 @@ fn read_cards(
     read_joined(&body[..n], row_kinds, row_args, kinds, args, place)
 }
 
+// Where a fault for size is: of a statement that is closed its first byte, else its end.
+fn size_place(closed: bool) -> Place
+    ensures { λ r. ⌜ r ≡ cond closed AtStart AtEnd ⌝ }
+{
+    if closed {
+        return Place::AtStart;
+    }
+    Place::AtEnd
+}
+
 // What the statement of so many lines from a place on says, or its fault; code is its fault for size. The text of one
 // line is its joined text.
 fn read_statement(
@@ -122,6 +149,7 @@ fn read_statement(
     start: usize,
     lines: usize,
     next: usize,
+    closed: bool,
     code: u8,
     row_kinds: &mut [u8],
     row_args: &mut [u64],
@@ -131,12 +159,12 @@ fn read_statement(
 ) -> Told
     requires { ⌜ Before (now text) start lines next code (now «row_kinds») (now «row_args») place (now kinds)
         (now args) ⌝ }
-    ensures { λ r. ⌜ ((closed : Bool) → Size (cardsAt (now (text .entry)) start lines) closed code
-        → Tells (told (cardsAt (now (text .entry)) start lines) closed) place (now (kinds .entry)) (now (args .entry))
-        r (now (kinds .exit)) (now (args .exit))) ⌝ }
+    ensures { λ r. ⌜ (Size (cardsAt (now (text .entry)) start lines) closed code
+        → Tells (cardsTold (cardsAt (now (text .entry)) start lines) closed) place
+        (now (kinds .entry)) (now (args .entry)) r (now (kinds .exit)) (now (args .exit))) ⌝ }
 {
     if code != 0 {
-        return Told::Faulty(code);
+        return Told::Faulty(code, size_place(closed));
     }
     if lines == 1 {
         let end = next - 1;
@@ -147,7 +175,7 @@ fn read_statement(
 
 // ---- all statements
 
-// One statement more: its drafts, its number and where its drafts end; or its fault.
+// One statement more: its drafts, its number and where its drafts end; or its fault at its place.
 fn read_one(
     text: &[u8],
     first: usize,
@@ -168,7 +196,7 @@ fn read_one(
 ) -> SoFar
     requires { ⌜ Able (now text) first start span cards closed long next n (now «row_kinds») (now «row_args»)
         (now kinds) (now args) (now lines) (now bounds) ⌝ }
-    ensures { λ r. ⌜ Adds (told (cardsAt (now (text .entry)) start span) closed) first n
+    ensures { λ r. ⌜ Adds (told (linesAt (now (text .entry)) start span) closed) first n
         (now (kinds .entry)) (now (args .entry)) (now (lines .entry)) (now (bounds .entry)) (now (list .entry))
         r (now (kinds .exit)) (now (args .exit)) (now (lines .exit)) (now (bounds .exit)) (now (list .exit)) ⌝ }
 {
@@ -181,6 +209,7 @@ fn read_one(
         start,
         span,
         next,
+        closed,
         code,
         row_kinds,
         row_args,
@@ -198,8 +227,9 @@ fn read_one(
                 faults: f,
             }
         }
-        Told::Faulty(fault) => {
-            sheet::put_fault(list, f, first, fault);
+        Told::Faulty(fault, place) => {
+            let at = deck::find_spot(text, start, span, place);
+            sheet::put_fault(list, f, first, fault, first + at.down, at.column);
             SoFar {
                 statements: s,
                 drafts: d,

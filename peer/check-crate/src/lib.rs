@@ -6,6 +6,7 @@
 pub mod blocks;
 pub mod comments;
 pub mod library;
+pub mod places;
 pub mod programs;
 pub mod random;
 pub mod texts;

@@ -5,6 +5,7 @@
 use crate::random::Random;
 use crate::texts;
 use floesedge_peer::translate;
+use floesedge_peer::translate::FAULT_LIST;
 
 /// A record before it is packed into bytes.
 #[derive(Clone, Copy)]
@@ -71,7 +72,7 @@ pub fn program(random: &mut Random) -> Vec<u8> {
 
 /// The program of a random text, empty if it is refused.
 fn translated(random: &mut Random) -> Vec<u8> {
-    let mut faults = vec![0; 1024];
+    let mut faults = vec![0; FAULT_LIST];
     let mut program = vec![0; 65_536];
     for _ in 0..10 {
         let text = texts::text(random);

@@ -3,6 +3,7 @@
 
 use crate::blocks;
 use crate::comments;
+use crate::places;
 use crate::random::Random;
 
 /// The tokens of one statement.
@@ -25,7 +26,7 @@ pub fn text(random: &mut Random) -> Vec<u8> {
 
 /// A text of a random family.
 fn of_family(random: &mut Random) -> Vec<u8> {
-    match random.below(84) {
+    match random.below(114) {
         0..=4 => valid(random, Size::Small),
         5 => valid(random, Size::Large),
         6..=10 => damaged(random),
@@ -33,10 +34,10 @@ fn of_family(random: &mut Random) -> Vec<u8> {
         15..=18 => graph(random),
         19 => large_graph(random),
         20 => chain(random),
-        21 => sized(random),
-        22 => lined(random),
-        23 => many_statements(random),
-        24 => many_definitions(random),
+        21 | 46 => sized(random),
+        22 | 47 => lined(random),
+        23 | 48 => many_statements(random),
+        24 | 49 => many_definitions(random),
         25 | 40 => many_records(random),
         26..=27 => nested(random),
         28..=29 => numbers(random),
@@ -49,9 +50,10 @@ fn of_family(random: &mut Random) -> Vec<u8> {
         39 => tiny(random),
         41 => each_byte(random),
         44 | 45 => dense(random),
-        46..=75 => blocks::text(random),
-        76..=82 => comments::cards(random),
-        83 => filled(random),
+        50..=88 => blocks::text(random),
+        89..=96 => comments::cards(random),
+        97 => filled(random),
+        98..=113 => places::text(random),
         _ => tricky(random),
     }
 }
@@ -381,7 +383,7 @@ fn style(random: &mut Random) -> Style {
 }
 
 /// Whether two tokens would run together.
-fn need_space(left: &str, right: &str) -> bool {
+pub(crate) fn need_space(left: &str, right: &str) -> bool {
     let sticks = |byte: u8| byte.is_ascii_alphanumeric() || byte == b'.';
     let last = left.bytes().last().unwrap_or(b' ');
     let first = right.bytes().next().unwrap_or(b' ');

@@ -1,12 +1,15 @@
-//! How often the random texts reach each outcome with blocks and have each shape
-//! of comments inside statements, and that a comment more changes nothing, by the
-//! peer alone.
+//! How often the random texts reach each outcome with blocks, have each shape of
+//! comments inside statements and each sort of place, and that a comment more
+//! changes nothing, by the peer alone.
 
 use std::collections::BTreeMap;
 
 use floesedge_check::comments::{self, Shape};
+use floesedge_check::places::{self, Kind, Sort};
 use floesedge_check::random::Random;
 use floesedge_check::texts;
+use floesedge_peer::faults::FAULT;
+use floesedge_peer::translate::FAULT_LIST;
 use floesedge_peer::{judge_reason, translate};
 
 /// The texts looked at.
@@ -21,7 +24,7 @@ fn each_outcome_with_blocks_is_common() {
         if !texts::has_blocks(&text) {
             continue;
         }
-        let mut faults = vec![0; 1024];
+        let mut faults = vec![0; FAULT_LIST];
         let mut program = vec![0; 65_536];
         let verdict = translate(&text, &mut faults, &mut program);
         match verdict.number {
@@ -31,7 +34,7 @@ fn each_outcome_with_blocks_is_common() {
                 assert_eq!(judge_reason(&program), Ok(()));
             }
             5 | 7 => {
-                let list = faults.chunks_exact(4).take(verdict.count as usize);
+                let list = faults.chunks_exact(FAULT).take(verdict.count as usize);
                 let mut codes: Vec<u8> = list.map(|fault| fault[2]).collect();
                 codes.sort();
                 codes.dedup();
@@ -58,7 +61,7 @@ fn each_shape_of_comments_is_common() {
     let mut verdicts: BTreeMap<u32, u64> = BTreeMap::new();
     for case in 0..TEXTS {
         let text = texts::text(&mut Random::new(7, case * 2));
-        let number = translate(&text, &mut [0; 1024], &mut vec![0; 65_536]).number;
+        let number = translate(&text, &mut [0; FAULT_LIST], &mut vec![0; 65_536]).number;
         if comments::has_comments_inside(&text) {
             *verdicts.entry(number).or_default() += 1;
         }
@@ -81,16 +84,41 @@ fn each_shape_of_comments_is_common() {
     }
 }
 
-/// Verdict, faults as line and code, and records with their lines apart.
-type Outcome = (u32, u32, Vec<(u32, u8)>, Vec<(u32, Vec<u8>)>);
+#[test]
+fn each_sort_of_place_is_common() {
+    let mut places: BTreeMap<(Sort, Kind), u64> = BTreeMap::new();
+    for case in 0..TEXTS {
+        let text = texts::text(&mut Random::new(7, case * 2));
+        for place in places::sorts(&text) {
+            *places.entry(place).or_default() += 1;
+        }
+    }
+    println!("of {TEXTS} texts: faults by place: {places:?}");
+    for (sort, kinds) in Sort::ALL {
+        for &kind in kinds {
+            let count = places.get(&(sort, kind)).copied().unwrap_or(0);
+            assert!(count * 250 >= TEXTS, "{sort:?} of {kind}: {count}");
+        }
+    }
+}
+
+/// A fault: both its lines, and code and column.
+type Fault = ([u32; 2], u8, u16);
+
+/// Verdict, faults, and records with their lines apart.
+type Outcome = (u32, u32, Vec<Fault>, Vec<(u32, Vec<u8>)>);
 
 /// What the peer gives on a text.
 fn outcome(text: &[u8]) -> Outcome {
-    let (mut faults, mut program) = (vec![0; 1024], vec![0; 65_536]);
+    let (mut faults, mut program) = (vec![0; FAULT_LIST], vec![0; 65_536]);
     let verdict = translate(text, &mut faults, &mut program);
     let listed = verdict.count as usize * matches!(verdict.number, 5 | 7) as usize;
     let recorded = verdict.count as usize * (verdict.number == 0) as usize;
-    let fault = |bytes: &[u8]| (u16::from_le_bytes([bytes[0], bytes[1]]).into(), bytes[2]);
+    let pair = |bytes: &[u8], at: usize| u16::from_le_bytes([bytes[at], bytes[at + 1]]);
+    let fault = |bytes: &[u8]| {
+        let lines = [pair(bytes, 0).into(), pair(bytes, 4).into()];
+        (lines, bytes[2], pair(bytes, 6))
+    };
     let record = |bytes: &[u8]| {
         let line = u32::from_le_bytes(bytes[4..8].try_into().unwrap());
         (line, [&bytes[..4], &bytes[8..]].concat())
@@ -98,7 +126,7 @@ fn outcome(text: &[u8]) -> Outcome {
     (
         verdict.number,
         verdict.count,
-        faults.chunks(4).take(listed).map(fault).collect(),
+        faults.chunks(FAULT).take(listed).map(fault).collect(),
         program.chunks(16).take(recorded).map(record).collect(),
     )
 }
@@ -114,7 +142,7 @@ fn a_comment_more_changes_nothing() {
         if matches!(before.0, 2..=4) || matches!(after.0, 2..=4) {
             continue;
         }
-        let faults = before.2.iter_mut().map(|fault| &mut fault.0);
+        let faults = before.2.iter_mut().flat_map(|fault| &mut fault.0);
         let records = before.3.iter_mut().map(|record| &mut record.0);
         for line in faults.chain(records) {
             *line += (*line as usize > place) as u32;

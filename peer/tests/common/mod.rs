@@ -6,28 +6,38 @@ use floesedge_peer::{translate, Verdict};
 /// The tank of the paper.
 pub const TANK: &str = "* TANK\nPARAM K=2\nQ=K*H\nH=INTGRL(1,F-Q)\nF=LIMIT(0,3,TIME)\n";
 
+/// A fault: line, code, line of its place, column.
+pub type Fault = (u16, u8, u16, u16);
+
 /// The verdict on a text, with what is written; all other bytes must stay.
-pub fn outcome(text: &[u8]) -> (u32, u32, Vec<(u16, u8)>, Vec<u8>) {
-    let mut faults = vec![0xa5; 1030];
+pub fn outcome(text: &[u8]) -> (u32, u32, Vec<Fault>, Vec<u8>) {
+    let mut faults = vec![0xa5; 2055];
     let mut program = vec![0x5a; 65_600];
     let Verdict { number, count } = translate(text, &mut faults, &mut program);
     let listed = if matches!(number, 5 | 7) {
-        count as usize * 4
+        count as usize * 8
     } else {
         0
     };
     let written = if number == 0 { count as usize * 16 } else { 0 };
     assert!(faults[listed..].iter().all(|&byte| byte == 0xa5));
     assert!(program[written..].iter().all(|&byte| byte == 0x5a));
-    let pairs = faults[..listed]
-        .chunks_exact(4)
-        .map(|fault| {
-            assert_eq!(fault[3], 0);
-            (u16::from_le_bytes([fault[0], fault[1]]), fault[2])
-        })
-        .collect();
+    let list = faults[..listed].chunks_exact(8).map(fault).collect();
     program.truncate(written);
-    (number, count, pairs, program)
+    (number, count, list, program)
+}
+
+/// A fault as the papers lay it out. The place of 12, 13 and the model faults
+/// is always the first byte of the statement.
+fn fault(bytes: &[u8]) -> Fault {
+    let pair = |at: usize| u16::from_le_bytes([bytes[at], bytes[at + 1]]);
+    let (line, code, place, column) = (pair(0), bytes[2], pair(4), pair(6));
+    assert_eq!(bytes[3], 0);
+    assert!(place >= line && column >= 1);
+    if matches!(code, 12 | 13 | 21..) {
+        assert_eq!((place, column), (line, 1));
+    }
+    (line, code, place, column)
 }
 
 /// The program of a text with verdict 0.
@@ -38,12 +48,18 @@ pub fn good(text: &str) -> Vec<u8> {
     program
 }
 
-/// The faults of a text refused with 5 or 7.
-pub fn refused(text: &str, number: u32) -> Vec<(u16, u8)> {
-    let (found, count, pairs, _) = outcome(text.as_bytes());
+/// The faults of a text refused with 5 or 7, with their places.
+pub fn placed(text: &str, number: u32) -> Vec<Fault> {
+    let (found, count, list, _) = outcome(text.as_bytes());
     assert_eq!(found, number, "{text}");
-    assert_eq!(count as usize, pairs.len());
-    pairs
+    assert_eq!(count as usize, list.len());
+    list
+}
+
+/// The same, lines and codes alone.
+pub fn refused(text: &str, number: u32) -> Vec<(u16, u8)> {
+    let list = placed(text, number).into_iter();
+    list.map(|(line, code, ..)| (line, code)).collect()
 }
 
 /// The number of a verdict that counts nothing.

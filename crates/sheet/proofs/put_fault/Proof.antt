@@ -7,14 +7,15 @@ use Rattle.sheet.proofs.put_fault.Tie as tie
 returns : tie.Need-returns
 returns c =
     let a = c .before .before .args in
-    entry-out (a .line) (a .code) (a .count) (a .list .now) (c .if1 .taken)
+    entry-out _ (a .count) (a .list .now) (c .if1 .taken)
 
 returns-2 : tie.Need-returns-2
 returns-2 c =
     let done = c .before .before in
     let start = done .before .before .before .before .before in
     let a = start .args in
-    entry-put (a .line) (a .code) _ (a .list .now) (done .before .before .wide .ensures) (done .put-low .ensures)
+    entry-put (a .line) (a .code) (a .place) (a .column) _ (a .list .now) (done .before .before .wide .ensures)
+    (done .put-low .ensures)
 
 pub put-fault-spec : {M : Type 1} → statement M
 put-fault-spec =
@@ -22,6 +23,10 @@ put-fault-spec =
     (tie.spec
     returns
     (λ c κs. search needs)
+    (λ c. search needs)
+    (λ c. search needs)
+    (λ c. search needs)
+    (λ c. search needs)
     (λ c. search needs)
     (λ c. search needs)
     (λ c. search needs)

@@ -109,7 +109,9 @@ returns-3 : tie.Need-returns-3
 returns-3 c =
     let p = c .before .before .before .before in
     let k = p .before .before .before .before .before in
-    tells-of (tokened-well (S (R k)) (well k)) (p .parse .ensures (rowOf (S (R k)) .tokens) (held k))
+    let whole = length-take-le (N k) (R k .row .last .1 .0) (room k .0) in
+    let many = ends-well (rowOf (S (R k))) (N k) (well k) .1 in
+    tells-of (tokened-well (S (R k)) (well k)) (p .parse .ensures (held k) (many ∙ sym whole))
 
 pub read-joined-spec : {M : Type 1} → statement M
 read-joined-spec =

@@ -12,7 +12,7 @@ use Rattle.deck.specs.Walks.{BytesFrom}
 use Rattle.tokens.specs.Row.{rowOf}
 use Rattle.sheet.specs.Reader.{tokened}
 use Rattle.translator.specs.Working.{Size}
-use Rattle.translator.proofs.Telling.{tells-of, tells-fault, told-sized, told-joined}
+use Rattle.translator.proofs.Telling.{tells-of, tells-at, told-sized, told-joined}
 use Rattle.translator.proofs.read_statement.Statement.{statement}
 use Rattle.translator.proofs.read_statement.Tie as tie
 
@@ -29,9 +29,10 @@ stands : (t : tie.Then2) → let s = A t in BytesFrom (s .args .text .now) (s .a
 stands t = A t .pre .alone (t .before .if1 .left) (t .if2 .taken)
 
 returns : tie.Need-returns
-returns c closed size =
-    let s = c .before .before .before .before .before .before in
-    tells-fault _ (told-sized (C s) closed (s .args .code) size (c .if1 .taken))
+returns c size =
+    let test = c .before in
+    let s = test .before .before .before .before .before .before in
+    tells-at (told-sized (C s) (s .args .closed) (s .args .code) size (test .if1 .taken)) (c .size-place .ensures)
 
 sub-end : tie.Need-sub-end
 sub-end c = let w = stands c in omega (arith, w .from)
@@ -58,12 +59,12 @@ read-joined-requires c κs =
     }
 
 returns-2 : tie.Need-returns-2
-returns-2 c closed size =
+returns-2 c size =
     let r = c .before .before .before .before .before .before .before .before in
     let t = r .before .before .before .before .before .before in
     let s = A t in
-    let z : Size (C s) closed 0 = subst (Size (C s) closed) (t .before .if1 .left) size in
-    let e = told-joined (C s) closed z ∙ ap (λ (b : List ℕ). tokened (rowOf b)) (sym (stands t .same)) in
+    let z : Size (C s) (s .args .closed) 0 = subst (Size (C s) (s .args .closed)) (t .before .if1 .left) size in
+    let e = told-joined (C s) (s .args .closed) z ∙ ap (λ (b : List ℕ). tokened (rowOf b)) (sym (stands t .same)) in
     tells-of e (r .read-joined .ensures)
 
 read-cards-requires : tie.Need-read-cards-requires
@@ -83,17 +84,18 @@ read-cards-requires c κs =
     }
 
 returns-3 : tie.Need-returns-3
-returns-3 c closed size =
+returns-3 c size =
     let r = c .before .before .before .before .before .before .before .before in
     let f = r .before .before .before .before .before in
     let s = f .before .before .before .before .before .before .before in
-    let z : Size (C s) closed 0 = subst (Size (C s) closed) (f .before .if1 .left) size in
-    tells-of (told-joined (C s) closed z) (r .read-cards .ensures)
+    let z : Size (C s) (s .args .closed) 0 = subst (Size (C s) (s .args .closed)) (f .before .if1 .left) size in
+    tells-of (told-joined (C s) (s .args .closed) z) (r .read-cards .ensures)
 
 pub read-statement-spec : {M : Type 1} → statement M
 read-statement-spec =
     tie.close
     (tie.spec
+    (λ c κs. search needs)
     returns
     sub-end
     sub-read-joined

@@ -9,6 +9,7 @@ use std::time::Instant;
 
 use floesedge_check::library;
 use floesedge_peer as peer;
+use floesedge_peer::translate::FAULT_LIST;
 
 /// How long one timing should take, in nanoseconds.
 const TARGET: f64 = 400_000.0;
@@ -116,7 +117,7 @@ fn cases() -> Vec<Case> {
 
 /// A translation; both must agree on it first.
 fn translate_case(name: &str, text: Vec<u8>) -> Case {
-    let (mut faults, mut program) = (vec![0; 1024], vec![0; 65_536]);
+    let (mut faults, mut program) = (vec![0; FAULT_LIST], vec![0; 65_536]);
     let (mut faults2, mut program2) = (faults.clone(), program.clone());
     let verdict = peer::translate(&text, &mut faults, &mut program);
     assert_eq!(
@@ -222,7 +223,7 @@ fn step_case(name: &str, program: Vec<u8>) -> Case {
 /// The program of a text that is sound.
 fn program_of(text: &[u8]) -> Vec<u8> {
     let mut program = vec![0; 65_536];
-    let verdict = peer::translate(text, &mut [0; 1024], &mut program);
+    let verdict = peer::translate(text, &mut [0; FAULT_LIST], &mut program);
     assert_eq!(verdict.number, 0);
     program.truncate(verdict.count as usize * 16);
     program

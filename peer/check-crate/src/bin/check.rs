@@ -7,8 +7,11 @@ use std::collections::BTreeMap;
 use std::process::ExitCode;
 
 use floesedge_check::comments::{self, Shape};
+use floesedge_check::places::{self, Kind, Sort};
 use floesedge_check::random::Random;
 use floesedge_check::{library, programs, texts};
+use floesedge_peer::faults::FAULT;
+use floesedge_peer::translate::FAULT_LIST;
 use floesedge_peer::{self as peer, Answer, Reason, Verdict};
 
 /// How many differences are shown before the run stops.
@@ -27,6 +30,8 @@ struct Counts {
     with_comments: BTreeMap<u8, u64>,
     /// Texts that were read, by what of comments inside statements they have.
     shapes: BTreeMap<Shape, u64>,
+    /// Faults, by the sort of their place.
+    places: BTreeMap<(Sort, Kind), u64>,
     /// Comments put in, by the verdict and whether they stand inside a statement.
     put_in: BTreeMap<(u32, bool), u64>,
     answers: BTreeMap<u32, u64>,
@@ -128,6 +133,23 @@ fn report(counts: &Counts) -> bool {
     for reason in AGAIN {
         line(format!("{reason:?} of kind 15"), counts.again.get(&reason));
     }
+    report_places(counts) && complete
+}
+
+/// Prints how often the place of each fault was of each sort; false if any never was.
+fn report_places(counts: &Counts) -> bool {
+    println!("places of faults, by code:");
+    let mut complete = true;
+    for (sort, kinds) in Sort::ALL {
+        print!("{:<18}", format!("{sort:?}"));
+        for &kind in kinds {
+            let count = counts.places.get(&(sort, kind)).copied().unwrap_or(0);
+            complete &= count > 0;
+            let never = if count == 0 { " NEVER" } else { "" };
+            print!("  {kind}: {count}{never}");
+        }
+        println!();
+    }
     complete
 }
 
@@ -153,11 +175,12 @@ fn run_text(translate: Translate, text: &[u8], rooms: (usize, usize), pattern: u
 /// Random lengths to lend for a text.
 fn rooms(random: &mut Random, text: &[u8]) -> (usize, usize) {
     let faults = match random.below(24) {
-        0 => random.pick(&[0, 4, 512, 1020, 1023]),
-        1..=3 => random.pick(&[1025, 1028, 1500, 2048, 4096]),
-        _ => 1024,
+        0 => random.pick(&[0, 8, 1023, 1024, 2040, 2047]),
+        1 => random.range(2040, 2056),
+        2 | 3 => random.pick(&[2049, 2056, 3000, 4096]),
+        _ => FAULT_LIST,
     };
-    let verdict = peer::translate(text, &mut [0; 1024], &mut vec![0; 65_536]);
+    let verdict = peer::translate(text, &mut [0; FAULT_LIST], &mut vec![0; 65_536]);
     let needed = verdict.count as usize * 16;
     let program = match random.below(10) {
         0 if verdict.number == 0 => needed.saturating_sub(1),
@@ -231,6 +254,11 @@ fn count_text(text: &[u8], translated: &Translated, counts: &mut Counts) {
             *counts.shapes.entry(shape).or_default() += 1;
         }
     }
+    if matches!(number, 5 | 7) {
+        for place in places::sorts(text) {
+            *counts.places.entry(place).or_default() += 1;
+        }
+    }
 }
 
 /// The length of what is written to the fault list and to the program.
@@ -238,7 +266,7 @@ fn written(verdict: Verdict) -> (usize, usize) {
     let count = verdict.count as usize;
     match verdict.number {
         0 => (0, count * 16),
-        5 | 7 => (count * 4, 0),
+        5 | 7 => (count * FAULT, 0),
         _ => (0, 0),
     }
 }
@@ -247,13 +275,14 @@ fn written(verdict: Verdict) -> (usize, usize) {
 fn fault_codes(translated: &Translated) -> Vec<u8> {
     let (verdict, faults, _) = translated;
     faults[MARGIN..MARGIN + written(*verdict).0]
-        .chunks_exact(4)
+        .chunks_exact(FAULT)
         .map(|fault| fault[2])
         .collect()
 }
 
 /// Puts one comment into a text and compares what the library gives with what it
-/// gave before: the same, each line behind the comment one higher. True if not.
+/// gave before: the same, each line behind the comment one higher, also those of
+/// places. True if not.
 fn check_comment(
     random: &mut Random,
     case: u64,
@@ -306,10 +335,13 @@ fn changes(before: Translated, after: Translated, place: usize) -> bool {
 /// What was given back, each line number over a place one higher.
 fn moved((verdict, mut faults, mut program): Translated, place: usize) -> Translated {
     let (listed, recorded) = written(verdict);
-    for fault in faults[MARGIN..MARGIN + listed].chunks_exact_mut(4) {
-        let line = u16::from_le_bytes([fault[0], fault[1]]);
-        let line = line + (line as usize > place) as u16;
-        fault[..2].copy_from_slice(&line.to_le_bytes());
+    for fault in faults[MARGIN..MARGIN + listed].chunks_exact_mut(FAULT) {
+        // The line of the statement and that of the place; the column stays.
+        for at in [0, 4] {
+            let line = u16::from_le_bytes([fault[at], fault[at + 1]]);
+            let line = line + (line as usize > place) as u16;
+            fault[at..at + 2].copy_from_slice(&line.to_le_bytes());
+        }
     }
     for record in program[MARGIN..MARGIN + recorded].chunks_exact_mut(16) {
         let line = u32::from_le_bytes(record[4..8].try_into().unwrap());
@@ -328,7 +360,7 @@ fn show_text(who: &str, translated: &Translated) {
         hex(&buffer[MARGIN..end.min(MARGIN + most)])
     };
     let (listed, recorded) = written(*verdict);
-    println!("  fault list: {} ..", inside(faults, listed + 4));
+    println!("  fault list: {} ..", inside(faults, listed + FAULT));
     println!("  program: {} ..", inside(program, recorded.min(3200) + 4));
 }
 

@@ -5,21 +5,21 @@ use native.Mathlib.Omega.{arith}
 use borrow.Author.Needs.{needs}
 use lib.ListN.{length}
 use Rattle.blocks.proofs.FaultsListed.{Reports, reports-first, reports-next, reports-last}
-use Rattle.blocks.specs.InsidePlaces.{spotAt, fault26At}
-use Rattle.blocks.proofs.InsideFound.{spot-low, spot-next, wrong-single, wrong-found}
+use Rattle.blocks.specs.InsidePlaces.{standingAt, fault26At}
+use Rattle.blocks.proofs.InsideFound.{standing-low, standing-next, wrong-single, wrong-found}
 use Rattle.blocks.proofs.inside.report_each.Statement.{statement}
 use Rattle.blocks.proofs.inside.report_each.Tie as tie
 
 abbrev Inv-loop : tie.InvT-loop
 Inv-loop hints free lines bounds kinds args faults₀ count₀ c₀ j₀ faults count c j =
-    (c ≡ spotAt bounds kinds j)
+    (c ≡ standingAt bounds kinds j)
     × Reports (fault26At (length lines) free lines bounds kinds args) (length lines) j count faults₀ faults
 
 abbrev μ-loop : tie.MeasureT-loop
 μ-loop hints free lines bounds kinds args faults₀ count₀ c₀ j₀ faults count c j = length lines - j
 
 loop-holds : tie.Need-loop-holds Inv-loop μ-loop
-unfolding spotAt
+unfolding standingAt
 loop-holds c =
     let s = c .before .before .before .before .before .before .before .args in
     let n = length (s .lines .now) in
@@ -33,7 +33,7 @@ is-wrong-requires : tie.Need-is-wrong-requires Inv-loop μ-loop
 is-wrong-requires c κs =
     let at = c .before .loop in
     let s = c .before .before .before .before .before .before .before .before .before in
-    let low = spot-low (s .args .bounds .now) (s .args .kinds .now) (at .j) in
+    let low = standing-low (s .args .bounds .now) (s .args .kinds .now) (at .j) in
     (s .pre, c .loop-test .taken, omega (arith, at .inv .0, low))
 
 add-fault-requires : tie.Need-add-fault-requires Inv-loop μ-loop
@@ -54,7 +54,7 @@ loop-again c =
     let found = wrong-found (length (s .lines .now)) (s .free .now) (s .lines .now) (s .bounds .now) (s .kinds .now)
     (s .args .now) (at .j) (at .inv .0) (c .before .before .before .before .before .before .is-wrong .ensures)
     (c .before .before .before .before .before .short-at .ensures .0) in (
-      spot-next (s .bounds .now) (s .kinds .now) (at .j) (at .inv .0) (c .spot-behind .ensures),
+      standing-next (s .bounds .now) (s .kinds .now) (at .j) (at .inv .0) (c .standing-behind .ensures),
       reports-next (at .inv .1) (c .before .before .before .before .before .before .before .loop-test .taken) found
           (c .before .before .before .add-fault .ensures),
     )

@@ -3,7 +3,7 @@ use Prim.Native.Nat.{_-_}
 use native.Mathlib.Omega.{arith}
 use borrow.Author.Needs.{needs}
 use Rattle.blocks.proofs.KindsRenewed.{Noting, noting-first, noting-next, noting-last}
-use Rattle.blocks.proofs.InsideFound.{spot-low}
+use Rattle.blocks.proofs.InsideFound.{standing-low}
 use Rattle.blocks.proofs.rewrite.note_roles.Statement.{statement}
 use Rattle.blocks.proofs.rewrite.note_roles.Tie as tie
 
@@ -22,7 +22,7 @@ role-at-requires : tie.Need-role-at-requires Inv-loop μ-loop
 role-at-requires c κs =
     let at = c .before .before .loop in
     let s = c .before .before .before .before .before .before .before in (
-      omega (arith, at .inv .spot, spot-low (s .args .bounds .now) (s .args .kinds .now) (at .j)),
+      omega (arith, at .inv .standing, standing-low (s .args .bounds .now) (s .args .kinds .now) (at .j)),
       omega (arith, c .before .loop-test .taken, s .pre),
     )
 
@@ -31,7 +31,7 @@ loop-again c =
     noting-next (c .before .before .before .before .before .before .before .loop .inv)
     (c .before .before .before .before .before .before .loop-test .taken)
     (c .before .before .before .before .role-at .ensures) (c .before .before .before .put-byte .ensures)
-    (c .spot-behind .ensures)
+    (c .standing-behind .ensures)
 
 same-length : tie.Need-same-length Inv-loop μ-loop
 same-length c =

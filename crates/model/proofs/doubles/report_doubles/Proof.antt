@@ -10,7 +10,7 @@ use Rattle.sheet.specs.Sheet.{faultList}
 use Rattle.drafts.specs.Places.{begins}
 use Rattle.model.specs.Working.{before, repeatAt}
 use Rattle.model.proofs.RepeatedKeys.{before-le, before-later, repeat-single, repeat-found, repeated-none}
-use Rattle.model.proofs.FaultsListed.{Reports, reports-first, reports-next, reports-last}
+use Rattle.blocks.proofs.FaultsListed.{Reports, reports-first, reports-next, reports-last}
 use Rattle.model.proofs.doubles.report_doubles.Statement.{statement}
 use Rattle.model.proofs.doubles.report_doubles.Tie as tie
 

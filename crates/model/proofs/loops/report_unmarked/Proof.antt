@@ -5,7 +5,7 @@ use borrow.Author.Needs.{needs}
 use lib.ListN.{length}
 use Rattle.model.specs.Working.{unmarkedAt}
 use Rattle.model.proofs.LoopMarks.{unmarked-single, unmarked-found}
-use Rattle.model.proofs.FaultsListed.{Reports, reports-first, reports-next, reports-last}
+use Rattle.blocks.proofs.FaultsListed.{Reports, reports-first, reports-next, reports-last}
 use Rattle.model.proofs.loops.report_unmarked.Statement.{statement}
 use Rattle.model.proofs.loops.report_unmarked.Tie as tie
 

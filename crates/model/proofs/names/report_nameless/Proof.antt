@@ -5,7 +5,7 @@ use borrow.Author.Needs.{needs}
 use lib.ListN.{length}
 use Rattle.model.specs.Places.{namesAt, nameless}
 use Rattle.model.proofs.NamesResolved.{names-single, flaw-found}
-use Rattle.model.proofs.FaultsListed.{Reports, reports-first, reports-next, reports-last}
+use Rattle.blocks.proofs.FaultsListed.{Reports, reports-first, reports-next, reports-last}
 use Rattle.model.proofs.names.report_nameless.Statement.{statement}
 use Rattle.model.proofs.names.report_nameless.Tie as tie
 

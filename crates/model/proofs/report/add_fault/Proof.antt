@@ -1,6 +1,6 @@
 -- A fault that stands is written behind those before it.
 use borrow.Author.Needs.{needs}
-use Rattle.model.proofs.FaultsListed.{fault-put, fault-none}
+use Rattle.blocks.proofs.FaultsListed.{fault-put, fault-none}
 use Rattle.model.proofs.report.add_fault.Statement.{statement}
 use Rattle.model.proofs.report.add_fault.Tie as tie
 

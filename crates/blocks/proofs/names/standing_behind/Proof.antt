@@ -3,8 +3,8 @@ use mathlib.Core.Path.{refl}
 use native.Mathlib.Numerals.{add-one}
 use borrow.Author.Needs.{needs}
 use Rattle.blocks.proofs.NamesPlaced.{leads-open, leads-shut, leads-neither}
-use Rattle.blocks.proofs.names.spot_behind.Statement.{statement}
-use Rattle.blocks.proofs.names.spot_behind.Tie as tie
+use Rattle.blocks.proofs.names.standing_behind.Statement.{statement}
+use Rattle.blocks.proofs.names.standing_behind.Tie as tie
 
 returns : tie.Need-returns
 returns c =
@@ -24,8 +24,8 @@ returns-3 c =
     rw (leads-neither (s .bounds .now) (s .kinds .now) (s .j) (c .before .before .leading-kind .ensures)
     (c .before .if1 .left) (c .if2 .left)) refl
 
-pub spot-behind-spec : {M : Type 1} → statement M
-spot-behind-spec =
+pub standing-behind-spec : {M : Type 1} → statement M
+standing-behind-spec =
     tie.close
     (tie.spec
     (λ c κs. search needs)
