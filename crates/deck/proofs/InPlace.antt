@@ -9,7 +9,7 @@ use borrow.Author.Tests.{ne-eqb}
 use lib.ListN.{length, drop, length-append}
 use lib.Seq.{drop-append-le, drop-append-add, getD-append-seam}
 use Rattle.laws.specs.Every.{Every}
-use Rattle.laws.specs.Runs.{Apart}
+use Rattle.laws.specs.Runs.{EndOrSpace}
 use Rattle.laws.proofs.Bools.{or-false}
 use Rattle.laws.proofs.Tests.{bool-cases, lt-or-ge, cond-ind}
 use Rattle.deck.specs.Lines.{Line, starred, blank, trimmed, passed}
@@ -191,7 +191,7 @@ module _ (l : Line) (ls : List Line) (n : ℕ) (c : starred l ≡ false) (h : le
   solid-same = w .there ∙ sym (solid-below .there)
 
 -- nothing, or a space, stands behind a part
-spaced-apart : (cs : List Line) → Apart (spaced cs)
+spaced-apart : (cs : List Line) → EndOrSpace (spaced cs)
 unfolding spaced
 spaced-apart [] = inl refl
 spaced-apart (m ∷ cs) = inr (_, refl)
@@ -201,7 +201,7 @@ record Behind (x ls : List Line) (n : ℕ) (p : Spot) : Type 0 where
   in-card : InCard (x ++ ls) p
   in-part : p .column ≤ length (linePart (lineAtSpot (x ++ ls) p))
   behind : List ℕ
-  apart : Apart behind
+  apart : EndOrSpace behind
   goes-on : drop n (joined (cardsOf ls)) ≡ drop (p .column - 1) (linePart (lineAtSpot (x ++ ls) p)) ++ behind
 
 -- the same of a line more in front, whose part does not have it

@@ -5,7 +5,7 @@ use mathlib.Core.Bool.{false}
 use mathlib.Core.List.{List, [], _++_}
 use mathlib.Core.Logic.{_⊎_}
 use lib.ListN.{length, getD, drop}
-use Rattle.laws.specs.Runs.{Apart}
+use Rattle.laws.specs.Runs.{EndOrSpace}
 use Rattle.deck.specs.Lines.{Line, starred}
 use Rattle.deck.specs.Reading.{cardsOf}
 use Rattle.deck.specs.Joined.{linePart, joined}
@@ -28,7 +28,7 @@ pub record StandsAt (ls : List Line) (n : ℕ) (p : Spot) : Type 0 where
   pub in-card : InCard ls p
   pub in-part : p .column ≤ length (linePart (lineAtSpot ls p))
   pub behind : List ℕ
-  pub apart : Apart behind
+  pub apart : EndOrSpace behind
   pub goes-on : drop n (joined (cardsOf ls)) ≡ drop (p .column - 1) (linePart (lineAtSpot ls p)) ++ behind
 
 -- one spot is earlier than another: on a line above, or further to the left

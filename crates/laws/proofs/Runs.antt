@@ -10,7 +10,7 @@ use borrow.Author.Tests.{eq-eqb}
 use lib.Dec.{eqb}
 use lib.ListN.{length, getD, take, drop, length-drop, drop-of-length-le, List·getD-eq-default}
 use lib.Seq.{drop-cons}
-use Rattle.laws.specs.Runs.{frontRun, Apart}
+use Rattle.laws.specs.Runs.{frontRun, EndOrSpace}
 use Rattle.laws.proofs.Tests.{bool-cases, not-both, lt-or-ge, cond-ind}
 
 module _ (p : ℕ → Bool) (s : List ℕ) (i : ℕ) where
@@ -95,12 +95,13 @@ module _ (p : ℕ → Bool) where
       go false ih = refl
 
   -- what stands apart is no part of it, where a space does not pass
-  pub run-apart : p 32 ≡ false → (xs r : List ℕ) → Apart r → frontRun p (xs ++ r) ≡ frontRun p xs
+  pub run-apart : p 32 ≡ false → (xs r : List ℕ) → EndOrSpace r → frontRun p (xs ++ r) ≡ frontRun p xs
   unfolding frontRun
   run-apart z [] r a = ⊎-elim (λ e. rw e) (λ e. rw (e .1, z)) a
   run-apart z (x ∷ xs) r a = rw (run-apart z xs r a)
 
   -- and reads as what does not pass
-  pub head-apart : p 0 ≡ false → p 32 ≡ false → (xs r : List ℕ) → Apart r → p (getD (xs ++ r) 0 0) ≡ p (getD xs 0 0)
+  pub head-apart : p 0 ≡ false → p 32 ≡ false → (xs r : List ℕ) → EndOrSpace r
+      → p (getD (xs ++ r) 0 0) ≡ p (getD xs 0 0)
   head-apart o z [] r a = ⊎-elim (λ e. rw e) (λ e. rw (e .1) (z ∙ sym o)) a
   head-apart o z (x ∷ xs) r a = refl

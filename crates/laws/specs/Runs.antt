@@ -10,5 +10,5 @@ frontRun p [] = []
 frontRun p (x ∷ xs) = cond (p x) (x ∷ frontRun p xs) []
 
 -- nothing, or a space and what follows
-abbrev pub Apart : List ℕ → Type 0
-Apart r = (r ≡ []) ⊎ ((t : List ℕ) × (r ≡ 32 ∷ t))
+abbrev pub EndOrSpace : List ℕ → Type 0
+EndOrSpace r = (r ≡ []) ⊎ ((t : List ℕ) × (r ≡ 32 ∷ t))

@@ -55,7 +55,7 @@ use Rattle.promises.specs.Table.{numberFor}
 use Rattle.promises.specs.Demand2.{Decided, DecidedFor}
 use Rattle.promises.specs.Demand3.{Change, Local, LocalFor}
 use Rattle.promises.specs.Comments.{Commented, Unchanged, UnchangedFor}
-use Rattle.promises.specs.InPlace.{InPlace}
+use Rattle.promises.specs.InPlace.{InPlace, PlacedBy}
 use Rattle.promises.specs.Agreement as agree
 use Rattle.promises.proofs.Table as table
 use Rattle.promises.proofs.Demand1 as demand-one
@@ -196,6 +196,9 @@ comment-last = comments.comment-last
 
 pub in-place : (text : List ℕ) → InPlace text
 in-place = places.in-place
+
+pub in-place-for : (text f p f′ p′ : List ℕ) (r : Verdict) → Translates text f p r f′ p′ → PlacedBy text r f f′
+in-place-for = places.in-place-for
 
 -- ---- the grammar
 

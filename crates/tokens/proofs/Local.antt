@@ -11,7 +11,7 @@ use borrow.Author.Tests.{lt-leb}
 use lib.Dec.{eqb, leb, ltb}
 use lib.ListN.{length, getD, take, drop, length-drop, length-append}
 use lib.Seq.{drop-drop, drop-append-le, getD-drop}
-use Rattle.laws.specs.Runs.{frontRun, Apart}
+use Rattle.laws.specs.Runs.{frontRun, EndOrSpace}
 use Rattle.laws.proofs.Tests.{bool-cases, not-both}
 use Rattle.laws.proofs.Runs.{run-end, run-short, run-take, run-apart, head-apart, inside}
 use Rattle.limits.specs.Limits.{nameBytes, exponentDigits}
@@ -43,7 +43,8 @@ unfolding cutAt tokenAt
 seen-first s i h solid = rw (run-end isSpace s i solid, lt-leb (length s) i h)
 
 -- from place i of s the bytes are u, and then a space or nothing; from place j of t they are u, and nothing more
-module _ (s t : List ℕ) (i j : ℕ) (u r : List ℕ) (here : drop i s ≡ u ++ r) (there : drop j t ≡ u) (a : Apart r) where
+module _ (s t : List ℕ) (i j : ℕ) (u r : List ℕ) (here : drop i s ≡ u ++ r) (there : drop j t ≡ u)
+    (a : EndOrSpace r) where
   -- ---- the same place in both: so many bytes further on
   record Same (m n : ℕ) : Type 0 where
     further : ℕ
