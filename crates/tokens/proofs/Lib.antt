@@ -6,7 +6,6 @@ pub mod Values
 pub mod Keys
 pub mod Sound
 pub mod Rows
-pub mod Places
 pub mod Local
 pub mod RowPlaces
 mod Steps

@@ -1,60 +1,45 @@
--- The invariant is Seeking: the token is so many further on from here.
-use Prim.Native.Nat.{_-_}
-use mathlib.Core.Path.{sym, _∙_}
+-- A pass that keeps nothing and stops at the token, or finds none there.
+use mathlib.Core.Path.{_≡_, refl}
 use borrow.Author.Needs.{needs}
-use lib.ListN.{length}
-use Rattle.tokens.proofs.Places.{Seeking, seeking-first, seeking-none, seeking-found, seeking-next, seeking-less}
+use lib.ListN.{getD}
+use Rattle.tokens.specs.declared.Pass.{Pass}
+use Rattle.tokens.specs.Row.{noToken, rowOf}
+use Rattle.laws.proofs.Tests.{not-both}
+use Rattle.tokens.proofs.Steps.{placeIn, pass-place}
 use Rattle.tokens.proofs.token_place.Statement.{statement}
 use Rattle.tokens.proofs.token_place.Tie as tie
 
-abbrev Inv-loop : tie.InvT-loop
-Inv-loop body i from₀ left₀ from left = Seeking body i from left
+-- where the function begins
+abbrev B : tie.After-pass-over → tie.Start
+B p = p .before .before .before .before
 
-abbrev μ-loop : tie.MeasureT-loop
-μ-loop body i from₀ left₀ from left = length body - from
+-- what a pass that ends so gives
+gives : (p : tie.After-pass-over) (q : Pass) → p .pass-over .result ≡ q
+    → placeIn q ≡ getD (rowOf (B p .args .body .now) .tokens) (B p .args .i) noToken .at
+gives p q e = pass-place _ _ (B p .args .i) _ _ (p .pass-over .result) q _ _ (p .pass-over .ensures) e
 
-loop-holds : tie.Need-loop-holds Inv-loop μ-loop
-loop-holds c = let a = c .before .args in seeking-first (a .body .now) (a .i)
+pass-over-requires : tie.Need-pass-over-requires
+pass-over-requires c κs = λ e. absurd (not-both e refl)
 
-returns : tie.Need-returns Inv-loop μ-loop
-returns c =
-    let test = c .before .before in
-    let cut = test .before in
-    seeking-found _ _ _ _ (cut .before .loop .inv) _ (cut .take-cut .ensures)
-    (sym (test .is-good .ensures) ∙ c .before .if1 .taken) (c .if2 .taken)
+returns : tie.Need-returns
+returns c = gives (c .before .before .before .before) _ (c .enum-told .given .1)
 
-loop-less : tie.Need-loop-less Inv-loop μ-loop
-loop-less c =
-    let test = c .before .before in
-    let cut = test .before in
-    seeking-less _ _ _ _ (cut .before .loop .inv) _ (cut .take-cut .ensures)
-    (sym (test .is-good .ensures) ∙ c .before .if1 .taken)
+returns-2 : tie.Need-returns-2
+returns-2 c = gives (c .before .before .before .before) _ (c .enum-told2 .given .1)
 
-loop-again : tie.Need-loop-again Inv-loop μ-loop
-loop-again c =
-    let test = c .before .before in
-    let cut = test .before in
-    seeking-next _ _ _ _ (cut .before .loop .inv) _ (cut .take-cut .ensures)
-    (sym (test .is-good .ensures) ∙ c .before .if1 .taken) (c .if2 .left)
-
-returns-2 : tie.Need-returns-2 Inv-loop μ-loop
-returns-2 c =
-    let test = c .before in
-    let cut = test .before in
-    seeking-none _ _ _ _ (cut .before .loop .inv) _ (cut .take-cut .ensures)
-    (sym (test .is-good .ensures) ∙ c .if1 .left)
+returns-3 : tie.Need-returns-3
+returns-3 c = gives (c .before .before .before .before .before) _ (c .before .p .given .1)
 
 pub token-place-spec : {M : Type 1} → statement M
 token-place-spec =
     tie.close
     (tie.spec
-    Inv-loop
-    μ-loop
-    loop-holds
-    (λ c κs. search needs)
-    (λ c κs. search needs)
-    returns
     (λ c. search needs)
-    loop-less
-    loop-again
-    returns-2)
+    (λ c. search needs)
+    pass-over-requires
+    (λ c. search needs)
+    (λ c. search needs)
+    (λ c. search needs)
+    returns
+    returns-2
+    returns-3)
