@@ -8,6 +8,7 @@ pub mod Sound
 pub mod Rows
 pub mod Local
 pub mod RowPlaces
+pub mod Skips
 mod Steps
 pub mod Answers
 pub mod Holding

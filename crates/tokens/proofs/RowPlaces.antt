@@ -64,7 +64,7 @@ token-at s at =
 
 module _ (s : List ℕ) (from : ℕ) where
   -- behind the spaces
-  cut-place : cutAt s from .at ≡ from + length (spacesAt s from)
+  pub cut-place : cutAt s from .at ≡ from + length (spacesAt s from)
   unfolding cutAt
   cut-place = token-at s (from + length (spacesAt s from))
 
@@ -85,7 +85,7 @@ module _ (s : List ℕ) (from : ℕ) where
       ap (tokenAt s) same
 
   -- what is no end stands before the end
-  cut-inside : (cutAt s from .token ≡ End → ⊥) → cutAt s from .at < length s
+  pub cut-inside : (cutAt s from .token ≡ End → ⊥) → cutAt s from .at < length s
   unfolding cutAt tokenAt
   cut-inside h =
       let at = from + length (spacesAt s from) in

@@ -4,14 +4,15 @@ use mathlib.Core.Path.{_≡_}
 use mathlib.Core.Bool.{Bool, _&&_, cond}
 use mathlib.Core.List.{List, map}
 use lib.Dec.{leb}
-use lib.ListN.{length, getD}
+use lib.ListN.{length}
 use lib.Seq.{sets}
 use Rattle.tokens.specs.declared.Cut.{Cut}
 use Rattle.tokens.specs.declared.RowEnd.{RowEnd}
 use Rattle.tokens.specs.declared.RowEnd.the-variants.{NoRoom, Tokens, Fault}
 use Rattle.tokens.specs.Token.{cutAt}
 use Rattle.tokens.specs.Held.{symbolKind, argOf}
-use Rattle.tokens.specs.Row.{Close, all-good, bad, Row, noToken, rowOf, symbols}
+use Rattle.tokens.specs.Row.{Close, all-good, bad, Row, rowOf, symbols}
+use Rattle.tokens.specs.Skips.{placeBehind}
 
 -- `take_cut`: the next token from a place on, its place, and where the next one begins
 abbrev pub TakesCut : List ℕ → ℕ → Cut → Type 0
@@ -45,6 +46,7 @@ pub record WritesRow (s ks us : List ℕ) (r : RowEnd) (ks′ us′ : List ℕ) 
   pub kinds : ks′ ≡ cond (rowRoomy s ks us) (sets ks 0 (kindsOf (rowOf s))) ks
   pub args : us′ ≡ cond (rowRoomy s ks us) (sets us 0 (argsOf (rowOf s))) us
 
--- `token_place`: the place of the first byte of token i of the row, 0 where it has none
+-- `token_place`: where the token behind i others begins; of a row without bad token, the place of its token i (law
+-- `place-of-token`)
 abbrev pub PlacesToken : List ℕ → ℕ → ℕ → Type 0
-PlacesToken body i r = r ≡ getD (rowOf body .tokens) i noToken .at
+PlacesToken body i r = r ≡ placeBehind i body 0

@@ -12,4 +12,5 @@ pub mod Held
 pub mod Names
 pub mod Capped
 pub mod Steps
+pub mod Skips
 pub mod Contract

@@ -2,6 +2,7 @@
 mod bytes;
 mod name;
 mod number;
+mod places;
 mod step;
 mod word;
 
@@ -11,12 +12,11 @@ use bytes::is_mark;
 use bytes::past_spaces;
 use name::read_name;
 use number::read_number;
+use places::past_token;
 use step::Step;
 use step::take_step;
 ghost use mathlib.Core.Path.{_≡_};
 ghost use Rattle.tokens.specs.Token.{badAt};
-ghost use mathlib.Core.Bool.{true};
-ghost use Rattle.tokens.specs.Steps.{PassRoom, Passes};
 ghost use Rattle.tokens.specs.Contract.{TakesCut, WritesRow, PlacesToken};
 
 // A name's place and length, a mark's byte, a number's value; the end of the text; a bad token's code.
@@ -104,54 +104,6 @@ pub enum RowEnd {
     Fault { code: u8, count: usize, at: usize },
 }
 
-// How a pass over the tokens of a text ends: their count; the first bad token's code and place, behind so many good
-// ones; or the place of the token at which it stopped.
-enum Pass {
-    Tokens(usize),
-    Fault { code: u8, count: usize, at: usize },
-    Stop(usize),
-}
-
-// Passes over the tokens of a text up to the end, the first bad one, or token `stop`; writes the kind and the argument
-// of each, if they are to be kept. The one place where a row is cut: the tokens of most texts are cut once.
-fn pass_over(body: &[u8], kinds: &mut [u8], args: &mut [u64], keep: bool, stop: usize) -> Pass
-    requires { ⌜ (keep ≡ true → PassRoom (now body) (now kinds) (now args)) ⌝ }
-    ensures { λ r. ⌜ Passes (now (body .entry)) keep stop (now (kinds .entry)) (now (args .entry)) r
-        (now (kinds .exit)) (now (args .exit)) ⌝ }
-{
-    let mut from: usize = 0;
-    let mut n: usize = 0;
-    loop {
-        let s = take_step(body, from);
-        match s {
-            Step::Over => {
-                return Pass::Tokens(n);
-            }
-            Step::Refused { code, at } => {
-                return Pass::Fault {
-                    code: code,
-                    count: n,
-                    at: at,
-                };
-            }
-            Step::Good { held, at, next } => {
-                if n == stop {
-                    return Pass::Stop(at);
-                }
-                if keep {
-                    kinds[n] = held.kind;
-                    args[n] = held.arg;
-                    n += 1;
-                    from = next;
-                } else {
-                    n += 1;
-                    from = next;
-                }
-            }
-        }
-    }
-}
-
 // Writes the kind and the argument of each token of a text, up to the end or the first bad one. It takes room for a
 // token for each byte.
 pub fn row(body: &[u8], kinds: &mut [u8], args: &mut [u64]) -> RowEnd
@@ -164,28 +116,43 @@ pub fn row(body: &[u8], kinds: &mut [u8], args: &mut [u64]) -> RowEnd
     if args.len() < body.len() {
         return RowEnd::NoRoom;
     }
-    let p = pass_over(body, kinds, args, true, body.len());
-    match p {
-        Pass::Tokens(n) => RowEnd::Tokens(n),
-        Pass::Fault { code, count, at } => RowEnd::Fault { code, count, at },
-        Pass::Stop(_) => RowEnd::NoRoom,
+    let mut from: usize = 0;
+    let mut n: usize = 0;
+    loop {
+        let s = take_step(body, from);
+        match s {
+            Step::Over => {
+                return RowEnd::Tokens(n);
+            }
+            Step::Refused { code, at } => {
+                return RowEnd::Fault {
+                    code: code,
+                    count: n,
+                    at: at,
+                };
+            }
+            Step::Good { held, next } => {
+                kinds[n] = held.kind;
+                args[n] = held.arg;
+                n += 1;
+                from = next;
+            }
+        }
     }
 }
 
-// The place of the first byte of token i of a text, which is cut again up to it; 0 where it has none.
+// Where token i of a text begins, if those before it are good: they are skipped.
 pub fn token_place(body: &[u8], i: usize) -> usize
     ensures { λ r. ⌜ PlacesToken (now (body .entry)) i r ⌝ }
 {
-    let mut kinds = [0u8; 0];
-    let mut args = [0u64; 0];
-    let p = pass_over(body, &mut kinds, &mut args, false, i);
-    match p {
-        Pass::Tokens(_) => 0,
-        Pass::Fault {
-            code: _,
-            count: _,
-            at: _,
-        } => 0,
-        Pass::Stop(at) => at,
+    let mut from: usize = 0;
+    let mut left = i;
+    loop {
+        let at = past_spaces(body, from);
+        if left == 0 {
+            return at;
+        }
+        from = past_token(body, at);
+        left -= 1;
     }
 }

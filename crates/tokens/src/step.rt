@@ -33,10 +33,10 @@ fn held_name(name: &[u8]) -> Held
     Held { kind: kind, arg: 0 }
 }
 
-// What one cut gives a row: a token as it is held, its place and the place where the next begins, the end, or a bad
-// token's code and place.
+// What one cut gives a row: a token as it is held and the place where the next begins, the end, or a bad token's code
+// and place.
 pub enum Step {
-    Good { held: Held, at: usize, next: usize },
+    Good { held: Held, next: usize },
     Over,
     Refused { code: u8, at: usize },
 }
@@ -52,13 +52,11 @@ pub fn take_step(body: &[u8], from: usize) -> Step
             let e = p + n;
             Step::Good {
                 held: held_name(&body[p..e]),
-                at: c.at,
                 next: c.next,
             }
         }
         Token::Mark(b) => Step::Good {
             held: Held { kind: b, arg: 0 },
-            at: c.at,
             next: c.next,
         },
         Token::Number(x) => Step::Good {
@@ -66,7 +64,6 @@ pub fn take_step(body: &[u8], from: usize) -> Step
                 kind: NUMBER,
                 arg: bits::bits_of(x),
             },
-            at: c.at,
             next: c.next,
         },
         Token::End => Step::Over,

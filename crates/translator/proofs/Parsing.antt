@@ -1,21 +1,26 @@
 -- What the grammar's answer for a row of tokens tells.
 use Prim.Native.Nat.{ℕ, suc, _+_, _≤_}
-use mathlib.Core.Path.{_≡_, refl, ap, _∙_}
-use mathlib.Core.Bool.{Bool}
+use mathlib.Core.Path.{_≡_, refl, sym, ap, _∙_}
+use mathlib.Core.Bool.{Bool, cond}
+use mathlib.Core.Logic.{⊎-elim}
 use mathlib.Core.List.{List, [], _∷_}
 use native.Mathlib.Omega.{arith}
-use borrow.Author.Tests.{eq-eqb, le-leb}
+use borrow.Author.Tests.{eq-eqb, le-leb, lt-ltb, le-ltb}
+use lib.Dec.{ltb}
 use lib.ListN.{length, take, set, length-map}
 use lib.Seq.{sets, length-sets, take-set-le}
 use Rattle.limits.specs.Limits.{levels}
+use Rattle.laws.proofs.Tests.{lt-or-ge}
 use Rattle.deck.specs.Lines.{Line}
 use Rattle.deck.specs.Joined.{joined}
 use Rattle.deck.specs.Faults.{Flaw, none, flaw, sizeFlaw}
 use Rattle.deck.specs.declared.Place.{Place}
-use Rattle.deck.specs.declared.Place.the-variants.{AtStart}
+use Rattle.deck.specs.declared.Place.the-variants.{AtStart, AtToken, AtEnd}
 use Rattle.tokens.specs.Held.{heldRow}
 use Rattle.tokens.specs.Row.{Placed, Close, all-good, bad, rowOf, symbols}
+use Rattle.tokens.specs.Skips.{placeBehind}
 use Rattle.tokens.proofs.Rows.{row-short}
+use Rattle.tokens.proofs.Skips.{place-of-token}
 use Rattle.drafts.specs.Tree.{Says as Statement}
 use Rattle.drafts.specs.Drafts.{Draft, draftsOf}
 use Rattle.grammar.specs.Parser.{Read, read, fault, readRow, entire, calls}
@@ -35,6 +40,14 @@ use Rattle.translator.specs.Working.{TellsOf, Tells, RowRoom}
 take-before : (p : ℕ) (l : List ℕ) (i : ℕ) (vs : List ℕ) → p ≤ i → take p (sets l i vs) ≡ take p l
 take-before p l i [] h = refl
 take-before p l i (a ∷ vs) h = take-before p (set l i a) (suc i) vs (omega arith) ∙ take-set-le p l i a h
+
+-- the place that is found for token i of a row of n tokens is its own
+pub place-same : (s : List ℕ) (n i : ℕ) → length (rowOf s .tokens) ≡ n
+    → cond (ltb i n) (AtToken (placeBehind i s 0)) AtEnd ≡ placeOf (rowOf s .tokens) i
+place-same s n i e =
+    let m = length (rowOf s .tokens) in
+    rw (← e)
+    (⊎-elim (λ l. rw (lt-ltb i m l) (ap AtToken (sym (place-of-token s i l)))) (λ g. rw (le-ltb i m g)) (lt-or-ge i m))
 
 -- the answer here for the grammar's
 abbrev pub answerOf : List Placed → Parsed → Answer

@@ -2,9 +2,10 @@
 ghost use mathlib.Core.Path.{_≡_};
 ghost use mathlib.Core.Bool.{cond};
 ghost use lib.Dec.{ltb};
-ghost use lib.ListN.{length, getD};
+ghost use lib.ListN.{length};
 ghost use Rattle.tokens.specs.Held.{heldRow};
-ghost use Rattle.tokens.specs.Row.{noToken, symbols, rowOf};
+ghost use Rattle.tokens.specs.Row.{symbols, rowOf};
+ghost use Rattle.tokens.specs.Skips.{placeBehind};
 ghost use Rattle.grammar.specs.Parser.{readRow};
 ghost use Rattle.deck.specs.Joined.{joined};
 ghost use Rattle.deck.specs.declared.Place.the-variants.{AtStart, AtToken, AtEnd};
@@ -56,9 +57,9 @@ struct SoFar {
 
 // ---- one statement
 
-// Where token i of a joined text of so many tokens is: the text is cut again for its place. Behind the last, the end.
+// Where token i of a joined text of so many tokens is: those before it are gone over again. Behind the last, the end.
 fn place_of(body: &[u8], count: usize, i: usize) -> Place
-    ensures { λ r. ⌜ r ≡ cond (ltb i count) (AtToken (getD (rowOf (now (body .entry)) .tokens) i noToken .at)) AtEnd ⌝ }
+    ensures { λ r. ⌜ r ≡ cond (ltb i count) (AtToken (placeBehind i (now (body .entry)) 0)) AtEnd ⌝ }
 {
     if i < count {
         return Place::AtToken(tokens::token_place(body, i));

@@ -1,45 +1,40 @@
--- A pass that keeps nothing and stops at the token, or finds none there.
-use mathlib.Core.Path.{_≡_, refl}
+-- The invariant: the token is so many further on from here.
+use mathlib.Core.Path.{_≡_, refl, _∙_}
 use borrow.Author.Needs.{needs}
-use lib.ListN.{getD}
-use Rattle.tokens.specs.declared.Pass.{Pass}
-use Rattle.tokens.specs.Row.{noToken, rowOf}
-use Rattle.laws.proofs.Tests.{not-both}
-use Rattle.tokens.proofs.Steps.{placeIn, pass-place}
+use Rattle.tokens.specs.Skips.{placeBehind}
+use Rattle.tokens.proofs.Skips.{behind-here, behind-next}
 use Rattle.tokens.proofs.token_place.Statement.{statement}
 use Rattle.tokens.proofs.token_place.Tie as tie
 
--- where the function begins
-abbrev B : tie.After-pass-over → tie.Start
-B p = p .before .before .before .before
+abbrev Inv-loop : tie.InvT-loop
+Inv-loop body i from₀ left₀ from left = placeBehind left body from ≡ placeBehind i body 0
 
--- what a pass that ends so gives
-gives : (p : tie.After-pass-over) (q : Pass) → p .pass-over .result ≡ q
-    → placeIn q ≡ getD (rowOf (B p .args .body .now) .tokens) (B p .args .i) noToken .at
-gives p q e = pass-place _ _ (B p .args .i) _ _ (p .pass-over .result) q _ _ (p .pass-over .ensures) e
+abbrev μ-loop : tie.MeasureT-loop
+μ-loop body i from₀ left₀ from left = left
 
-pass-over-requires : tie.Need-pass-over-requires
-pass-over-requires c κs = λ e. absurd (not-both e refl)
+returns : tie.Need-returns Inv-loop μ-loop
+returns c =
+    let spaces = c .before in
+    let l = spaces .before in
+    behind-here _ _ _ _ (c .if1 .taken) (spaces .past-spaces .ensures) ∙ l .loop .inv
 
-returns : tie.Need-returns
-returns c = gives (c .before .before .before .before) _ (c .enum-told .given .1)
-
-returns-2 : tie.Need-returns-2
-returns-2 c = gives (c .before .before .before .before) _ (c .enum-told2 .given .1)
-
-returns-3 : tie.Need-returns-3
-returns-3 c = gives (c .before .before .before .before .before) _ (c .before .p .given .1)
+loop-again : tie.Need-loop-again Inv-loop μ-loop
+loop-again c =
+    let test = c .before in
+    let spaces = test .before in
+    let l = spaces .before in
+    behind-next _ _ _ _ _ (test .if1 .left) (spaces .past-spaces .ensures) (c .past-token .ensures) ∙ l .loop .inv
 
 pub token-place-spec : {M : Type 1} → statement M
 token-place-spec =
     tie.close
     (tie.spec
-    (λ c. search needs)
-    (λ c. search needs)
-    pass-over-requires
-    (λ c. search needs)
-    (λ c. search needs)
-    (λ c. search needs)
+    Inv-loop
+    μ-loop
+    (λ c. refl)
+    (λ c κs. search needs)
     returns
-    returns-2
-    returns-3)
+    (λ c κs. search needs)
+    (λ c. search needs)
+    (λ c. search needs)
+    loop-again)

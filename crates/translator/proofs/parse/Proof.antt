@@ -1,19 +1,15 @@
 -- The answer is that of the grammar for the row, a fault's token with its place.
-use Prim.Native.Nat.{ℕ}
-use mathlib.Core.Path.{_≡_, sym, ap, _∙_}
-use mathlib.Core.Bool.{cond}
+use mathlib.Core.Path.{_≡_, _∙_}
 use mathlib.Core.List.{List}
 use borrow.Author.Needs.{needs}
-use lib.Dec.{ltb}
-use lib.ListN.{getD}
-use Rattle.deck.specs.declared.Place.the-variants.{AtToken, AtEnd}
+use lib.ListN.{length}
 use Rattle.tokens.specs.Held.{heldRow}
-use Rattle.tokens.specs.Row.{Placed, noToken, rowOf, symbols}
+use Rattle.tokens.specs.Row.{Placed, rowOf, symbols}
 use Rattle.grammar.specs.Parser.{readRow}
 use Rattle.grammar.specs.declared.Parsed.{Parsed}
 use Rattle.sheet.specs.Reader.{parsed}
 use Rattle.translator.specs.Working.{Tells}
-use Rattle.translator.proofs.Parsing.{answerOf, parsed-tells, parsed-faulty}
+use Rattle.translator.proofs.Parsing.{place-same, answerOf, parsed-tells, parsed-faulty}
 use Rattle.translator.proofs.parse.Statement.{statement}
 use Rattle.translator.proofs.parse.Tie as tie
 
@@ -42,7 +38,7 @@ returns-2 c held long =
     let r = fault .before .before .before .before .before .before in
     let p = r .parse-row in
     let i = fault .r2 .given .0 .1 .0 in
-    let same = ap (λ (n : ℕ). cond (ltb i n) (AtToken (getD (P r) i noToken .at)) AtEnd) (sym long) in
+    let same = place-same (B r .args .body .now) (length (B r .args .row .now)) i long in
     parsed-faulty (B r .pre) (p .result) (p .last .1 .1 .0) (p .last .1 .1 .1 .0) (p .ensures) (P r) held
     (fault .r2 .given .1) (c .place-of .ensures ∙ same)
 

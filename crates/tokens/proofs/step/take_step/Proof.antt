@@ -54,8 +54,7 @@ returns c =
     let t = c .before .before .before in
     let k = t .before .before in
     let held = part-bytes (S k) (P t) (N t) (c .held-name .result) (c .held-name .ensures) in
-    ap (λ (h : Held). Good h (k .take-cut .result .at) (k .take-cut .result .next)) held
-    ∙ gives k (Name (P t) (N t)) (t .t .given .1)
+    ap (λ (h : Held). Good h (k .take-cut .result .next)) held ∙ gives k (Name (P t) (N t)) (t .t .given .1)
 
 returns-2 : tie.Need-returns-2
 returns-2 c = let t = c .before in gives (t .before .before) (Mark (t .t2 .given .0 .0)) (t .t2 .given .1)
