@@ -1,21 +1,22 @@
 -- The value of a number: both operands are exact, so the result is the f64 nearest to m times 10 to the k, and it is
 -- finite.
-use Prim.Native.Nat.{ℕ, zero, suc, _+_, _-_, _*_, _^_, _≤_, _<_, suc-le-suc}
+use Prim.Native.Nat.{ℕ, zero, suc, _+_, _-_, _*_, _^_, _≤_, _<_}
 use mathlib.Core.Path.{_≡_, refl, sym, ap, subst, _∙_}
 use mathlib.Core.Bool.{Bool, true, false, not, _&&_, cond, true≢false}
 use mathlib.Core.Logic.{⊎-elim}
-use native.Mathlib.Nat.{mul-one, mul-assoc, mul-comm, mul-left-comm, mul-pos, eq-or-lt-of-le, le-of-suc-le-suc}
-use native.Mathlib.Nat.{not-suc-le-zero}
-use native.Mathlib.Nat.{le-trans, le-of-eq, mul-le-mul-left, mul-le-mul-right, pow-le-pow-right, one-le-pow}
+use native.Mathlib.Nat.{mul-one, mul-assoc, mul-comm, mul-left-comm, mul-mul-mul-comm, mul-pos}
+use native.Mathlib.Nat.{le-trans, le-of-eq, lt-of-le-of-lt, lt-of-lt-of-le, mul-le-mul-left, mul-le-mul-right}
+use native.Mathlib.Nat.{pow-suc, pow-le-pow-right, one-le-pow}
 use native.Mathlib.Omega.{arith}
 use borrow.Author.Tests.{ne-eqb, leb-true}
-use lib.Dec.{T, eqb, leb, ltb, eqb→eq, lit<, lit≤}
+use lib.Dec.{T, leb, ltb, lit<, lit≤}
 use lib.IntN.{pos}
 use lib.Ieee.{Float, nan, inf, fin, Format, binary64, prec, emax, low, up, down, round, units, odd, mul, div, ofInt}
 use lib.Ieee.{fits, le}
-use lib.Ieee.Exact.{HasValue}
+use lib.Pow.{pow-add, pow-mono, shl-lt}
+use lib.Ieee.Exact.{HasValue, round-exact}
 use lib.Ieee.Back.{round-whole}
-use lib.Ieee.Fits.{down-pos, round-is, and-l, and-r, mul-fits, div-fits}
+use lib.Ieee.Fits.{down-pos, round-is, mul-fits, div-fits}
 use lib.Ieee.Scale.{round-same, finite}
 use lib.Ieee.Order.{round-mono}
 use lib.Ieee.Positive.{first-pos}
@@ -25,44 +26,39 @@ use Rattle.tokens.specs.Number.{tenTo, scaled, inRange}
 
 -- ---- the operands are exact
 
--- a test at each number below n
-abbrev all : (ℕ → Bool) → ℕ → Bool
-all f zero = true
-all f (suc n) = f n && all f n
-
--- where all pass, each does
-all-at : (f : ℕ → Bool) (n : ℕ) → T (all f n) → (k : ℕ) → k < n → T (f k)
-all-at f zero t k h = absurd (not-suc-le-zero h)
-all-at f (suc n) t k h =
-    ⊎-elim
-    (λ e. subst (λ (m : ℕ). T (f m)) (sym e) (and-l (f n) (all f n) t))
-    (λ l. all-at f n (and-r (f n) (all f n) t) k l)
-    (eq-or-lt-of-le (le-of-suc-le-suc h))
-
 -- m is at most 2 ^ 53, so an f64 holds it
 pub whole-exact : (m : ℕ) → m ≤ mostDigits → HasValue (ofInt binary64 (pos m)) false m 1
 unfolding ofInt
 whole-exact m h = round-whole binary64 false m (le-trans h (lit≤ tt))
 
--- whether a float is exactly n
-exactly : Float → ℕ → Bool
-exactly nan n = false
-exactly (inf s) n = false
-exactly (fin s m e) n = not s && eqb (m * up e * 1) (n * down e)
+-- 10 ^ k is 5 ^ k, doubled k times
+fives : (k : ℕ) → 10 ^ k ≡ 5 ^ k * 2 ^ k
+fives zero = refl
+fives (suc k) =
+    pow-suc 10 k
+    ∙ ap (λ (x : ℕ). x * 10) (fives k)
+    ∙ mul-mul-mul-comm (5 ^ k) (2 ^ k) 5 2
+    ∙ sym (ap (λ (x : ℕ). x * (2 ^ k * 2)) (pow-suc 5 k))
+    ∙ sym (ap (λ (x : ℕ). 5 ^ suc k * x) (pow-suc 2 k))
 
--- such a float has the value n
-exactly-value : (x : Float) (n : ℕ) → T (exactly x n) → HasValue x false n 1
-unfolding exactly
-exactly-value nan n t = absurd t
-exactly-value (inf s) n t = absurd t
-exactly-value (fin true m e) n t = absurd t
-exactly-value (fin false m e) n t = (refl, eqb→eq (m * up e * 1) (n * down e) t)
+-- 5 ^ k has at most as many binary digits as an f64 keeps, up to the k where 5 ^ k passes 2 ^ 53
+fives-fit : (k : ℕ) → k ≤ mostTens → 5 ^ k < 2 ^ prec binary64
+fives-fit k h = lt-of-le-of-lt (pow-le-pow-right (lit< tt) h) (lit< tt)
 
--- an f64 holds each power of ten up to 10 ^ mostTens
+-- so an f64 holds each power of ten up to 10 ^ mostTens
 pub ten-exact : (k : ℕ) → k ≤ mostTens → HasValue (tenTo k) false (10 ^ k) 1
-unfolding exactly tenTo ofInt
+unfolding tenTo ofInt
 ten-exact k h =
-    exactly-value (tenTo k) (10 ^ k) (all-at (λ (j : ℕ). exactly (tenTo j) (10 ^ j)) (suc mostTens) tt k (suc-le-suc h))
+    let l = low binary64 in
+    let small = fives-fit k h in
+    let reach : prec binary64 + (k + l) ≤ l + suc (emax binary64) = omega arith in
+    let fine = lt-of-lt-of-le (shl-lt (prec binary64) (k + l) small) (pow-mono reach) in
+    let same : 10 ^ k * 2 ^ l ≡ 5 ^ k * 2 ^ (k + l) * 1 =
+    ap (λ (x : ℕ). x * 2 ^ l) (fives k)
+    ∙ mul-assoc (5 ^ k) (2 ^ k) (2 ^ l)
+    ∙ ap (λ (x : ℕ). 5 ^ k * x) (sym (pow-add 2 k l))
+    ∙ sym (mul-one (5 ^ k * 2 ^ (k + l))) in
+    round-exact binary64 false (10 ^ k) 1 (5 ^ k) (k + l) (lit< tt) small fine same
 
 -- ---- the product and the quotient of exact operands, rounded once
 
@@ -87,6 +83,17 @@ mul-round f (fin false m e) (fin true n d) a b h k = absurd (true≢false (k .0)
 mul-round f (fin false m e) (fin false n d) a b h k =
     round-same f false (m * up e * (n * up d)) (down e * down d) (a * b) 1 (mul-pos (down-pos e) (down-pos d)) (lit< tt)
     (cross-mul (m * up e) (n * up d) a b (down e) (down d) (h .1) (k .1))
+
+-- TEN TIMES a power of ten is the next one, and an f64 holds the product exactly
+pub ten-times : (k : ℕ) → k < mostTens
+    → (mul binary64 (tenTo k) (tenTo 1) ≡ tenTo (suc k))
+    × HasValue (mul binary64 (tenTo k) (tenTo 1)) false (10 ^ suc k) 1
+unfolding tenTo ofInt
+ten-times k h =
+    let next : mul binary64 (tenTo k) (tenTo 1) ≡ tenTo (suc k) =
+    mul-round binary64 (tenTo k) (tenTo 1) (10 ^ k) 10 (ten-exact k (omega arith)) (ten-exact 1 (lit≤ tt))
+    ∙ ap (λ (x : ℕ). round binary64 false x 1) (sym (pow-suc 10 k)) in
+    (next, subst (λ (x : Float). HasValue x false (10 ^ suc k) 1) (sym next) (ten-exact (suc k) h))
 
 -- the fraction of a quotient
 cross-div : (P Q a b E D : ℕ) → P * 1 ≡ a * E → Q * 1 ≡ b * D → P * D * b ≡ a * (Q * E)

@@ -157,36 +157,18 @@ fn read_exponent(body: &[u8], at: usize, first: u8) -> Power
     }
 }
 
-// 10 to the k: the powers of ten that an f64 holds exactly.
+// 10 to the k, by k multiplications by ten: an f64 holds each product exactly.
 fn ten(k: usize) -> f64
     requires { ⌜ k ≤ mostTens ⌝ }
     ensures { λ r. ⌜ r ≡ tenTo k ⌝ }
 {
-    match k {
-        0 => 1.0,
-        1 => 1e1,
-        2 => 1e2,
-        3 => 1e3,
-        4 => 1e4,
-        5 => 1e5,
-        6 => 1e6,
-        7 => 1e7,
-        8 => 1e8,
-        9 => 1e9,
-        10 => 1e10,
-        11 => 1e11,
-        12 => 1e12,
-        13 => 1e13,
-        14 => 1e14,
-        15 => 1e15,
-        16 => 1e16,
-        17 => 1e17,
-        18 => 1e18,
-        19 => 1e19,
-        20 => 1e20,
-        21 => 1e21,
-        _ => 1e22,
+    let mut x: f64 = 1.0;
+    let mut i: usize = 0;
+    while i < k {
+        x = x * 10.0;
+        i += 1;
     }
+    x
 }
 
 // How far two numbers are apart.
