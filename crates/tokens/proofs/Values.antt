@@ -1,5 +1,5 @@
 -- The value of a number: both operands are exact, so the result is the f64 nearest to m times 10 to the k, and it is
--- finite.
+-- finite. On the way to 10 to the k each product is exact too.
 use Prim.Native.Nat.{ℕ, zero, suc, _+_, _-_, _*_, _^_, _≤_, _<_}
 use mathlib.Core.Path.{_≡_, refl, sym, ap, subst, _∙_}
 use mathlib.Core.Bool.{Bool, true, false, not, _&&_, cond, true≢false}
@@ -41,7 +41,7 @@ fives (suc k) =
     ∙ sym (ap (λ (x : ℕ). x * (2 ^ k * 2)) (pow-suc 5 k))
     ∙ sym (ap (λ (x : ℕ). 5 ^ suc k * x) (pow-suc 2 k))
 
--- 5 ^ k has at most as many binary digits as an f64 keeps, up to the k where 5 ^ k passes 2 ^ 53
+-- up to mostTens 5 ^ k has no more binary digits than an f64 keeps
 fives-fit : (k : ℕ) → k ≤ mostTens → 5 ^ k < 2 ^ prec binary64
 fives-fit k h = lt-of-le-of-lt (pow-le-pow-right (lit< tt) h) (lit< tt)
 

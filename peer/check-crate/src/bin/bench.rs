@@ -108,6 +108,8 @@ fn cases() -> Vec<Case> {
         translate_case("translate: reversed chain of 255", reversed_chain()),
         translate_case("translate: fault in each of 256 statements", faulty_deck()),
         translate_case("translate: blocks", blocks_deck()),
+        translate_case("translate: numbers, k -22 to 22", exponents_deck(-22, 22)),
+        translate_case("translate: numbers, k -9 to 3", exponents_deck(-9, 3)),
         evaluate_case("evaluate: tank", tank_program.clone()),
         evaluate_case(&format!("evaluate: {records} records"), wide.clone()),
         step_case("step: tank", tank_program),
@@ -343,6 +345,26 @@ fn zone(text: &mut String, zone: usize) {
     ));
     text.push_str(&lines.join("\n"));
     text.push('\n');
+}
+
+/// 255 expressions of four numbers with exponents each. Their k (the exponent
+/// less the digits behind the point) are spread from the least to the most, in
+/// no order that repeats within the deck.
+fn exponents_deck(least: i32, most: i32) -> Vec<u8> {
+    let mut text = String::new();
+    let mut state = 1u32;
+    for i in 0..255 {
+        let mut number = |digits: &str, behind: i32| {
+            state = state.wrapping_mul(1_664_525).wrapping_add(1_013_904_223);
+            let k = least + (state >> 16) as i32 % (most - least + 1);
+            format!("{digits}E{:+}", k + behind)
+        };
+        let (a, b) = (number("1.5", 1), number("6.0221", 4));
+        let (c, d) = (number("7", 0), number("299.792458", 6));
+        text.push_str(&format!("N{i}=({a}*TIME-{b})/({c}+TIME*{d})\n"));
+    }
+    program_of(text.as_bytes());
+    text.into_bytes()
 }
 
 /// A deck whose program has about 300 records.
