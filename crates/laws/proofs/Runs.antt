@@ -2,13 +2,14 @@
 use Prim.Native.Nat.{ℕ, zero-le, suc-le-suc, _+_, _≤_, _<_}
 use mathlib.Core.Path.{_≡_, refl, sym, ap, _∙_}
 use mathlib.Core.Bool.{Bool, true, false, cond}
-use mathlib.Core.List.{List, [], _∷_, _++_}
+use mathlib.Core.List.{List, [], _∷_, _++_, map}
 use mathlib.Core.Logic.{⊎-elim}
 use native.Mathlib.Numerals.{add-one}
 use native.Mathlib.Omega.{arith}
 use borrow.Author.Tests.{eq-eqb}
 use lib.Dec.{eqb}
-use lib.ListN.{length, getD, take, drop, length-drop, drop-of-length-le, List·getD-eq-default}
+use lib.ListN.{length, getD, take, drop, length-drop, drop-of-length-le, take-append-drop}
+use lib.ListN.{List·getD-eq-default}
 use lib.Seq.{drop-cons}
 use Rattle.laws.specs.Runs.{frontRun, EndOrSpace}
 use Rattle.laws.proofs.Tests.{bool-cases, not-both, lt-or-ge, cond-ind}
@@ -83,17 +84,6 @@ module _ (p : ℕ → Bool) where
       go true e ih = ih
       go false e ih = rw e
 
-  -- it is the front of its list
-  pub run-take : (xs : List ℕ) → take (length (frontRun p xs)) xs ≡ frontRun p xs
-  unfolding frontRun
-  run-take [] = refl
-  run-take (x ∷ xs) = go (p x) (run-take xs)
-    where
-      go : (b : Bool) → take (length (frontRun p xs)) xs ≡ frontRun p xs
-          → take (length (cond b (x ∷ frontRun p xs) [])) (x ∷ xs) ≡ cond b (x ∷ frontRun p xs) []
-      go true ih = ap (λ (l : List ℕ). x ∷ l) ih
-      go false ih = refl
-
   -- what stands apart is no part of it, where a space does not pass
   pub run-apart : p 32 ≡ false → (xs r : List ℕ) → EndOrSpace r → frontRun p (xs ++ r) ≡ frontRun p xs
   unfolding frontRun
@@ -105,3 +95,34 @@ module _ (p : ℕ → Bool) where
       → p (getD (xs ++ r) 0 0) ≡ p (getD xs 0 0)
   head-apart o z [] r a = ⊎-elim (λ e. rw e) (λ e. rw (e .1) (z ∙ sym o)) a
   head-apart o z (x ∷ xs) r a = refl
+
+-- ---- of a list of anything
+module _ {A : Type 0} (p : A → Bool) where
+  -- a run is the front of its list
+  pub run-take : (xs : List A) → take (length (frontRun p xs)) xs ≡ frontRun p xs
+  unfolding frontRun
+  run-take [] = refl
+  run-take (x ∷ xs) = go (p x) (run-take xs)
+    where
+      go : (b : Bool) → take (length (frontRun p xs)) xs ≡ frontRun p xs
+          → take (length (cond b (x ∷ frontRun p xs) [])) (x ∷ xs) ≡ cond b (x ∷ frontRun p xs) []
+      go true ih = ap (λ (l : List A). x ∷ l) ih
+      go false ih = refl
+
+  -- so the list is its run and what stands behind it
+  pub run-parts : (xs : List A) → frontRun p xs ++ drop (length (frontRun p xs)) xs ≡ xs
+  run-parts xs =
+      let n = length (frontRun p xs) in
+      ap (λ (l : List A). l ++ drop n xs) (sym (run-take xs)) ∙ take-append-drop n xs
+
+  -- the run of a mapped list
+  pub run-mapped : {B : Type 0} (f : B → A) (xs : List B)
+      → frontRun p (map f xs) ≡ map f (frontRun (λ (b : B). p (f b)) xs)
+  unfolding frontRun
+  run-mapped f [] = refl
+  run-mapped f (x ∷ xs) = go (p (f x)) (run-mapped f xs)
+    where
+      go : (b : Bool) → frontRun p (map f xs) ≡ map f (frontRun (λ b. p (f b)) xs)
+          → cond b (f x ∷ frontRun p (map f xs)) [] ≡ map f (cond b (x ∷ frontRun (λ b. p (f b)) xs) [])
+      go true ih = ap (λ (l : List A). f x ∷ l) ih
+      go false ih = refl

@@ -5,7 +5,7 @@ use mathlib.Core.Bool.{Bool, cond}
 use mathlib.Core.List.{List, [], _∷_}
 use mathlib.Core.Logic.{_⊎_}
 
-unfoldable pub frontRun : (ℕ → Bool) → List ℕ → List ℕ
+unfoldable pub frontRun : {A : Type 0} → (A → Bool) → List A → List A
 frontRun p [] = []
 frontRun p (x ∷ xs) = cond (p x) (x ∷ frontRun p xs) []
 

@@ -1,12 +1,11 @@
--- Acceptance: every program from a verdict 0 is accepted.
+-- Acceptance: every program from a verdict 0 is accepted, with its units in any good order.
 use Prim.Native.Nat.{ℕ, _*_, _/_, _%_, _≤_, _<_}
-use mathlib.Core.Path.{_≡_, ap, _∙_}
+use mathlib.Core.Path.{_≡_, sym, ap, subst, _∙_}
 use mathlib.Core.List.{List, List·Memᴰ}
 use native.Mathlib.Omega.{arith}
 use borrow.Author.Tests.{le-ltb}
 use lib.ListN.{length, take}
 use lib.Seq.{sets}
-use lib.Ieee.{Float}
 use Rattle.limits.specs.Limits.{slots, mostRecords, recordBytes}
 use Rattle.laws.specs.Counts.{_∈_}
 use Rattle.laws.proofs.Sets.{sets-back}
@@ -21,12 +20,15 @@ use Rattle.model.specs.Text.{textUnits}
 use Rattle.model.proofs.KeyPlaces.{Once, keys-once}
 use Rattle.model.proofs.NoModelFault.{no-faults, order-good, reads-known}
 use Rattle.records.specs.Record.{Rec, programBytes, instrs, decoded}
+use Rattle.program.specs.Program.{program}
+use Rattle.program.proofs.Counts.{count-of}
 use Rattle.translator.specs.Verdict.{translated, verdictOf}
 use Rattle.records.proofs.ReadBack.{length-program, program-back}
 use Rattle.evaluator.specs.Judge.{answer, judge}
 use Rattle.evaluator.specs.Evaluate.{refusal}
 use Rattle.meaning.specs.Statements.{slotOf}
 use Rattle.meaning.specs.BlockFunction.{BlockFunction}
+use Rattle.meaning.specs.Faithful.{Accepted}
 use Rattle.translator.proofs.Zero.{Clear, clear}
 use Rattle.meaning.proofs.BlockFunctions.{blocks-functions}
 use Rattle.meaning.proofs.Texts.{units-fit, text-low}
@@ -59,28 +61,40 @@ module _ {text : List ℕ} {room : ℕ} {rs : List Rec} (c : Clear text room rs)
   pub initials : EachResolved us
   initials = each-resolved us (no-faults us (c .clean) .1)
 
-  -- its records are read as they were written
-  pub read-back : decoded (programBytes rs) ≡ instrs rs
-  read-back =
-      program-back rs
-      (rw (c .written) (readable us once (c .few) (units-fit text) sound known (orderOf us) ordered))
+  -- ---- its units in a good order: the records of the program with them so
+  module _ (q : List ℕ) (g : GoodOrder us q) where
+    abbrev ordered-recs : List Rec
+    ordered-recs = program us q
 
-  -- and judged good
-  judged-good : judge (decoded (programBytes rs)) ≡ answer 0 0
-  judged-good =
-      ap judge (read-back ∙ ap instrs (c .written))
-      ∙ takes-program us once (c .few) sound known (text-low text) (orderOf us) ordered
+    -- are read as they were written
+    pub read-back : decoded (programBytes ordered-recs) ≡ instrs ordered-recs
+    read-back = program-back ordered-recs (readable us once (c .few) (units-fit text) sound known q g)
 
-  -- they are whole records, and not too many
-  pub not-refused : (v d : List Float) → slots ≤ length v → slots ≤ length d
-      → refusal (programBytes rs) v d ≡ answer 0 0
-  unfolding refusal
-  not-refused v d hv hd =
-      let n = length-program rs in
-      let e : length (programBytes rs) / recordBytes ≡ length rs = omega arith in
-      let z : length (programBytes rs) % recordBytes ≡ 0 = omega arith in
-      rw (le-ltb (length v) slots hv, le-ltb (length d) slots hd, z, e, le-ltb mostRecords (length rs) (c .short))
-      judged-good
+    -- and judged good
+    pub judged-good : judge (decoded (programBytes ordered-recs)) ≡ answer 0 0
+    judged-good = ap judge read-back ∙ takes-program us once (c .few) sound known (text-low text) q g
+
+    -- there are as many as in its own program
+    as-many : length ordered-recs ≡ length rs
+    as-many =
+        sym (count-of us q (g .perm)) ∙ count-of us (orderOf us) (ordered .perm) ∙ ap length (sym (c .written))
+
+    -- they are whole records, and not too many
+    pub not-refused : Accepted (programBytes ordered-recs)
+    unfolding refusal
+    not-refused v d roomy =
+        let n = length-program ordered-recs in
+        let e : length (programBytes ordered-recs) / recordBytes ≡ length ordered-recs = omega arith in
+        let z : length (programBytes ordered-recs) % recordBytes ≡ 0 = omega arith in
+        let few : length ordered-recs ≤ mostRecords = omega (arith, as-many, c .short) in
+        rw (
+          le-ltb (length v) slots (roomy .values),
+          le-ltb (length d) slots (roomy .derivs),
+          z,
+          e,
+          le-ltb mostRecords (length ordered-recs) few,
+        )
+        judged-good
 
   -- the lent buffer, cut to what was written, holds them
   pub cut-back : (p : List ℕ) → length p ≡ room
@@ -94,7 +108,10 @@ module _ {text : List ℕ} {room : ℕ} {rs : List Rec} (c : Clear text room rs)
 pub accepted : (text : List ℕ) (faults room : ℕ) (rs : List Rec) (ls : List ℕ)
     → verdictOf text faults room ≡ translated rs ls
     → judge (decoded (programBytes rs)) ≡ answer 0 0
-accepted text faults room rs ls e = judged-good (clear text faults room rs ls e)
+accepted text faults room rs ls e =
+    let c = clear text faults room rs ls e in
+    subst (λ (x : List Rec). judge (decoded (programBytes x)) ≡ answer 0 0) (sym (c .written))
+    (judged-good c (orderOf (textUnits text)) (ordered c))
 
 -- A BLOCK of a text from a verdict 0 is a function, by the slots of the text
 pub block-functions : (text : List ℕ) (faults room : ℕ) (rs : List Rec) (ls : List ℕ)

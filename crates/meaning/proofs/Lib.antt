@@ -29,3 +29,9 @@ pub mod SetApart
 pub mod ReadSlots
 pub mod Levels
 pub mod Faithful
+pub mod RunsAlike
+pub mod AnyOrder
+pub mod Still
+pub mod Cut
+pub mod ReSorted
+pub mod ReSortedBytes

@@ -35,7 +35,7 @@ set-later h hs q (inr (inl z)) = inr (inl (List·Memᴰ·tail z))
 set-later h hs q (inr (inr z)) = inr (inr (List·Memᴰ·tail z))
 
 -- two runs side by side: they agree where they did, and in what they write
-alike-run : (xs : List Instr) (i p k : ℕ) (j : Judge) (m n : Machine) → judgeFrom i j xs .number ≡ 0 → Sound p k xs
+pub alike-run : (xs : List Instr) (i p k : ℕ) (j : Judge) (m n : Machine) → judgeFrom i j xs .number ≡ 0 → Sound p k xs
     → Roomy m n
     → Alike (j .marks) m n
     → ((s : ℕ) → StateSlot (map shapeOf xs) s → Same (m .values) (n .values) s)
@@ -64,7 +64,7 @@ alike-run (x ∷ xs) i p k j m n e s r a f q =
     )
 
 -- one run: the lengths stay
-run-long : (xs : List Instr) (m : Machine)
+pub run-long : (xs : List Instr) (m : Machine)
     → (length (run m xs .values) ≡ length (m .values)) × (length (run m xs .derivs) ≡ length (m .derivs))
 unfolding run
 run-long [] m = (refl, refl)
@@ -74,7 +74,7 @@ run-long (x ∷ xs) m =
     rw (run-next m x xs) (r .0 ∙ a .0, r .1 ∙ a .1)
 
 -- and so does each place that it does not write
-run-stays : (xs : List Instr) (m : Machine) (q : ℕ)
+pub run-stays : (xs : List Instr) (m : Machine) (q : ℕ)
     → (SetSlot (map shapeOf xs) q ⊎ Same (run m xs .values) (m .values) q)
     × (DerivedSlot (map shapeOf xs) q ⊎ Same (run m xs .derivs) (m .derivs) q)
 unfolding run
@@ -92,7 +92,7 @@ run-stays (x ∷ xs) m q =
 -- ---- evaluating
 
 -- an accepted program is accepted by the judge
-refusal-judge : (p : List ℕ) (v d : List Float) → refusal p v d .number ≡ 0 → judge (decoded p) .number ≡ 0
+pub refusal-judge : (p : List ℕ) (v d : List Float) → refusal p v d .number ≡ 0 → judge (decoded p) .number ≡ 0
 unfolding refusal
 refusal-judge p v d =
     cond-ind (λ (a : Answer). a .number ≡ 0 → judge (decoded p) .number ≡ 0)
@@ -102,7 +102,7 @@ refusal-judge p v d =
     (λ _ e. absurd (omega arith)) (λ _ e. e))
 
 -- at the beginning slot 0 alone is marked
-begun-marked : (q : ℕ) → Marked (judge₀ .marks) q → q ≡ 0
+pub begun-marked : (q : ℕ) → Marked (judge₀ .marks) q → q ≡ 0
 begun-marked q u =
     marked-set (replicate slots unsetMark) 0 givenMark q u (λ e. e)
     (λ f. absurd (f
@@ -113,12 +113,12 @@ begun-marked q u =
 
 module _ (p : List ℕ) (v d : List Float) (accepted : refusal p v d ≡ answer 0 0) where
   -- evaluating is the run
-  evaluated-ran : evaluated p v d ≡ runOutcome (answer 0 0) (ran p v d .values) (ran p v d .derivs)
+  pub evaluated-ran : evaluated p v d ≡ runOutcome (answer 0 0) (ran p v d .values) (ran p v d .derivs)
   unfolding evaluated
   evaluated-ran = rw accepted
 
   -- what is read is not set
-  read-apart : (s : ℕ) → (s ≡ 0) ⊎ StateSlot (shapes p) s → SetSlot (shapes p) s → ⊥
+  pub read-apart : (s : ℕ) → (s ≡ 0) ⊎ StateSlot (shapes p) s → SetSlot (shapes p) s → ⊥
   read-apart s r z =
       let a = refusal-judge p v d (ap (λ (x : Answer). x .number) accepted) in
       let g = granted {r = answer 0 0} (sym accepted) refl in
@@ -133,7 +133,7 @@ module _ (p : List ℕ) (v d : List Float) (accepted : refusal p v d ≡ answer 
       state-apart (decoded p) 0 judge₀ a s (rw long b) t z) r
 
   -- it writes constants, stored slots and derivatives alone
-  others-stay : OthersStay (shapes p) v d (evaluated p v d)
+  pub others-stay : OthersStay (shapes p) v d (evaluated p v d)
   others-stay =
       let stays = run-stays (decoded p) (begun v d) in
       rw evaluated-ran

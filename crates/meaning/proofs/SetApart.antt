@@ -1,8 +1,8 @@
 -- In an accepted program a state's slot, and slot 0, are set by no constant and no store. A slot is set again only as a
--- stored one, by kind 15.
+-- stored one, by kind 15. A derivative is written once.
 use Prim.Native.Nat.{ℕ, suc, _+_, _-_, _<_}
 use mathlib.Core.Path.{_≡_, refl, sym, _∙_}
-use mathlib.Core.Bool.{true, _&&_}
+use mathlib.Core.Bool.{Bool, true, false, _&&_}
 use mathlib.Core.Logic.{_⊎_, inl, inr, ⊎-elim}
 use mathlib.Core.List.{List, [], _∷_, map, List·Memᴰ, List·Memᴰ·not-nil, List·Memᴰ·cases-cons}
 use native.Mathlib.Omega.{arith}
@@ -11,7 +11,8 @@ use lib.Dec.{eqb, leb}
 use lib.ListN.{length, getD, set, length-set}
 use lib.Seq.{set-out, getD-set-same, getD-set-other}
 use Rattle.limits.specs.Limits.{slots, stackPlaces}
-use Rattle.laws.proofs.Tests.{lt-or-ge, eq-or-ne, cond-ind, and-true}
+use Rattle.laws.specs.Every.{Every}
+use Rattle.laws.proofs.Tests.{not-both, lt-or-ge, eq-or-ne, cond-ind, and-true}
 use Rattle.records.specs.declared.Instr.{Instr}
 use Rattle.records.specs.Fields.{fieldsOf}
 use Rattle.records.specs.Shape.{value, slot}
@@ -20,7 +21,7 @@ use Rattle.evaluator.specs.declared.Answer.{Answer}
 use Rattle.evaluator.specs.Judge.{unsetMark, givenMark, stateMark, derivedMark, storedMark}
 use Rattle.evaluator.specs.Judge.{ruleOf, takes, gives, phaseOf, Judge, good, judged, answer, judgeFrom}
 use Rattle.evaluator.specs.Sound.{Sound}
-use Rattle.meaning.specs.ReadSlots.{StateSlot, SetSlot}
+use Rattle.meaning.specs.ReadSlots.{StateSlot, SetSlot, DerivedSlot}
 use Rattle.meaning.proofs.Acted.{Marked}
 
 -- ---- one record after the other
@@ -56,10 +57,10 @@ Unstored l q = Marked l q × (getD l q 0 ≡ storedMark → ⊥)
 
 -- from the marks l to the marks m: there are as many; a slot that is set stays set, and one that is no stored one then
 -- does not become one
-record MarksStay (l m : List ℕ) : Type 0 where
-  long : length m ≡ length l
-  marked : (q : ℕ) → Marked l q → Marked m q
-  unstored : (q : ℕ) → Unstored l q → Unstored m q
+pub record MarksStay (l m : List ℕ) : Type 0 where
+  pub long : length m ≡ length l
+  pub marked : (q : ℕ) → Marked l q → Marked m q
+  pub unstored : (q : ℕ) → Unstored l q → Unstored m q
 
 -- where no mark changes
 same-marks : (l : List ℕ) → MarksStay l l
@@ -91,7 +92,7 @@ set-marks l s x n f =
     }
 
 -- so by each good record
-marks-stay : (h : Shape) (l : List ℕ) (k : ℕ) → ruleOf h .fine l k ≡ true → MarksStay l (ruleOf h .marks l)
+pub marks-stay : (h : Shape) (l : List ℕ) (k : ℕ) → ruleOf h .fine l k ≡ true → MarksStay l (ruleOf h .marks l)
 marks-stay (constant s x) l k g = set-marks l s givenMark (λ e. omega arith) (λ e. absurd (omega arith))
 marks-stay (initial s x) l k g = set-marks l s stateMark (λ e. omega arith) (λ e. absurd (omega arith))
 marks-stay (push (value x)) l k g = same-marks l
@@ -105,7 +106,7 @@ marks-stay (store-again s) l k g = same-marks l
 marks-stay bad l k g = same-marks l
 
 -- a slot that is marked now
-mark-now : (l : List ℕ) (q x : ℕ) → q < length l → (x ≡ unsetMark → ⊥) → Marked (set l q x) q
+pub mark-now : (l : List ℕ) (q x : ℕ) → q < length l → (x ≡ unsetMark → ⊥) → Marked (set l q x) q
 mark-now l q x h n z = n (sym (getD-set-same l q x 0 h) ∙ z)
 
 -- .. and not as a stored one
@@ -113,10 +114,23 @@ pub unstored-now : (l : List ℕ) (q x : ℕ) → q < length l → (x ≡ unsetM
     → Unstored (set l q x) q
 unstored-now l q x h n m = (mark-now l q x h n, λ z. m (sym (getD-set-same l q x 0 h) ∙ z))
 
+-- a record stores again
+abbrev pub storesAgain : Shape → Bool
+storesAgain (constant s x) = false
+storesAgain (initial s x) = false
+storesAgain (push p) = false
+storesAgain (fold o) = false
+storesAgain (store s) = false
+storesAgain (derivative s) = false
+storesAgain (store-again s) = true
+storesAgain bad = false
+
 module _ (h : Shape) (hs : List Shape) (l : List ℕ) (k q : ℕ) (fine : ruleOf h .fine l k ≡ true) where
-  -- the first record sets the slot: it is no initial, the slot was not set or was a stored one, and now is set
+  -- the first record sets the slot: it is no initial; if the slot was set, it was a stored one, and is stored again; now
+  -- it is set
   abbrev Sets : Type 0
-  Sets = (ruleOf h .phase ≡ 2 → ⊥) × (Unstored l q → ⊥) × (q < length l → Marked (ruleOf h .marks l) q)
+  Sets = (ruleOf h .phase ≡ 2 → ⊥) × (Marked l q → (getD l q 0 ≡ storedMark) × (storesAgain h ≡ true))
+      × (q < length l → Marked (ruleOf h .marks l) q)
 
   -- a slot that is set: the first record does it, or a later one
   set-first : SetSlot (h ∷ hs) q → Sets ⊎ SetSlot hs q
@@ -126,7 +140,7 @@ module _ (h : Shape) (hs : List Shape) (l : List ℕ) (k q : ℕ) (fine : ruleOf
       let f : eqb (getD l q 0) unsetMark ≡ true = rw (← e) at fine in
       inl (rw (← e) (
         λ t. omega arith,
-        λ u. u .0 (eqb-true (getD l q 0) unsetMark f),
+        λ u. absurd (u (eqb-true (getD l q 0) unsetMark f)),
         λ b. mark-now l q givenMark b (λ t. omega arith),
       )))
       (λ t. inr (inl (z .0, t))) (List·Memᴰ·cases-cons (z .1))
@@ -135,14 +149,14 @@ module _ (h : Shape) (hs : List Shape) (l : List ℕ) (k q : ℕ) (fine : ruleOf
       (λ (e : store q ≡ h).
       let f : (eqb k 1 && eqb (getD l q 0) unsetMark) ≡ true = rw (← e) at fine in
       let g = eqb-true (getD l q 0) unsetMark (and-true (eqb k 1) (eqb (getD l q 0) unsetMark) f .1) in
-      inl (rw (← e) (λ t. omega arith, λ u. u .0 g, λ b. mark-now l q storedMark b (λ t. omega arith))))
+      inl (rw (← e) (λ t. omega arith, λ u. absurd (u g), λ b. mark-now l q storedMark b (λ t. omega arith))))
       (λ t. inr (inr (inl t))) (List·Memᴰ·cases-cons z)
   set-first (inr (inr z)) =
       ⊎-elim
       (λ (e : store-again q ≡ h).
       let f : (eqb k 1 && eqb (getD l q 0) storedMark) ≡ true = rw (← e) at fine in
       let g = eqb-true (getD l q 0) storedMark (and-true (eqb k 1) (eqb (getD l q 0) storedMark) f .1) in
-      inl (rw (← e) (λ t. omega arith, λ u. u .1 g, λ b z. omega (arith, g))))
+      inl (rw (← e) (λ t. omega arith, λ u. (g, refl), λ b z. omega (arith, g))))
       (λ t. inr (inr (inr t))) (List·Memᴰ·cases-cons z)
 
   -- the first record makes it a state: it is an initial, the slot was not set, and now is, as no stored one
@@ -174,9 +188,72 @@ marked-apart (x ∷ xs) i j a q =
     let fine = good-fine j x (g .0) in
     let stay = marks-stay h (j .marks) (j .height) fine in
     let rest = marked-apart xs (suc i) (judged j x) (g .1) q in (
-      λ u z. ⊎-elim (λ t. t .1 u) (rest .0 (stay .unstored q u)) (set-first h hs (j .marks) (j .height) q fine z),
+      λ u z. ⊎-elim (λ t. u .1 (t .1 (u .0) .0)) (rest .0 (stay .unstored q u))
+          (set-first h hs (j .marks) (j .height) q fine z),
       λ u z. ⊎-elim (λ t. t .1 u) (rest .1 (stay .marked q u)) (state-first h hs (j .marks) (j .height) q fine z),
     )
+
+-- ---- without kind 15
+
+-- no record of these stores again
+abbrev pub NoneAgain : List Instr → Type 0
+NoneAgain xs = Every (λ (x : Instr). storesAgain (shapeOf x) ≡ false) xs
+
+-- then a slot that is set is not set again
+pub marked-once : (xs : List Instr) (i : ℕ) (j : Judge) → judgeFrom i j xs .number ≡ 0 → NoneAgain xs → (q : ℕ)
+    → Marked (j .marks) q → SetSlot (map shapeOf xs) q → ⊥
+marked-once [] i j a n q u z = set-none q z
+marked-once (x ∷ xs) i j a n q u z =
+    let h = shapeOf x in
+    let g = judge-next i j x xs a in
+    let fine = good-fine j x (g .0) in
+    let stay = marks-stay h (j .marks) (j .height) fine in
+    ⊎-elim (λ t. not-both (t .1 u .1) (n .0))
+    (marked-once xs (suc i) (judged j x) (g .1) (n .1) q (stay .marked q u))
+    (set-first h (map shapeOf xs) (j .marks) (j .height) q fine z)
+
+-- ---- a derivative
+
+-- the mark of a state with its derivative stays where another slot is marked
+other-marked : (l : List ℕ) (s x q : ℕ) → (getD l s 0 ≡ derivedMark → ⊥) → getD l q 0 ≡ derivedMark
+    → getD (set l s x) q 0 ≡ derivedMark
+other-marked l s x q n m = getD-set-other l s q x 0 (λ (e : q ≡ s). n (rw (← e) m)) ∙ m
+
+-- so it stays by each good record
+derived-stays : (h : Shape) (l : List ℕ) (k : ℕ) → ruleOf h .fine l k ≡ true → (q : ℕ) → getD l q 0 ≡ derivedMark
+    → getD (ruleOf h .marks l) q 0 ≡ derivedMark
+derived-stays (constant s x) l k g q m =
+    other-marked l s givenMark q (λ e. omega (arith, eqb-true (getD l s 0) unsetMark g)) m
+derived-stays (initial s x) l k g q m =
+    other-marked l s stateMark q (λ e. omega (arith, eqb-true (getD l s 0) unsetMark g)) m
+derived-stays (push (value x)) l k g q m = m
+derived-stays (push (slot s)) l k g q m = m
+derived-stays (fold o) l k g q m = m
+derived-stays (store s) l k g q m =
+    let t = eqb-true (getD l s 0) unsetMark (and-true (eqb k 1) (eqb (getD l s 0) unsetMark) g .1) in
+    other-marked l s storedMark q (λ e. omega arith) m
+derived-stays (derivative s) l k g q m =
+    let t = eqb-true (getD l s 0) stateMark (and-true (eqb k 1) (eqb (getD l s 0) stateMark) g .1) in
+    other-marked l s derivedMark q (λ e. omega arith) m
+derived-stays (store-again s) l k g q m = m
+derived-stays bad l k g q m = m
+
+-- it is not written again
+pub derived-once : (xs : List Instr) (i : ℕ) (j : Judge) → judgeFrom i j xs .number ≡ 0 → (q : ℕ)
+    → getD (j .marks) q 0 ≡ derivedMark → DerivedSlot (map shapeOf xs) q → ⊥
+derived-once [] i j a q m z = List·Memᴰ·not-nil z
+derived-once (x ∷ xs) i j a q m z =
+    let h = shapeOf x in
+    let l = j .marks in
+    let g = judge-next i j x xs a in
+    let fine = good-fine j x (g .0) in
+    ⊎-elim
+    (λ (e : derivative q ≡ h).
+    let f : (eqb (j .height) 1 && eqb (getD l q 0) stateMark) ≡ true = rw (← e) at fine in
+    let t = eqb-true (getD l q 0) stateMark (and-true (eqb (j .height) 1) (eqb (getD l q 0) stateMark) f .1) in
+    omega arith)
+    (derived-once xs (suc i) (judged j x) (g .1) q (derived-stays h l (j .height) fine q m))
+    (List·Memᴰ·cases-cons z)
 
 -- a state's slot is not set
 pub state-apart : (xs : List Instr) (i : ℕ) (j : Judge) → judgeFrom i j xs .number ≡ 0 → (q : ℕ) → q < length (j .marks)

@@ -45,7 +45,7 @@ module _ (to : Float → ℕ → Float → Float) where
   at-record v x = ifInitial (one v) v (shapeOf x)
 
   -- one list after another
-  all-append : (v : List Float) (x y : List Instr) → all v (x ++ y) ≡ all (all v x) y
+  pub all-append : (v : List Float) (x y : List Instr) → all v (x ++ y) ≡ all (all v x) y
   unfolding eachState
   all-append v [] y = refl
   all-append v (a ∷ x) y = all-append (at-record v a) x y
@@ -231,7 +231,7 @@ module _ (to : Float → ℕ → Float → Float) where
     allStates = all v (instrs (program us q))
 
     -- the initials are all
-    all-program : allStates ≡ after (definitions us) (definitions us) v
+    pub all-program : allStates ≡ after (definitions us) (definitions us) v
     all-program =
         let ds = definitions us in
         let C = instrs (constantPart ds ds) in

@@ -41,10 +41,14 @@ pub record HasSlots (v d : List Float) : Type 0 where
   pub values : slots ≤ length v
   pub derivs : slots ≤ length d
 
+-- the evaluator accepts a program: with such buffers lent it is not refused
+abbrev pub Accepted : List ℕ → Type 0
+Accepted program = (v d : List Float) → HasSlots v d → refusal program v d ≡ answer 0 0
+
 -- OF A TRANSLATED TEXT, as those see it who call the entries: the program that was handed on is accepted, evaluates,
 -- starts and steps; there is one solution; and nothing is lost
 pub record Faithful (text program : List ℕ) : Type 0 where
-  pub accepted : (v d : List Float) → HasSlots v d → refusal program v d ≡ answer 0 0
+  pub accepted : Accepted program
   pub evaluates : (v d : List Float) → HasSlots v d → (r : Answer) (v′ d′ : List Float) → Evaluated program v d r v′ d′
       → Evaluates text v d (runOutcome r v′ d′)
   pub starts : (v d : List Float) → HasSlots v d → (r : Answer) (v′ d′ : List Float) → Started program v d r v′ d′

@@ -4,5 +4,8 @@ pub mod Statements
 pub mod BlockFunction
 pub mod Recorded
 pub mod Faithful
+pub mod RunsAlike
+pub mod AnyOrder
+pub mod ReSorted
 pub mod ReadSlots
 pub mod Depth

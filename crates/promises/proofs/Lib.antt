@@ -8,5 +8,6 @@ pub mod Grammar
 pub mod Words
 pub mod Stack
 pub mod WallLoss
+pub mod AnyOrder
 pub mod Agreement
 pub mod Theorems

@@ -35,7 +35,9 @@ use Rattle.model.specs.Faults.{faults21, meets, modelFaults}
 use Rattle.program.specs.Program.{valueIn, program}
 use Rattle.translator.specs.Verdict.{decided, verdictOf}
 use Rattle.listing_text.specs.Listing.{figuresIn, listingOf, listing}
+use Rattle.evaluator.specs.Judge.{good, anyOpen, answer, judgeFrom}
 use Rattle.meaning.specs.Depth.{highest, heightOf}
+use Rattle.promises.specs.AnyOrder.{tankSorted, tankEarly, tankJudged}
 use Rattle.promises.specs.Table.{Trial, trials, shown, wanted, tank, deck, loop, Plain, numberFor}
 
 -- THE TABLE. Each text has the verdict and the listing that stand beside it
@@ -57,11 +59,13 @@ tried = refl
 pub each-trial : (r : Trial) → List·Memᴰ r trials → shown r ≡ wanted r
 each-trial = at-mem shown wanted trials tried
 
--- FURTHER TEXTS, in one computation: the deck fills the stack, the tank is sorted, the loop is not
+-- FURTHER TEXTS, in one computation: the deck fills the stack, the tank is sorted, the loop is not; and of the tank one
+-- more order is good, and one is not
 pub computed : (heightOf (verdictOf deck faultRoom programRoom) ≡ stackPlaces)
     × (numberFor (bytes tank) ≡ 0) × Plain (bytes tank)
     × (numberFor loop ≡ 7) × Plain loop
-unfolding highest verdictOf decided linesOf trimmed dotted passed cardsOf after ended left reading linePart joined
+    × (tankJudged tankSorted ≡ answer 0 0) × (tankJudged tankEarly ≡ answer 3 6)
+unfolding highest judgeFrom good anyOpen verdictOf decided linesOf trimmed dotted passed cardsOf after ended left reading linePart joined
     anyLong sizeFlaw cardsTold told sheetOf concat-map
     sameBytes numbers frontRun count lowWord decimal digitsFrom exponentFrom tenTo scaled tokenOf numberCut
     nameAt tokenAt cutAt
@@ -72,4 +76,4 @@ unfolding highest verdictOf decided linesOf trimmed dotted passed cardsOf after 
     nested faults25From setInside faults26From blockFaults unitsFrom ofBits ofInt mul
     div neg round units size climb
     span odd
-computed = (refl, refl, (refl, refl, refl), refl, (refl, refl, refl))
+computed = (refl, refl, (refl, refl, refl), refl, (refl, refl, refl), refl, refl)

@@ -26,6 +26,8 @@ use Rattle.sheet.specs.StatementMeans.{StatementMeans}
 use Rattle.blocks.specs.Units.{Inner, block, TextUnit}
 use Rattle.blocks.specs.Said.{GroupedIn}
 use Rattle.blocks.specs.Sound.{freeNames}
+use Rattle.order.specs.Order.{Permutation}
+use Rattle.model.specs.Faults.{GoodOrder}
 use Rattle.model.specs.Text.{textUnits}
 use Rattle.records.specs.Record.{Rec, programBytes, decoded}
 use Rattle.program.specs.Program.{instrItem}
@@ -44,7 +46,9 @@ use Rattle.floesedge.specs.declared.CVerdict.{CVerdict}
 use Rattle.floesedge.specs.Contract.{TranslatesFixed}
 use Rattle.meaning.specs.Statements.{slotOf, Solution}
 use Rattle.meaning.specs.BlockFunction.{BlockFunction}
-use Rattle.meaning.specs.Faithful.{handedOn, HasSlots, Faithful}
+use Rattle.meaning.specs.Faithful.{handedOn, HasSlots, Accepted, Faithful}
+use Rattle.meaning.specs.AnyOrder.{AnyOrder}
+use Rattle.meaning.specs.ReSorted.{cutStatements, reSorted, NoAgain, ReSorts}
 use Rattle.meaning.specs.ReadSlots.{shapes, SameRead, SameWritten, ReadsStates}
 use Rattle.meaning.specs.Depth.{highest, heightOf}
 use Rattle.meaning.proofs.Acceptance as acceptance
@@ -56,6 +60,7 @@ use Rattle.promises.specs.Demand2.{Decided, DecidedFor}
 use Rattle.promises.specs.Demand3.{Change, Local, LocalFor}
 use Rattle.promises.specs.Comments.{Commented, Unchanged, UnchangedFor}
 use Rattle.promises.specs.InPlace.{InPlace, PlacedBy}
+use Rattle.promises.specs.AnyOrder.{tankSorted, tankEarly, tankJudged, SortingNeeded, BlockWhole}
 use Rattle.promises.specs.Agreement as agree
 use Rattle.promises.proofs.Table as table
 use Rattle.promises.proofs.Demand1 as demand-one
@@ -66,6 +71,7 @@ use Rattle.promises.proofs.InPlace as places
 use Rattle.promises.proofs.Grammar as rows
 use Rattle.promises.proofs.Words as words
 use Rattle.promises.proofs.WallLoss as wall
+use Rattle.promises.proofs.AnyOrder as any
 use Rattle.promises.proofs.Stack as stack
 use Rattle.promises.proofs.Agreement as agreement
 
@@ -79,6 +85,7 @@ each-trial = table.each-trial
 
 pub computed : (heightOf (verdictOf full-deck faultRoom programRoom) ≡ stackPlaces)
     × (numberFor (bytes tank) ≡ 0) × Plain (bytes tank) × (numberFor loop ≡ 7) × Plain loop
+    × (tankJudged tankSorted ≡ answer 0 0) × (tankJudged tankEarly ≡ answer 3 6)
 computed = table.computed
 
 -- ---- demand 1: refusals
@@ -267,6 +274,27 @@ reads-states = slots.reads-states
 
 pub nan-compares : (x : Float) → (lt nan x ≡ false) × (lt x nan ≡ false) × (le nan x ≡ false) × (le x nan ≡ false)
 nan-compares = compares.nan-compares
+
+-- ---- any good order
+
+pub any-order : (text : List ℕ) (faults room : ℕ) (rs : List Rec) (ls : List ℕ)
+    → verdictOf text faults room ≡ translated rs ls → (q : List ℕ) → GoodOrder (textUnits text) q
+    → AnyOrder text (programBytes rs) q
+any-order = any.any-order
+
+pub any-order-for : (text f p : List ℕ) (k : ℕ) (f′ p′ : List ℕ) → Translates text f p (Translated k) f′ p′
+    → (q : List ℕ) → GoodOrder (textUnits text) q → AnyOrder text (handedOn k p′) q
+any-order-for = any.any-order-for
+
+pub re-sorted : (p q : List ℕ) → Accepted p → NoAgain p → Permutation (length (cutStatements p)) q
+    → judge (decoded (reSorted q p)) ≡ answer 0 0 → ReSorts p q
+re-sorted = any.re-sorted
+
+pub sorting-needed : SortingNeeded
+sorting-needed = any.sorting-needed
+
+pub block-whole : BlockWhole
+block-whole = any.block-whole
 
 -- ---- acceptance
 

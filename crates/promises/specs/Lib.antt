@@ -4,4 +4,5 @@ pub mod Demand2
 pub mod Demand3
 pub mod Comments
 pub mod InPlace
+pub mod AnyOrder
 pub mod Agreement
