@@ -4,8 +4,8 @@ use crate::faults::Fault;
 use crate::model::{Model, Sort, Unit, UNSORTABLE};
 use crate::names::slot;
 
-/// A set of up to 256 units.
-type Set = [u64; 4];
+/// A set of up to 256 units, by their indexes: 64 to a word, the least lowest.
+pub type Set = [u64; 4];
 
 /// Takes the least member out of a set.
 fn take_least(set: &mut Set) -> Option<usize> {
@@ -43,13 +43,57 @@ struct Node {
 /// The least unit all of whose used ones stand already comes next; what is
 /// never ready reaches a loop, and so is just what is unsortable.
 pub fn order(model: &Model, units: &[Unit]) -> Result<Vec<Unit>, Vec<Fault>> {
-    let count = units.len();
+    order_by(model, units, take_least)
+}
+
+/// Gives the units in a good order, each after all it uses, or the faults 24.
+/// Of the units that are ready the one comes next that is taken out of their
+/// set; as long as there is any, one must be.
+pub fn order_by(
+    model: &Model,
+    units: &[Unit],
+    mut take: impl FnMut(&mut Set) -> Option<usize>,
+) -> Result<Vec<Unit>, Vec<Fault>> {
+    let (mut nodes, mut ready) = nodes(model, units);
+    let mut order = Vec::with_capacity(units.len());
+    while let Some(next) = take(&mut ready) {
+        order.push(units[next]);
+        let mut users = nodes[next].users;
+        while let Some(user) = take_least(&mut users) {
+            let waiting = &mut nodes[user].waiting;
+            *waiting -= 1;
+            if *waiting == 0 {
+                add(&mut ready, user);
+            }
+        }
+    }
+    if order.len() == units.len() {
+        Ok(order)
+    } else {
+        Err(unsortable(units, &nodes))
+    }
+}
+
+/// All pairs of a unit and one that it uses, by their indexes.
+pub fn uses(model: &Model, units: &[Unit]) -> Vec<(usize, usize)> {
+    let mut pairs = Vec::new();
+    for (used, mut node) in nodes(model, units).0.into_iter().enumerate() {
+        while let Some(user) = take_least(&mut node.users) {
+            pairs.push((user, used));
+        }
+    }
+    pairs
+}
+
+/// The units before any is in its place, and those that wait for none.
+#[inline(always)]
+fn nodes(model: &Model, units: &[Unit]) -> (Vec<Node>, Set) {
     let givers = givers(model, units);
     let empty = Node {
         users: [0; 4],
         waiting: 0,
     };
-    let mut nodes = vec![empty; count];
+    let mut nodes = vec![empty; units.len()];
     let mut ready: Set = [0; 4];
     for (user, unit) in units.iter().enumerate() {
         let mut waiting = 0;
@@ -74,23 +118,7 @@ pub fn order(model: &Model, units: &[Unit]) -> Result<Vec<Unit>, Vec<Fault>> {
             add(&mut ready, user);
         }
     }
-    let mut order = Vec::with_capacity(count);
-    while let Some(next) = take_least(&mut ready) {
-        order.push(units[next]);
-        let mut users = nodes[next].users;
-        while let Some(user) = take_least(&mut users) {
-            let waiting = &mut nodes[user].waiting;
-            *waiting -= 1;
-            if *waiting == 0 {
-                add(&mut ready, user);
-            }
-        }
-    }
-    if order.len() == count {
-        Ok(order)
-    } else {
-        Err(unsortable(units, &nodes))
-    }
+    (nodes, ready)
 }
 
 /// No unit: what is known without order.

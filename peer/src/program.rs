@@ -79,6 +79,7 @@ pub fn record(kind: u8, slot: u16, line: u32, bits: u64) -> [u8; RECORD] {
 }
 
 /// How many records a model needs.
+#[inline(always)]
 pub fn records_needed(model: &Model) -> usize {
     let valued = |sort| matches!(sort, Sort::Constant | Sort::State);
     let values = model

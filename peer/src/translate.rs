@@ -59,6 +59,17 @@ pub fn translate_ordered(
     }
 }
 
+/// The model of a text and its units in order; none unless its verdict is 0
+/// where room enough is lent.
+pub fn ordered(text: &[u8]) -> Option<(Model, Vec<Unit>)> {
+    match judge(text, FAULT_LIST) {
+        Judged::Sorted(model, order) if program::records_needed(&model) <= MAX_RECORDS => {
+            Some((model, order))
+        }
+        _ => None,
+    }
+}
+
 /// The faults of a text, in line order; none unless it is refused with 5 or 7.
 pub fn faults(text: &[u8]) -> Vec<Fault> {
     match judge(text, FAULT_LIST) {

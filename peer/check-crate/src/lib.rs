@@ -6,7 +6,9 @@
 pub mod blocks;
 pub mod comments;
 pub mod library;
+pub mod orders;
 pub mod places;
 pub mod programs;
 pub mod random;
+pub mod runs;
 pub mod texts;

@@ -1,10 +1,12 @@
 //! How often the random texts reach each outcome with blocks, have each shape of
 //! comments inside statements and each sort of place, and that a comment more
-//! changes nothing, by the peer alone.
+//! changes nothing, by the peer alone; and how often other orders of their units
+//! and statements come to each end, by the library too.
 
 use std::collections::BTreeMap;
 
 use floesedge_check::comments::{self, Shape};
+use floesedge_check::orders::{self, Event};
 use floesedge_check::places::{self, Kind, Sort};
 use floesedge_check::random::Random;
 use floesedge_check::texts;
@@ -99,6 +101,31 @@ fn each_sort_of_place_is_common() {
             let count = places.get(&(sort, kind)).copied().unwrap_or(0);
             assert!(count * 250 >= TEXTS, "{sort:?} of {kind}: {count}");
         }
+    }
+}
+
+#[test]
+fn each_end_of_other_orders_is_common() {
+    let mut events: BTreeMap<Event, u64> = BTreeMap::new();
+    for case in 0..TEXTS {
+        let mut random = Random::new(7, case * 2);
+        let text = texts::text(&mut random);
+        match orders::check(&text, random.word()) {
+            Ok(found) => {
+                for event in found {
+                    *events.entry(event).or_default() += 1;
+                }
+            }
+            Err(difference) => {
+                difference.show();
+                panic!("case {case}");
+            }
+        }
+    }
+    println!("of {TEXTS} texts: other orders by what came of them: {events:?}");
+    for event in Event::ALL {
+        let count = events.get(&event).copied().unwrap_or(0);
+        assert!(count * 250 >= TEXTS, "{event:?}: {count}");
     }
 }
 

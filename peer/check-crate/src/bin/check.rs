@@ -1,5 +1,6 @@
 //! Compares the library with the peer on random texts and programs, and its
-//! answers with and without one comment more in each text.
+//! answers with and without one comment more in each text, and on the program of
+//! each text in its own order and in others.
 //!
 //! `check N SEED [FROM]`: N texts and N programs of a seed, from case FROM on.
 
@@ -7,17 +8,17 @@ use std::collections::BTreeMap;
 use std::process::ExitCode;
 
 use floesedge_check::comments::{self, Shape};
+use floesedge_check::orders::{self, Event};
 use floesedge_check::places::{self, Kind, Sort};
 use floesedge_check::random::Random;
+use floesedge_check::runs::{self, agree, alike, hex, run, Act, Buffers, LIBRARY, MARGIN, PEER};
 use floesedge_check::{library, programs, texts};
 use floesedge_peer::faults::FAULT;
 use floesedge_peer::translate::FAULT_LIST;
-use floesedge_peer::{self as peer, Answer, Reason, Verdict};
+use floesedge_peer::{self as peer, Reason, Verdict};
 
 /// How many differences are shown before the run stops.
 const SHOWN: usize = 5;
-/// Bytes or floats around each lent buffer that nobody may touch.
-const MARGIN: usize = 64;
 
 /// How often each outcome occurred.
 #[derive(Default)]
@@ -34,6 +35,8 @@ struct Counts {
     places: BTreeMap<(Sort, Kind), u64>,
     /// Comments put in, by the verdict and whether they stand inside a statement.
     put_in: BTreeMap<(u32, bool), u64>,
+    /// Other orders of texts with verdict 0, by what came of them.
+    orders: BTreeMap<Event, u64>,
     answers: BTreeMap<u32, u64>,
     reasons: BTreeMap<Reason, u64>,
     /// Reasons for which a record of kind 15 was bad.
@@ -124,6 +127,9 @@ fn report(counts: &Counts) -> bool {
             );
         }
     }
+    for event in Event::ALL {
+        line(format!("{event:?}"), counts.orders.get(&event));
+    }
     for number in 0..=4 {
         line(format!("answer {number}"), counts.answers.get(&number));
     }
@@ -205,7 +211,8 @@ fn check_text(seed: u64, case: u64, counts: &mut Counts) -> bool {
     let theirs = run_text(library::translate, &text, rooms, pattern);
     count_text(&text, &ours, counts);
     if ours == theirs {
-        return check_comment(&mut random, case, &text, rooms, counts);
+        return check_comment(&mut random, case, &text, rooms, counts)
+            || check_orders(&mut random, case, &text, counts);
     }
     let differs = |text: &[u8]| {
         run_text(peer::translate, text, rooms, pattern)
@@ -351,6 +358,33 @@ fn moved((verdict, mut faults, mut program): Translated, place: usize) -> Transl
     (verdict, faults, program)
 }
 
+/// Compares what the library leaves on the program of a text and on the same in
+/// other orders; true if it is not as it must be.
+fn check_orders(random: &mut Random, case: u64, text: &[u8], counts: &mut Counts) -> bool {
+    let seed = random.word();
+    match orders::check(text, seed) {
+        Ok(found) => {
+            for event in found {
+                *counts.orders.entry(event).or_default() += 1;
+            }
+            false
+        }
+        Err(_) => {
+            let differs = |text: &[u8]| orders::check(text, seed).is_err();
+            let lines: Vec<&[u8]> = text.split_inclusive(|&byte| byte == b'\n').collect();
+            let text = shrink(lines, 1, |lines| differs(&lines.concat())).concat();
+            let text = shrink(text, 1, differs);
+            println!("DIFFERENCE by another order in text of case {case}");
+            println!("text: {}", text.escape_ascii());
+            println!("hex: {}", hex(&text));
+            if let Err(difference) = orders::check(&text, seed) {
+                difference.show();
+            }
+            true
+        }
+    }
+}
+
 /// Prints what a translator gave back.
 fn show_text(who: &str, translated: &Translated) {
     let (verdict, faults, program) = translated;
@@ -365,76 +399,6 @@ fn show_text(who: &str, translated: &Translated) {
 }
 
 // Programs.
-
-/// The steps tried one after another on the same buffers.
-#[derive(Clone, Copy)]
-enum Act {
-    Evaluate,
-    Start,
-    Step(f64),
-}
-
-/// What an evaluator gave back: its answers, and the bits of both buffers
-/// after each act, margins included.
-type Evaluated = Vec<(Answer, Vec<u64>, Vec<u64>)>;
-
-/// An evaluator: its three functions.
-struct Evaluator {
-    evaluate: fn(&[u8], &mut [f64], &mut [f64]) -> Answer,
-    start: fn(&[u8], &mut [f64], &mut [f64]) -> Answer,
-    step: fn(&[u8], f64, &mut [f64], &mut [f64]) -> Answer,
-}
-
-const PEER: Evaluator = Evaluator {
-    evaluate: peer::evaluate,
-    start: peer::start,
-    step: peer::step,
-};
-const LIBRARY: Evaluator = Evaluator {
-    evaluate: library::evaluate,
-    start: library::start,
-    step: library::step,
-};
-
-/// The bits of floats, all NaNs as one.
-fn bits(floats: &[f64]) -> Vec<u64> {
-    floats
-        .iter()
-        .map(|float| {
-            if float.is_nan() {
-                f64::NAN.to_bits()
-            } else {
-                float.to_bits()
-            }
-        })
-        .collect()
-}
-
-/// Runs all acts of an evaluator on buffers of given lengths.
-fn run_program(
-    evaluator: &Evaluator,
-    program: &[u8],
-    acts: &[Act],
-    rooms: (usize, usize),
-    pattern: u64,
-) -> Evaluated {
-    let mut random = Random::new(pattern, 3);
-    let mut floats =
-        |room: usize| -> Vec<f64> { (0..room + 2 * MARGIN).map(|_| random.float()).collect() };
-    let (mut values, mut derivs) = (floats(rooms.0), floats(rooms.1));
-    let mut outcomes = Vec::new();
-    for act in acts {
-        let lent_values = &mut values[MARGIN..MARGIN + rooms.0];
-        let lent_derivs = &mut derivs[MARGIN..MARGIN + rooms.1];
-        let answer = match *act {
-            Act::Evaluate => (evaluator.evaluate)(program, lent_values, lent_derivs),
-            Act::Start => (evaluator.start)(program, lent_values, lent_derivs),
-            Act::Step(h) => (evaluator.step)(program, h, lent_values, lent_derivs),
-        };
-        outcomes.push((answer, bits(&values), bits(&derivs)));
-    }
-    outcomes
-}
 
 /// A random length to lend for values or derivatives.
 fn room(random: &mut Random) -> usize {
@@ -453,12 +417,7 @@ fn acts(random: &mut Random) -> Vec<Act> {
         _ => vec![Act::Evaluate, Act::Start],
     };
     for _ in 0..3 {
-        let h = if random.once_in(2) {
-            random.pick(&[0.1, 0.01, 1.0, 1e-9])
-        } else {
-            random.float()
-        };
-        acts.push(Act::Step(h));
+        acts.push(Act::Step(runs::step_of(random)));
     }
     acts
 }
@@ -469,9 +428,12 @@ fn check_program(seed: u64, case: u64, counts: &mut Counts) -> bool {
     let program = programs::program(&mut random);
     let acts = acts(&mut random);
     let rooms = (room(&mut random), room(&mut random));
-    let pattern = random.word();
-    let ours = run_program(&PEER, &program, &acts, rooms, pattern);
-    let theirs = run_program(&LIBRARY, &program, &acts, rooms, pattern);
+    let lent = Buffers::random(&mut Random::new(random.word(), 3), rooms);
+    let both = |program: &[u8]| {
+        let ours = run(&PEER, program, &acts, &lent);
+        (ours, run(&LIBRARY, program, &acts, &lent))
+    };
+    let (ours, theirs) = both(&program);
     let number = ours[0].0.number;
     *counts.answers.entry(number).or_default() += 1;
     if let (3 | 4, Err(refusal)) = (number, peer::judge_reason(&program)) {
@@ -481,62 +443,28 @@ fn check_program(seed: u64, case: u64, counts: &mut Counts) -> bool {
             *counts.again.entry(refusal.reason).or_default() += 1;
         }
     }
-    if ours == theirs {
+    if agree(&ours, &theirs, alike) {
         return false;
     }
     let differs = |program: &[u8]| {
-        run_program(&PEER, program, &acts, rooms, pattern)
-            != run_program(&LIBRARY, program, &acts, rooms, pattern)
+        let (ours, theirs) = both(program);
+        !agree(&ours, &theirs, alike)
     };
     let program = shrink(program, 16, differs);
     println!(
         "DIFFERENCE in program of case {case}, lent {} values and {} derivatives",
         rooms.0, rooms.1
     );
-    for record in program.chunks(16) {
-        println!("  {}", hex(record));
-    }
-    let ours = run_program(&PEER, &program, &acts, rooms, pattern);
-    let theirs = run_program(&LIBRARY, &program, &acts, rooms, pattern);
-    show_program(&acts, &ours, &theirs);
+    runs::show_records(&program);
+    let (ours, theirs) = both(&program);
+    runs::show(&acts, ["peer", "library"], [&ours, &theirs], alike);
     true
-}
-
-/// Prints where two evaluators first part.
-fn show_program(acts: &[Act], ours: &Evaluated, theirs: &Evaluated) {
-    for (i, (a, b)) in ours.iter().zip(theirs).enumerate() {
-        let name = match acts[i] {
-            Act::Evaluate => "evaluate".into(),
-            Act::Start => "start".into(),
-            Act::Step(h) => format!("step of {h:e}"),
-        };
-        println!(
-            "{name}: peer {} record {}, library {} record {}",
-            a.0.number, a.0.record, b.0.number, b.0.record
-        );
-        let parts = [("value", &a.1, &b.1), ("derivative", &a.2, &b.2)];
-        for (name, ours, theirs) in parts {
-            for slot in (0..ours.len())
-                .filter(|&slot| ours[slot] != theirs[slot])
-                .take(5)
-            {
-                let place = slot as i64 - MARGIN as i64;
-                println!(
-                    "  {name} {place}: peer {:016x}, library {:016x}",
-                    ours[slot], theirs[slot]
-                );
-            }
-        }
-        if a != b {
-            return;
-        }
-    }
 }
 
 // Showing.
 
 /// Takes pieces out of an input as long as the two still differ on it.
-fn shrink(mut input: Vec<u8>, unit: usize, differs: impl Fn(&[u8]) -> bool) -> Vec<u8> {
+fn shrink<T: Clone>(mut input: Vec<T>, unit: usize, differs: impl Fn(&[T]) -> bool) -> Vec<T> {
     let mut size = (input.len() / 2 / unit).max(1) * unit;
     let mut tries = 3000;
     loop {
@@ -556,9 +484,4 @@ fn shrink(mut input: Vec<u8>, unit: usize, differs: impl Fn(&[u8]) -> bool) -> V
         }
         size = (size / 2 / unit).max(1) * unit;
     }
-}
-
-/// Bytes as hexadecimal digits.
-fn hex(bytes: &[u8]) -> String {
-    bytes.iter().map(|byte| format!("{byte:02x}")).collect()
 }
