@@ -79,31 +79,30 @@ in-row f (j ∷ q) i b h m =
 
 -- ---- a list whose front of members that pass `kept` stays, and whose parts behind it, each up to and including a
 -- member that passes `last`, stand in the order q
+
+-- what stands behind that front
+abbrev pub behind : {A : Type 0} → (A → Bool) → List A → List A
+behind kept l = drop (length (frontRun kept l)) l
+
 module _ {A : Type 0} (kept last : A → Bool) where
-  abbrev pub front : List A → List A
-  front l = frontRun kept l
-
-  abbrev pub behind : List A → List A
-  behind l = drop (length (frontRun kept l)) l
-
   abbrev pub parts : List A → List (List A)
-  parts l = cutBehind last (behind l)
+  parts l = cutBehind last (behind kept l)
 
   abbrev pub moved : List ℕ → List A → List A
-  moved q l = front l ++ concat-map (λ (i : ℕ). getD (parts l) i []) q
+  moved q l = frontRun kept l ++ concat-map (λ (i : ℕ). getD (parts l) i []) q
 
   -- what holds of each member holds of each of the front, and of each of any part
-  pub part-every : (P : A → Type 0) (l : List A) → Every P (behind l) → (i : ℕ) → Every P (getD (parts l) i [])
+  pub part-every : (P : A → Type 0) (l : List A) → Every P (behind kept l) → (i : ℕ) → Every P (getD (parts l) i [])
   part-every P l h i =
-      let each = every-parts P (λ (s : List A). s) (parts l) (rw (cut-whole last (behind l)) h) in
+      let each = every-parts P (λ (s : List A). s) (parts l) (rw (cut-whole last (behind kept l)) h) in
       every-anywhere (Every P) [] tt (parts l) i each
 
   pub moved-every : (P : A → Type 0) (q : List ℕ) (l : List A) → Every P l → Every P (moved q l)
   moved-every P q l h =
-      let both : Every P (front l ++ behind l) = rw (run-parts kept l) h in
-      every-append P (front l) _ (every-left P (front l) (behind l) both)
+      let both : Every P (frontRun kept l ++ behind kept l) = rw (run-parts kept l) h in
+      every-append P (frontRun kept l) _ (every-left P (frontRun kept l) (behind kept l) both)
       (every-part P (λ (i : ℕ). getD (parts l) i [])
-      (part-every P l (every-right P (front l) (behind l) both)) q)
+      (part-every P l (every-right P (frontRun kept l) (behind kept l) both)) q)
 
   -- ---- where each part stands once
   module _ (q : List ℕ) (l : List A) (once : Permutation (length (parts l)) q) where
@@ -114,31 +113,33 @@ module _ {A : Type 0} (kept last : A → Bool) where
         let F : ℕ → List A = λ (i : ℕ). getD (parts l) i [] in
         let same = lengths-same F n q (numbers n 0) (perm-below n (λ i j. false) q once) (numbers-few n)
         (λ i h. once .within i h ∙ sym (numbers-once n 0 i (omega arith) (omega arith))) in
-        let all : concat-map F (numbers n 0) ≡ behind l =
+        let all : concat-map F (numbers n 0) ≡ behind kept l =
         sym (gather-numbers F n 0) ∙ gather-all F (λ (s : List A). s) [] (parts l) (λ i. refl)
-        ∙ cut-whole last (behind l) in
-        length-append (front l) (concat-map F q)
-        ∙ ap (λ k. length (front l) + k) (same ∙ ap length all)
-        ∙ sym (length-append (front l) (behind l))
+        ∙ cut-whole last (behind kept l) in
+        length-append (frontRun kept l) (concat-map F q)
+        ∙ ap (λ k. length (frontRun kept l) + k) (same ∙ ap length all)
+        ∙ sym (length-append (frontRun kept l) (behind kept l))
         ∙ ap length (run-parts kept l)
 
     -- and each is still there, also by what f makes of it
     pub moved-member : {B : Type 0} (f : A → B) (b : B) → List·Memᴰ b (map f l) → List·Memᴰ b (map f (moved q l))
     moved-member {B} f b m =
         let F : ℕ → List A = λ (i : ℕ). getD (parts l) i [] in
-        let whole : map f l ≡ map f (front l) ++ concat-map (map f) (parts l) =
-        ap (map f) (sym (run-parts kept l) ∙ ap (λ (r : List A). front l ++ r) (sym (cut-whole last (behind l))))
-        ∙ map-append f (front l) _
-        ∙ ap (λ (r : List B). map f (front l) ++ r) (map-concat f (λ (s : List A). s) (parts l)) in
-        let later : map f (moved q l) ≡ map f (front l) ++ concat-map (λ (i : ℕ). map f (F i)) q =
-        map-append f (front l) _ ∙ ap (λ (r : List B). map f (front l) ++ r) (map-concat f F q) in
+        let cut : l ≡ frontRun kept l ++ concat-map (λ (s : List A). s) (parts l) =
+        sym (run-parts kept l) ∙ ap (λ (r : List A). frontRun kept l ++ r) (sym (cut-whole last (behind kept l))) in
+        let whole : map f l ≡ map f (frontRun kept l) ++ concat-map (map f) (parts l) =
+        ap (map f) cut
+        ∙ map-append f (frontRun kept l) _
+        ∙ ap (λ (r : List B). map f (frontRun kept l) ++ r) (map-concat f (λ (s : List A). s) (parts l)) in
+        let later : map f (moved q l) ≡ map f (frontRun kept l) ++ concat-map (λ (i : ℕ). map f (F i)) q =
+        map-append f (frontRun kept l) _ ∙ ap (λ (r : List B). map f (frontRun kept l) ++ r) (map-concat f F q) in
         rw later
         (⊎-elim (λ t. Memᴰ·append-left _ t)
         (λ t.
         let r = in-some (map f) b (parts l) t in
-        Memᴰ·append-right (map f (front l))
+        Memᴰ·append-right (map f (frontRun kept l))
         (in-row (λ (i : ℕ). map f (F i)) q (r .0) b (omega (arith, once .within (r .0) (r .1))) (r .2)))
-        (List·Memᴰ·append-cases (map f (front l)) (rw whole at m)))
+        (List·Memᴰ·append-cases (map f (frontRun kept l)) (rw whole at m)))
 
 -- a mapped list is moved as the list is
 module _ {A B : Type 0} (kept last : A → Bool) (f : B → A) where
@@ -149,11 +150,11 @@ module _ {A B : Type 0} (kept last : A → Bool) (f : B → A) where
   lastBy b = last (f b)
 
   -- behind the front
-  behind-mapped : (l : List B) → behind kept last (map f l) ≡ map f (behind keptBy lastBy l)
+  behind-mapped : (l : List B) → behind kept (map f l) ≡ map f (behind keptBy l)
   behind-mapped l =
       ap (λ (r : List A). drop (length r) (map f l)) (run-mapped kept f l)
-      ∙ ap (λ n. drop n (map f l)) (length-map (front keptBy lastBy l) f)
-      ∙ drop-mapped (length (front keptBy lastBy l)) l
+      ∙ ap (λ n. drop n (map f l)) (length-map (frontRun keptBy l) f)
+      ∙ drop-mapped (length (frontRun keptBy l)) l
     where
       drop-mapped : (n : ℕ) (l : List B) → drop n (map f l) ≡ map f (drop n l)
       drop-mapped zero l = refl
@@ -162,7 +163,7 @@ module _ {A B : Type 0} (kept last : A → Bool) (f : B → A) where
 
   -- its parts
   pub parts-mapped : (l : List B) → parts kept last (map f l) ≡ map (map f) (parts keptBy lastBy l)
-  parts-mapped l = ap (cutBehind last) (behind-mapped l) ∙ cut-mapped last f (behind keptBy lastBy l)
+  parts-mapped l = ap (cutBehind last) (behind-mapped l) ∙ cut-mapped last f (behind keptBy l)
 
   -- what stands at a place of mapped parts
   part-mapped : (ss : List (List B)) (i : ℕ) → getD (map (map f) ss) i [] ≡ map f (getD ss i [])
@@ -177,4 +178,4 @@ module _ {A B : Type 0} (kept last : A → Bool) (f : B → A) where
       (concat-same (λ (i : ℕ). getD (parts kept last (map f l)) i []) (λ (i : ℕ). map f (F i))
       (λ i. ap (λ (ss : List (List A)). getD ss i []) (parts-mapped l) ∙ part-mapped (parts keptBy lastBy l) i) q
       ∙ sym (map-concat f F q))
-      ∙ sym (map-append f (front keptBy lastBy l) (concat-map F q))
+      ∙ sym (map-append f (frontRun keptBy l) (concat-map F q))

@@ -1,7 +1,7 @@
--- Of a text with verdict 0, with its units in any good order: the program is accepted, evaluates, starts and steps by the
--- text's units; there is one solution; and nothing is lost.
+-- Of a text with verdict 0, with its units in any good order: the program is accepted, evaluates, starts and steps by
+-- the text's units; there is one solution; and nothing is lost.
 use Prim.Native.Nat.{ℕ}
-use mathlib.Core.Path.{_≡_, refl, sym, ap, subst, _∙_}
+use mathlib.Core.Path.{_≡_, refl, sym, ap, subst}
 use mathlib.Core.List.{List}
 use lib.ListN.{length}
 use lib.Ieee.{Float}

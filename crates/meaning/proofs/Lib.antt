@@ -31,7 +31,7 @@ pub mod Levels
 pub mod Faithful
 pub mod RunsAlike
 pub mod AnyOrder
-pub mod Still
 pub mod Cut
+pub mod Still
 pub mod ReSorted
 pub mod ReSortedBytes

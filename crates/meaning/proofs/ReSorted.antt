@@ -1,11 +1,11 @@
 -- A program without kind 15 runs as before when its statements are put into another order, if the judge takes it.
-use Prim.Native.Nat.{ℕ, _+_, _-_, _≤_, _<_}
-use mathlib.Core.Path.{_≡_, refl, sym, ap, subst, _∙_}
-use mathlib.Core.Bool.{true, false}
+use Prim.Native.Nat.{ℕ, _+_, _≤_}
+use mathlib.Core.Path.{_≡_, refl, sym, ap, _∙_}
+use mathlib.Core.Bool.{false}
 use mathlib.Core.Logic.{_⊎_, inl, inr, ⊎-elim}
-use mathlib.Core.List.{List, [], _∷_, _++_, map, List·Memᴰ}
+use mathlib.Core.List.{List, [], _∷_, _++_, List·Memᴰ}
 use native.Mathlib.Omega.{arith}
-use lib.ListN.{length, getD, set, drop, replicate, length-set, length-replicate}
+use lib.ListN.{length, getD, drop, replicate, length-set, length-replicate}
 use lib.Seq.{ext-getD}
 use lib.Ieee.{Float, nan}
 use Rattle.limits.specs.Limits.{slots}
@@ -25,20 +25,34 @@ use Rattle.evaluator.specs.declared.Answer.{Answer}
 use Rattle.evaluator.specs.Judge.{unsetMark, givenMark, ruleOf, phaseOf, judge₀, answer}
 use Rattle.evaluator.specs.Machine.{Machine, act, run, begun}
 use Rattle.evaluator.specs.Evaluate.{ifInitial, eachState, refusal, ran, evaluated}
-use Rattle.evaluator.specs.Sound.{Sound, Granted}
+use Rattle.evaluator.specs.Sound.{Sound}
 use Rattle.evaluator.proofs.EntryAnswers.{granted}
 use Rattle.meaning.specs.Faithful.{HasSlots, Accepted}
 use Rattle.meaning.specs.RunsAlike.{RunsAlike}
 use Rattle.meaning.specs.ReadSlots.{shapes, StateSlot, SetSlot, DerivedSlot, Same}
-use Rattle.meaning.specs.ReSorted.{cutBehind, standsFirst, endsStatement}
+use Rattle.meaning.specs.ReSorted.{standsFirst, endsStatement}
 use Rattle.meaning.proofs.Acted.{run-next, Roomy, Alike}
 use Rattle.meaning.proofs.SetApart.{NoneAgain}
 use Rattle.meaning.proofs.States.{all-append}
 use Rattle.meaning.proofs.ReadSlots.{alike-run, run-long, run-stays, refusal-judge, begun-marked, read-apart}
 use Rattle.meaning.proofs.ReadSlots.{evaluated-ran, others-stay, reads-states}
 use Rattle.meaning.proofs.RunsAlike.{SameEnds, putBy, SameStates, runs-alike}
-use Rattle.meaning.proofs.Cut.{front, behind, parts, moved, part-every, moved-member}
+use Rattle.meaning.proofs.Cut.{behind, parts, moved, part-every, moved-member}
 use Rattle.meaning.proofs.Still.{Quiet, Rests, all-rest}
+
+-- ---- the instructions of a program: the constants and initials at the front, what stands behind them, its statements,
+-- and these in another order
+abbrev firsts : List Instr → List Instr
+firsts xs = frontRun standsFirst xs
+
+abbrev laters : List Instr → List Instr
+laters xs = behind standsFirst xs
+
+abbrev statements : List Instr → List (List Instr)
+statements xs = parts standsFirst endsStatement xs
+
+abbrev sortedBy : List ℕ → List Instr → List Instr
+sortedBy q xs = moved standsFirst endsStatement q xs
 
 -- ---- runs
 
@@ -46,7 +60,8 @@ use Rattle.meaning.proofs.Still.{Quiet, Rests, all-rest}
 run-append : (m : Machine) (x y : List Instr) → run m (x ++ y) ≡ run (run m x) y
 unfolding run
 run-append m [] y = refl
-run-append m (a ∷ x) y = run-next m a (x ++ y) ∙ run-append (act m (shapeOf a)) x y ∙ ap (λ n. run n y) (sym (run-next m a x))
+run-append m (a ∷ x) y =
+    run-next m a (x ++ y) ∙ run-append (act m (shapeOf a)) x y ∙ ap (λ n. run n y) (sym (run-next m a x))
 
 -- nothing rests
 rests-none : (v d : List Float) → run (begun v d) [] ≡ begun v d
@@ -114,17 +129,17 @@ late-on p k [] h s = tt
 late-on p k (x ∷ xs) h s =
     let l : Late x = omega (arith, s .0 .phase) in (l, late-on (phaseOf x) _ xs l (s .1))
 
-late-behind : (p k : ℕ) (xs : List Instr) → Sound p k xs → Every Late (behind standsFirst endsStatement xs)
+late-behind : (p k : ℕ) (xs : List Instr) → Sound p k xs → Every Late (laters xs)
 unfolding Sound frontRun
 late-behind p k [] s = tt
 late-behind p k (x ∷ xs) s =
-    cond-ind (λ (l : List Instr). Every Late (drop (length l) (x ∷ xs))) (standsFirst x) (x ∷ frontRun standsFirst xs) []
+    cond-ind (λ (l : List Instr). Every Late (drop (length l) (x ∷ xs))) (standsFirst x) (x ∷ firsts xs) []
     (λ t. late-behind (phaseOf x) _ xs (s .1))
     (λ t. let l = other-late x t in (l, late-on (phaseOf x) _ xs l (s .1)))
 
 -- ---- two programs, of which the second has the statements of the first in the order q
-module _ (p r q : List ℕ) (sorted : decoded r ≡ moved standsFirst endsStatement q (decoded p))
-    (once : Permutation (length (parts standsFirst endsStatement (decoded p))) q) (kinds : NoneAgain (decoded p))
+module _ (p r q : List ℕ) (sorted : decoded r ≡ sortedBy q (decoded p))
+    (once : Permutation (length (statements (decoded p))) q) (kinds : NoneAgain (decoded p))
     (taken : Accepted p) (taken-too : Accepted r) where
   abbrev xs : List Instr
   xs = decoded p
@@ -143,15 +158,15 @@ module _ (p r q : List ℕ) (sorted : decoded r ≡ moved standsFirst endsStatem
   states-same v d roomy to u lu =
       let g = granted {r = answer 0 0} (sym (taken v d roomy)) refl in
       let late = late-behind 1 0 xs (g .sound) in
-      let first = front standsFirst endsStatement xs in
-      let later = concat-map (λ (i : ℕ). getD (parts standsFirst endsStatement xs) i []) q in
+      let first = firsts xs in
+      let later = concat-map (λ (i : ℕ). getD (statements xs) i []) q in
       let moved-late : Every Late later =
-      every-part Late (λ (i : ℕ). getD (parts standsFirst endsStatement xs) i []) (part-every standsFirst endsStatement Late xs late)
+      every-part Late (λ (i : ℕ). getD (statements xs) i []) (part-every standsFirst endsStatement Late xs late)
       q in
       let own : eachState (putBy to) u xs ≡ eachState (putBy to) u first =
       ap (eachState (putBy to) u) (sym (run-parts standsFirst xs))
-      ∙ all-append to u first (behind standsFirst endsStatement xs)
-      ∙ states-none (putBy to) _ (behind standsFirst endsStatement xs) late in
+      ∙ all-append to u first (laters xs)
+      ∙ states-none (putBy to) _ (laters xs) late in
       let other : eachState (putBy to) u (decoded r) ≡ eachState (putBy to) u first =
       ap (eachState (putBy to) u) sorted ∙ all-append to u first later ∙ states-none (putBy to) _ later moved-late in
       own ∙ sym other
@@ -218,11 +233,11 @@ module _ (p r q : List ℕ) (sorted : decoded r ≡ moved standsFirst endsStatem
     rests : Rests v′ d′ (decoded r)
     rests =
         let each = all-rest v′ d′ lv ld 0 judge₀ xs quiet in
-        let ss = parts standsFirst endsStatement xs in
+        let ss = statements xs in
         let one : (i : ℕ) → Rests v′ d′ (getD ss i []) =
         λ i. every-anywhere (Rests v′ d′) [] (rests-none v′ d′) ss i (each .1) in
         rw sorted
-        (run-append (begun v′ d′) (front standsFirst endsStatement xs) _
+        (run-append (begun v′ d′) (firsts xs) _
         ∙ ap (λ n. run n (concat-map (λ (i : ℕ). getD ss i []) q)) (each .0)
         ∙ rests-row v′ d′ (λ (i : ℕ). getD ss i []) q one)
 
@@ -250,10 +265,14 @@ module _ (p r q : List ℕ) (sorted : decoded r ≡ moved standsFirst endsStatem
         record {
           values =
               ext-getD nan v′ (ran r v d .values) (long .0 ∙ sym (n .0))
-              (λ s _. sym (side-by-side s .0 (⊎-elim (λ z. inr (kept-set s z)) (λ e. inl (sym e)) (stay s .0))));
+              (λ s _.
+              let end = side-by-side s .0 in
+              sym (end (⊎-elim (λ z. inr (kept-set s z)) (λ e. inl (sym e)) (stay s .0))));
           derivs =
               ext-getD nan d′ (ran r v d .derivs) (long .1 ∙ sym (n .1))
-              (λ s _. sym (side-by-side s .1 (⊎-elim (λ z. inr (kept (derivative s) z)) (λ e. inl (sym e)) (stay s .1))));
+              (λ s _.
+              let end = side-by-side s .1 in
+              sym (end (⊎-elim (λ z. inr (kept (derivative s) z)) (λ e. inl (sym e)) (stay s .1))));
         }
 
   -- THE SECOND RUNS AS THE FIRST

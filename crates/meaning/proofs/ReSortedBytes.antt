@@ -2,14 +2,14 @@
 -- of them in another order.
 use Prim.Native.Nat.{ℕ, zero, suc, _+_, _*_, _/_, _%_, _≤_, _<_}
 use mathlib.Core.Path.{_≡_, refl, sym, ap, ap₂, subst, _∙_}
-use mathlib.Core.Bool.{Bool, true, false, not, _||_}
+use mathlib.Core.Bool.{Bool, false, not, _||_}
 use mathlib.Core.List.{List, [], _∷_, _++_, map, append-assoc}
 use native.Mathlib.Omega.{arith}
 use borrow.Author.Tests.{eqb-true, ltb-false}
 use lib.Dec.{eqb, ltb, lit<}
-use lib.ListN.{length, getD, take, drop, replicate, length-append, length-map, length-drop, length-replicate}
+use lib.ListN.{length, getD, take, drop, length-append, length-map, length-drop}
 use lib.Seq.{getD-take, getD-drop, take-nil, take-take, drop-drop, take-at, drop-append-seam, length-take-le}
-use lib.Ieee.{Float, nan}
+use lib.Ieee.{Float}
 use Rattle.limits.specs.Limits.{slots, recordBytes, mostRecords}
 use Rattle.laws.specs.Every.{Every}
 use Rattle.laws.specs.Lists.{concat-map, numbers}
@@ -26,9 +26,9 @@ use Rattle.evaluator.specs.declared.Answer.{Answer}
 use Rattle.evaluator.specs.Judge.{answer, judge}
 use Rattle.evaluator.specs.Evaluate.{refusal}
 use Rattle.evaluator.proofs.EntryAnswers.{by-judge}
-use Rattle.meaning.specs.Faithful.{HasSlots, Accepted}
-use Rattle.meaning.specs.ReSorted.{standsFirst, endsStatement, NotAgain, recordsIn, instrIn, cutStatements, reSorted}
-use Rattle.meaning.specs.ReSorted.{NoAgain, ReSorts}
+use Rattle.meaning.specs.Faithful.{Accepted}
+use Rattle.meaning.specs.ReSorted.{standsFirst, endsStatement, NotAgain, recordsIn, instrIn, cutStatements}
+use Rattle.meaning.specs.ReSorted.{reSorted, NoAgain, ReSorts}
 use Rattle.meaning.proofs.SetApart.{storesAgain, NoneAgain}
 use Rattle.meaning.proofs.Cut.{parts, moved, moved-every, moved-length, parts-mapped, moved-mapped}
 use Rattle.meaning.proofs.ReSorted.{moved-alike}
@@ -53,11 +53,11 @@ module _ (p : List ℕ) (o : ℕ) where
   -- n bytes of it from byte a on, with k behind them
   field-cut : (a n k : ℕ) → a + (n + k) ≡ recordBytes → field p (o + a) n ≡ field cut a n
   field-cut a n k e =
-      let tail : drop a cut ≡ take (n + k) (drop a (drop o p)) =
-      subst (λ (m : ℕ). drop a (take m (drop o p)) ≡ take (n + k) (drop a (drop o p))) e (drop-take a (n + k) (drop o p))
-      in
+      let rest = drop a (drop o p) in
+      let tail : drop a cut ≡ take (n + k) rest =
+      ap (λ m. drop a (take m (drop o p))) (sym e) ∙ drop-take a (n + k) (drop o p) in
       let same : take n (drop a cut) ≡ take n (drop (o + a) p) =
-      ap (take n) tail ∙ take-take n (n + k) (drop a (drop o p)) (omega arith) ∙ ap (take n) (drop-drop a o p) in
+      ap (take n) tail ∙ take-take n (n + k) rest (omega arith) ∙ ap (take n) (drop-drop a o p) in
       ap lowWord (sym same)
 
   -- it holds what the program holds there

@@ -11,8 +11,8 @@ use Rattle.records.specs.Record.{decoded}
 use Rattle.records.specs.Shape.{zero64}
 use Rattle.evaluator.specs.Judge.{answer}
 use Rattle.evaluator.specs.Machine.{Machine, begun}
-use Rattle.evaluator.specs.Evaluate.{RunOutcome, runOutcome, refusal, unless, ran, evaluated, eachState, startAll, started}
-use Rattle.evaluator.specs.Evaluate.{moveAll, advanced, stepped}
+use Rattle.evaluator.specs.Evaluate.{RunOutcome, runOutcome, refusal, unless, ran, evaluated, eachState, startAll}
+use Rattle.evaluator.specs.Evaluate.{started, moveAll, advanced, stepped}
 use Rattle.evaluator.proofs.EntryAnswers.{short-values, short-derivs}
 use Rattle.meaning.specs.Faithful.{HasSlots, Accepted}
 use Rattle.meaning.specs.RunsAlike.{walked, RunsAlike}
@@ -50,7 +50,8 @@ module _ (p r : List ℕ) (taken : Accepted p) (taken-too : Accepted r) where
   both-done : (v d : List Float) (m n : Machine) → HasSlots v d → SameEnds m n
       → unless (refusal p v d) v d m ≡ unless (refusal r v d) v d n
   both-done v d m n h s =
-      rw (taken v d h, taken-too v d h) (ap₂ (λ (x y : List Float). runOutcome (answer 0 0) x y) (s .values) (s .derivs))
+      rw (taken v d h, taken-too v d h)
+      (ap₂ (λ (x y : List Float). runOutcome (answer 0 0) x y) (s .values) (s .derivs))
 
   -- the same outcome
   unless-same : (v d : List Float) (m n : Machine) → (HasSlots v d → SameEnds m n)

@@ -126,8 +126,8 @@ storesAgain (store-again s) = true
 storesAgain bad = false
 
 module _ (h : Shape) (hs : List Shape) (l : List ℕ) (k q : ℕ) (fine : ruleOf h .fine l k ≡ true) where
-  -- the first record sets the slot: it is no initial; if the slot was set, it was a stored one, and is stored again; now
-  -- it is set
+  -- the first record sets the slot: it is no initial; if the slot was set, it was a stored one and is stored again; it
+  -- is set now
   abbrev Sets : Type 0
   Sets = (ruleOf h .phase ≡ 2 → ⊥) × (Marked l q → (getD l q 0 ≡ storedMark) × (storesAgain h ≡ true))
       × (q < length l → Marked (ruleOf h .marks l) q)

@@ -1,14 +1,14 @@
 -- A program without kind 15 that is run again from where it ended changes nothing: no record of it does, and so none of
 -- its statements.
 use Prim.Native.Nat.{ℕ, suc, _+_, _-_, _≤_, _<_}
-use mathlib.Core.Path.{_≡_, refl, sym, ap, ap₂, subst, _∙_}
-use mathlib.Core.Bool.{true, false, not, cond, _&&_, _||_}
+use mathlib.Core.Path.{_≡_, refl, sym, ap, ap₂, _∙_}
+use mathlib.Core.Bool.{true, false, not, _&&_}
 use mathlib.Core.Logic.{⊎-elim}
 use mathlib.Core.List.{List, [], _∷_}
 use native.Mathlib.Omega.{arith}
 use borrow.Author.Tests.{eqb-true}
 use lib.Dec.{eqb}
-use lib.ListN.{length, getD, set, drop, length-set, length-drop}
+use lib.ListN.{length, getD, set, drop, length-drop}
 use lib.Seq.{getD-set-same, set-getD}
 use lib.Ieee.{Float, nan}
 use Rattle.limits.specs.Limits.{slots}
@@ -19,10 +19,10 @@ use Rattle.records.specs.declared.Instr.{Instr}
 use Rattle.records.specs.declared.Instr.the-variants.{Constant, Initial, Value, Slot, Add, Sub, Mul, Div}
 use Rattle.records.specs.declared.Instr.the-variants.{Neg, Insw, Limit, Compar, Store, Deriv, StoreAgain, Bad}
 use Rattle.records.specs.Fields.{fieldsOf}
-use Rattle.records.specs.Shape.{value, slot, operands, applied}
+use Rattle.records.specs.Shape.{value, slot, operands}
 use Rattle.records.specs.Shape.{Shape, constant, initial, push, fold, store, derivative, store-again, bad, shapeOf}
 use Rattle.evaluator.specs.declared.Answer.{Answer}
-use Rattle.evaluator.specs.Judge.{givenMark, stateMark, derivedMark, storedMark, ruleOf, Judge, good, judged, anyOpen}
+use Rattle.evaluator.specs.Judge.{givenMark, derivedMark, storedMark, ruleOf, Judge, judged, anyOpen}
 use Rattle.evaluator.specs.Judge.{answer, judgeFrom}
 use Rattle.evaluator.specs.Machine.{Machine, act, run, begun}
 use Rattle.evaluator.specs.Sound.{Sound}
@@ -32,6 +32,7 @@ use Rattle.meaning.proofs.Acted.{top, run-next, Marked}
 use Rattle.meaning.proofs.SetApart.{judge-next, good-fine, marks-stay, mark-now, storesAgain, NoneAgain}
 use Rattle.meaning.proofs.SetApart.{marked-once, derived-once}
 use Rattle.meaning.proofs.ReadSlots.{run-stays}
+use Rattle.meaning.proofs.Cut.{parts}
 
 -- ---- how many working values stand: as many as the judge counts
 stack-high : (m : Machine) (h : Shape)
@@ -113,6 +114,13 @@ no-parts (x ∷ xs) e =
     not-before [] z = not-none _ _ z
     not-before (s ∷ ss) z = not-none _ _ z
 
+-- a place that gets what it has there stays
+put-back : (u w : List Float) (s : ℕ) (x : Float) → u ≡ w → s < length w → Same w (set u s x) s → set u s x ≡ w
+put-back u w s x e b same =
+    let in-u : s < length u = rw e b in
+    let y : getD w s nan ≡ x = same ∙ getD-set-same u s x nan in-u in
+    ap₂ (λ (l : List Float) (z : Float). set l s z) e (sym y) ∙ set-getD w s nan
+
 -- ---- v and d are where a run ended
 
 -- a statement rests: carried out there it changes nothing
@@ -141,14 +149,8 @@ module _ (v d : List Float) where
   begins : (m : Machine) → m .stack ≡ [] → m .values ≡ v → m .derivs ≡ d → m ≡ begun v d
   begins m e f g = rw (e, f, g)
 
+-- .. and have a place for each slot
 module _ (v d : List Float) (lv : slots ≤ length v) (ld : slots ≤ length d) where
-  -- a place that gets what it has there stays
-  put-back : (u w : List Float) (s : ℕ) (x : Float) → u ≡ w → s < length w → Same w (set u s x) s → set u s x ≡ w
-  put-back u w s x e b same =
-      let in-u : s < length u = rw e b in
-      let y : getD w s nan ≡ x = same ∙ getD-set-same u s x nan in-u in
-      ap₂ (λ (l : List Float) (z : Float). set l s z) e (sym y) ∙ set-getD w s nan
-
   -- a record changes nothing, if what it writes is there at the end: what it sets, and the derivative that it writes
   still : (l : List ℕ) (k : ℕ) (m : Machine) → length l ≡ slots → m .values ≡ v → m .derivs ≡ d → (h : Shape)
       → ruleOf h .fine l k ≡ true
@@ -240,12 +242,13 @@ module _ (v d : List Float) (lv : slots ≤ length v) (ld : slots ≤ length d) 
 
   -- the constants and initials rest, and each statement behind them
   pub all-rest : (i : ℕ) (j : Judge) (xs : List Instr) → Quiet i j (begun v d) xs
-      → Rests v d (frontRun standsFirst xs) × Every (Rests v d) (cutBehind endsStatement (drop (length (frontRun standsFirst xs)) xs))
+      → Rests v d (frontRun standsFirst xs) × Every (Rests v d) (parts standsFirst endsStatement xs)
   unfolding frontRun run
   all-rest i j [] q = (refl, rests-each v d (cutBehind endsStatement []) (rests-from i j (begun v d) [] q))
   all-rest i j (x ∷ xs) q =
       cond-ind
-      (λ (l : List Instr). Rests v d l × Every (Rests v d) (cutBehind endsStatement (drop (length l) (x ∷ xs)))) (standsFirst x)
+      (λ (l : List Instr).
+      Rests v d l × Every (Rests v d) (cutBehind endsStatement (drop (length l) (x ∷ xs)))) (standsFirst x)
       (x ∷ frontRun standsFirst xs) []
       (λ t.
       let n = act (begun v d) (shapeOf x) in

@@ -65,7 +65,8 @@ pub computed : (heightOf (verdictOf deck faultRoom programRoom) ≡ stackPlaces)
     × (numberFor (bytes tank) ≡ 0) × Plain (bytes tank)
     × (numberFor loop ≡ 7) × Plain loop
     × (tankJudged tankSorted ≡ answer 0 0) × (tankJudged tankEarly ≡ answer 3 6)
-unfolding highest judgeFrom good anyOpen verdictOf decided linesOf trimmed dotted passed cardsOf after ended left reading linePart joined
+unfolding highest judgeFrom good anyOpen verdictOf decided linesOf trimmed dotted passed cardsOf after ended left
+    reading linePart joined
     anyLong sizeFlaw cardsTold told sheetOf concat-map
     sameBytes numbers frontRun count lowWord decimal digitsFrom exponentFrom tenTo scaled tokenOf numberCut
     nameAt tokenAt cutAt

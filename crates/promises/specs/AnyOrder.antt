@@ -8,7 +8,7 @@ use Rattle.laws.specs.Text.{bytes}
 use Rattle.limits.specs.Limits.{slots}
 use Rattle.model.specs.Text.{textUnits}
 use Rattle.records.specs.declared.Instr.the-variants.{Constant, Slot, Add, Store, StoreAgain}
-use Rattle.records.specs.Record.{Rec, rec, programBytes, instrs, decoded}
+use Rattle.records.specs.Record.{rec, programBytes, instrs, decoded}
 use Rattle.records.specs.Shape.{zero64, one64}
 use Rattle.program.specs.Program.{program}
 use Rattle.evaluator.specs.declared.Answer.{Answer}
