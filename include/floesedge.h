@@ -144,7 +144,8 @@ floesedge_verdict floesedge_translate(const uint8_t *text, size_t text_len,
 
 /* For the three below: program_len is the length of the program alone, count times 16 of the verdict, and not of the
  * buffer it stands in. An answer other than 0 writes nothing. Every program of a verdict 0 is accepted. Places past 256
- * stay as they were. */
+ * stay as they were. The order of a program's statements is free as far as each stands after all it uses: what moves
+ * whole, and that every value stays the same, is in docs/MANUAL.md, 'Putting a program into another order'. */
 
 /* Evaluates: reads slot 0 and the states, writes the constants and the assigned names to values, and each state's
  * derivative to derivs. Other places stay. */
