@@ -52,7 +52,7 @@ later-phase (StoreAgain s) h = refl
 later-phase Bad h = refl
 
 -- so it has no initial value
-late-shape : (f : ℕ → Float → List Float) (v : List Float) (s : Shape) → 2 < ruleOf s .phase → v ≡ ifInitial f v s
+pub late-shape : (f : ℕ → Float → List Float) (v : List Float) (s : Shape) → 2 < ruleOf s .phase → v ≡ ifInitial f v s
 late-shape f v (constant s x) h = refl
 late-shape f v (initial s x) h = absurd (omega arith)
 late-shape f v (push p) h = refl

@@ -1,5 +1,5 @@
 -- A program without kind 15 runs as before when its statements are put into another order, if the judge takes it.
-use Prim.Native.Nat.{ℕ, _+_, _≤_}
+use Prim.Native.Nat.{ℕ, _+_, _≤_, _<_}
 use mathlib.Core.Path.{_≡_, refl, sym, ap, _∙_}
 use mathlib.Core.Bool.{false}
 use mathlib.Core.Logic.{_⊎_, inl, inr, ⊎-elim}
@@ -20,13 +20,14 @@ use Rattle.records.specs.declared.Instr.{Instr}
 use Rattle.records.specs.declared.Instr.the-variants.{Constant, Initial, Value, Slot, Add, Sub, Mul, Div}
 use Rattle.records.specs.declared.Instr.the-variants.{Neg, Insw, Limit, Compar, Store, Deriv, StoreAgain, Bad}
 use Rattle.records.specs.Record.{decoded}
-use Rattle.records.specs.Shape.{Shape, constant, initial, push, fold, store, derivative, store-again, bad, shapeOf}
+use Rattle.records.specs.Shape.{Shape, constant, store, derivative, store-again, shapeOf}
 use Rattle.evaluator.specs.declared.Answer.{Answer}
-use Rattle.evaluator.specs.Judge.{unsetMark, givenMark, ruleOf, phaseOf, judge₀, answer}
+use Rattle.evaluator.specs.Judge.{unsetMark, givenMark, phaseOf, judge₀, answer}
 use Rattle.evaluator.specs.Machine.{Machine, act, run, begun}
-use Rattle.evaluator.specs.Evaluate.{ifInitial, eachState, refusal, ran, evaluated}
+use Rattle.evaluator.specs.Evaluate.{eachState, refusal, ran}
 use Rattle.evaluator.specs.Sound.{Sound}
 use Rattle.evaluator.proofs.EntryAnswers.{granted}
+use Rattle.evaluator.proofs.StatePasses.{late-shape}
 use Rattle.meaning.specs.Faithful.{HasSlots, Accepted}
 use Rattle.meaning.specs.RunsAlike.{RunsAlike}
 use Rattle.meaning.specs.ReadSlots.{shapes, StateSlot, SetSlot, DerivedSlot, Same}
@@ -80,28 +81,17 @@ rests-row v d f (i ∷ q) h =
 
 -- ---- what is done for each state: initials alone count
 
--- a record of phase 3
+-- a record of phase 3, which sets no state
 abbrev Late : Instr → Type 0
-Late x = 3 ≤ phaseOf x
+Late x = 2 < phaseOf x
 
--- sets no state
-late-none : (f : ℕ → Float → List Float) (v : List Float) (h : Shape) → 3 ≤ ruleOf h .phase → ifInitial f v h ≡ v
-late-none f v (constant s x) l = refl
-late-none f v (initial s x) l = absurd (omega arith)
-late-none f v (push p) l = refl
-late-none f v (fold o) l = refl
-late-none f v (store s) l = refl
-late-none f v (derivative s) l = refl
-late-none f v (store-again s) l = refl
-late-none f v bad l = refl
-
--- nor do many
+-- many set none
 states-none : (f : List Float → ℕ → Float → List Float) (v : List Float) (xs : List Instr) → Every Late xs
     → eachState f v xs ≡ v
 unfolding eachState
 states-none f v [] l = refl
 states-none f v (x ∷ xs) l =
-    ap (λ (u : List Float). eachState f u xs) (late-none (f v) v (shapeOf x) (l .0)) ∙ states-none f v xs (l .1)
+    ap (λ (u : List Float). eachState f u xs) (sym (late-shape (f v) v (shapeOf x) (l .0))) ∙ states-none f v xs (l .1)
 
 -- what is no constant and no initial is late
 other-late : (x : Instr) → standsFirst x ≡ false → Late x
@@ -123,7 +113,7 @@ other-late (StoreAgain s) t = omega arith
 other-late Bad t = omega arith
 
 -- and so is what stands behind it in a sound program
-late-on : (p k : ℕ) (xs : List Instr) → 3 ≤ p → Sound p k xs → Every Late xs
+late-on : (p k : ℕ) (xs : List Instr) → 2 < p → Sound p k xs → Every Late xs
 unfolding Sound
 late-on p k [] h s = tt
 late-on p k (x ∷ xs) h s =

@@ -19,6 +19,8 @@ use Rattle.translator.proofs.Verdicts.{by-number}
 use Rattle.translator.proofs.Zero.{clear}
 use Rattle.evaluator.specs.Judge.{good, anyOpen, answer, judgeFrom, judge}
 use Rattle.evaluator.specs.Machine.{step, run}
+use Rattle.floesedge.specs.declared.CVerdict.{CVerdict}
+use Rattle.floesedge.specs.Contract.{TranslatesFixed}
 use Rattle.meaning.specs.Faithful.{handedOn, Accepted}
 use Rattle.meaning.specs.AnyOrder.{AnyOrder}
 use Rattle.meaning.specs.ReSorted.{cutBehind, cutStatements, reSorted, NoAgain, ReSorts}
@@ -41,6 +43,12 @@ pub any-order-for : (text f p : List ℕ) (k : ℕ) (f′ p′ : List ℕ) → T
     → (q : List ℕ) → GoodOrder (textUnits text) q → AnyOrder text (handedOn k p′) q
 any-order-for text f p k f′ p′ t =
     orders.any-by-answer text f p (inNumbers (Translated k) f′ p′) (by-number text f p t) refl
+
+-- the same at the boundary to other languages
+pub any-order-linked : (text f p : List ℕ) (r : CVerdict) (f′ p′ : List ℕ) → TranslatesFixed text f p r f′ p′
+    → r .number ≡ 0 → (q : List ℕ) → GoodOrder (textUnits text) q → AnyOrder text (handedOn (r .count) p′) q
+any-order-linked text f p r f′ p′ t =
+    orders.any-by-answer text f p (record { number = r .number; count = r .count; faults = f′; program = p′ }) t
 
 -- RE-SORTED. Of all bytes as a program: it is accepted and has no record of kind 15; its statements, each up to and
 -- including its 13 or 14, are put into another order behind its constants and initials. If the judge takes the result,

@@ -286,6 +286,10 @@ pub any-order-for : (text f p : List ℕ) (k : ℕ) (f′ p′ : List ℕ) → T
     → (q : List ℕ) → GoodOrder (textUnits text) q → AnyOrder text (handedOn k p′) q
 any-order-for = any.any-order-for
 
+pub any-order-linked : (text f p : List ℕ) (r : CVerdict) (f′ p′ : List ℕ) → TranslatesFixed text f p r f′ p′
+    → r .number ≡ 0 → (q : List ℕ) → GoodOrder (textUnits text) q → AnyOrder text (handedOn (r .count) p′) q
+any-order-linked = any.any-order-linked
+
 pub re-sorted : (p q : List ℕ) → Accepted p → NoAgain p → Permutation (length (cutStatements p)) q
     → judge (decoded (reSorted q p)) ≡ answer 0 0 → ReSorts p q
 re-sorted = any.re-sorted
