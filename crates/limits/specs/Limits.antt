@@ -5,23 +5,23 @@ use Prim.Native.Nat.{ℕ}
 
 -- verdict 1: the lent fault list is shorter
 abbrev pub faultRoom : ℕ
-faultRoom = 2048
+faultRoom = 4096
 
 -- verdict 2: the text has more bytes
 abbrev pub textBytes : ℕ
-textBytes = 16384
+textBytes = 32768
 
 -- verdict 3: it has more lines
 abbrev pub textLines : ℕ
-textLines = 512
+textLines = 1024
 
 -- verdict 4: it has more statements
 abbrev pub mostStatements : ℕ
-mostStatements = 256
+mostStatements = 512
 
 -- verdict 6: it has more definitions
 abbrev pub mostDefinitions : ℕ
-mostDefinitions = 255
+mostDefinitions = 1023
 
 -- verdict 8, and the evaluator's 2: more records
 abbrev pub mostRecords : ℕ
@@ -66,9 +66,9 @@ recordBytes = 16
 abbrev pub faultBytes : ℕ
 faultBytes = 8
 
--- values and derivatives: a place for each slot, 0 to 255
+-- values and derivatives: a place for each slot, 0 to 1,023
 abbrev pub slots : ℕ
-slots = 256
+slots = 1024
 
 -- the places of the stack
 abbrev pub stackPlaces : ℕ

@@ -1,15 +1,15 @@
 // The paper's limits, each named once. The definitions have the same names in specs/Limits.antt.
 
 // The verdict's limits.
-pub const FAULT_ROOM: usize = 2048;
+pub const FAULT_ROOM: usize = 4096;
 
-pub const TEXT_BYTES: usize = 16384;
+pub const TEXT_BYTES: usize = 32768;
 
-pub const TEXT_LINES: usize = 512;
+pub const TEXT_LINES: usize = 1024;
 
-pub const STATEMENTS: usize = 256;
+pub const STATEMENTS: usize = 512;
 
-pub const DEFINITIONS: usize = 255;
+pub const DEFINITIONS: usize = 1023;
 
 pub const RECORDS: usize = 4096;
 
@@ -33,7 +33,7 @@ pub const RECORD_BYTES: usize = 16;
 
 pub const FAULT_BYTES: usize = 8;
 
-pub const SLOTS: usize = 256;
+pub const SLOTS: usize = 1024;
 
 pub const STACK: usize = 67;
 
