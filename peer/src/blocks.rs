@@ -12,8 +12,8 @@ pub const INSIDE: u8 = 26;
 /// What a header says: where its outputs and its inputs begin and end.
 #[derive(Clone, Copy, Debug)]
 pub struct Header {
-    pub outputs: (u32, u32),
-    pub inputs: (u32, u32),
+    pub outputs: (u16, u16),
+    pub inputs: (u16, u16),
 }
 
 /// A header, or an end, and how much of the model stands above it.

@@ -1,13 +1,7 @@
 //! Lines and statements.
 
 use crate::faults::{Spot, Wrong};
-
-/// The most lines a text may have.
-pub const MAX_LINES: usize = 512;
-/// The most lines one statement may have.
-pub const STATEMENT_LINES: usize = 4;
-/// The most bytes a line of a statement may have, byte 10 aside.
-pub const LINE_BYTES: usize = 72;
+use crate::limits::{LINE_BYTES, MAX_LINES, STATEMENT_LINES};
 
 /// The text ends while the statement continues.
 pub const UNFINISHED: u8 = 11;
@@ -19,17 +13,15 @@ pub const LINE_TOO_LONG: u8 = 13;
 /// The places in a text where its lines end, byte 10 left out.
 pub struct Lines<'a> {
     text: &'a [u8],
-    ends: [u16; MAX_LINES],
-    count: usize,
+    ends: Vec<u16>,
 }
 
 impl<'a> Lines<'a> {
-    /// Finds all lines of a text of at most 65,535 bytes; none if they are over 512.
+    /// Finds all lines of a text that is not too long; none if they are too many.
     pub fn find(text: &'a [u8]) -> Option<Self> {
         let mut lines = Lines {
             text,
-            ends: [0; MAX_LINES],
-            count: 0,
+            ends: Vec::with_capacity(text.len().min(MAX_LINES)),
         };
         let chunks = text.chunks_exact(8);
         let tail = chunks.remainder();
@@ -55,8 +47,10 @@ impl<'a> Lines<'a> {
 
     /// Notes the end of one more line; none if there is no room for it.
     fn add(&mut self, end: usize) -> Option<()> {
-        *self.ends.get_mut(self.count)? = end as u16;
-        self.count += 1;
+        if self.ends.len() == MAX_LINES {
+            return None;
+        }
+        self.ends.push(end as u16);
         Some(())
     }
 
@@ -72,7 +66,7 @@ impl<'a> Lines<'a> {
 
     /// How many lines there are.
     pub fn count(&self) -> usize {
-        self.count
+        self.ends.len()
     }
 
     /// The cards of the statement with this first line.
@@ -122,7 +116,7 @@ impl<'a> Iterator for Cards<'a, '_> {
     /// Passes over comments and takes one line, if the statement goes on.
     #[inline(always)]
     fn next(&mut self) -> Option<Card<'a>> {
-        while self.continues && self.next < self.lines.count {
+        while self.continues && self.next < self.lines.count() {
             let whole = self.lines.line(self.next);
             self.next += 1;
             if !is_comment(whole) {
@@ -174,10 +168,10 @@ impl<'a> Iterator for Statements<'a, '_> {
     /// Passes over comments and blanks and takes one whole run of lines, with the
     /// comments among them and behind closing dots.
     fn next(&mut self) -> Option<Statement<'a>> {
-        while self.next < self.lines.count && is_passed_over(self.lines.line(self.next)) {
+        while self.next < self.lines.count() && is_passed_over(self.lines.line(self.next)) {
             self.next += 1;
         }
-        if self.next == self.lines.count {
+        if self.next == self.lines.count() {
             return None;
         }
         let line = self.next as u32 + 1;

@@ -1,17 +1,10 @@
 //! Evaluating: judging a program, running it, its start and one Euler step.
 
+use crate::limits::{MAX_RECORDS, RECORD, SLOTS, STACK};
 use crate::program::{
-    ADD, COMPAR, CONSTANT, DERIVATIVE, DIVIDE, INITIAL, INSW, LIMIT, MAX_RECORDS, MULTIPLY, NEGATE,
-    PUSH_SLOT, PUSH_VALUE, RECORD, STORE, STORE_AGAIN, SUBTRACT,
+    ADD, COMPAR, CONSTANT, DERIVATIVE, DIVIDE, INITIAL, INSW, LIMIT, MULTIPLY, NEGATE, PUSH_SLOT,
+    PUSH_VALUE, STORE, STORE_AGAIN, SUBTRACT,
 };
-
-/// The places of the working stack.
-pub const STACK: usize = 67;
-/// The slots.
-pub const SLOTS: usize = 256;
-
-/// A place for each slot.
-type Slots = [f64; SLOTS];
 
 /// The answer of the evaluator: its number, and the record that is bad for 3.
 #[derive(Clone, Copy, Debug, PartialEq, Eq)]
@@ -33,7 +26,7 @@ pub enum Reason {
     UnknownKind,
     ByteOne,
     UnusedField,
-    SlotOver255,
+    SlotOver1023,
     ConstantLate,
     InitialLate,
     SlotZeroSet,
@@ -60,7 +53,7 @@ impl Reason {
         Reason::UnknownKind,
         Reason::ByteOne,
         Reason::UnusedField,
-        Reason::SlotOver255,
+        Reason::SlotOver1023,
         Reason::ConstantLate,
         Reason::InitialLate,
         Reason::SlotZeroSet,
@@ -111,10 +104,10 @@ impl Record {
         }
     }
 
-    /// The operand of a record that is judged good.
+    /// The operand of a record that is judged good for N slots.
     #[inline(always)]
-    fn slot(&self) -> usize {
-        self.operand as u8 as usize
+    fn slot<const N: usize>(&self) -> usize {
+        self.operand as usize % N
     }
 
     /// The value of a constant, an initial or a pushed value.
@@ -134,9 +127,9 @@ const DERIVED: u8 = 4;
 const STORED: u8 = 8;
 
 /// What judging knows after some records.
-struct Judge {
+struct Judge<const N: usize> {
     /// The marks of each slot.
-    marks: [u8; SLOTS],
+    marks: [u8; N],
     /// How many values stand on the stack.
     values: usize,
     /// How many states are without derivative.
@@ -145,10 +138,10 @@ struct Judge {
     stage: u8,
 }
 
-impl Judge {
+impl<const N: usize> Judge<N> {
     /// What is known before the first record.
     fn new() -> Self {
-        let mut marks = [0; SLOTS];
+        let mut marks = [0; N];
         marks[0] = SET;
         Judge {
             marks,
@@ -166,12 +159,12 @@ impl Judge {
         }
         match record.kind {
             CONSTANT => {
-                let slot = any_slot(record)?;
+                let slot = any_slot::<N>(record)?;
                 demand(self.stage == 1, Reason::ConstantLate)?;
                 self.set(slot)
             }
             INITIAL => {
-                let slot = any_slot(record)?;
+                let slot = any_slot::<N>(record)?;
                 demand(self.stage <= 2, Reason::InitialLate)?;
                 self.stage = 2;
                 self.set(slot)?;
@@ -184,7 +177,7 @@ impl Judge {
                 self.push()
             }
             PUSH_SLOT => {
-                let slot = slot_only(record)?;
+                let slot = slot_only::<N>(record)?;
                 demand(self.marks[slot] & SET != 0, Reason::ReadBeforeSet)?;
                 self.push()
             }
@@ -201,7 +194,7 @@ impl Judge {
                 Ok(())
             }
             STORE => {
-                let slot = slot_only(record)?;
+                let slot = slot_only::<N>(record)?;
                 self.stage = 3;
                 self.set(slot)?;
                 self.marks[slot] |= STORED;
@@ -210,7 +203,7 @@ impl Judge {
                 Ok(())
             }
             DERIVATIVE => {
-                let slot = slot_only(record)?;
+                let slot = slot_only::<N>(record)?;
                 self.stage = 3;
                 demand(self.values == 1, Reason::DerivativeCount)?;
                 self.values = 0;
@@ -222,7 +215,7 @@ impl Judge {
                 Ok(())
             }
             STORE_AGAIN => {
-                let slot = slot_only(record)?;
+                let slot = slot_only::<N>(record)?;
                 self.stage = 3;
                 demand(self.values == 1, Reason::AgainCount)?;
                 self.values = 0;
@@ -285,23 +278,42 @@ fn demand(holds: bool, reason: Reason) -> Result<(), Reason> {
     }
 }
 
-/// The operand as a slot.
+/// The operand as one of N slots.
 #[inline(always)]
-fn any_slot(record: &Record) -> Result<usize, Reason> {
-    demand(record.operand <= 255, Reason::SlotOver255)?;
-    Ok(record.slot())
+fn any_slot<const N: usize>(record: &Record) -> Result<usize, Reason> {
+    demand((record.operand as usize) < N, Reason::SlotOver1023)?;
+    Ok(record.slot::<N>())
 }
 
 /// The operand as a slot of a record without value.
 #[inline(always)]
-fn slot_only(record: &Record) -> Result<usize, Reason> {
+fn slot_only<const N: usize>(record: &Record) -> Result<usize, Reason> {
     demand(record.bits == 0, Reason::UnusedField)?;
-    any_slot(record)
+    any_slot::<N>(record)
 }
+
+/// So many slots do for most programs of fewer records, and are cleared sooner.
+const FEW: usize = 256;
 
 /// Judges all records of a program whose length is right.
 pub fn judge_reason(program: &[u8]) -> Result<(), Refusal> {
-    let mut judge = Judge::new();
+    judge_within::<SLOTS>(program)
+}
+
+/// The same where there are N slots.
+fn judge_within<const N: usize>(program: &[u8]) -> Result<(), Refusal> {
+    if FEW < N && program.len() < FEW * RECORD {
+        match judge_all::<FEW>(program) {
+            Err(refusal) if refusal.reason == Reason::SlotOver1023 => {}
+            judged => return judged,
+        }
+    }
+    judge_all::<N>(program)
+}
+
+/// Judges record after record, each slot being one of N.
+fn judge_all<const N: usize>(program: &[u8]) -> Result<(), Refusal> {
+    let mut judge = Judge::<N>::new();
     for (index, bytes) in program.chunks_exact(RECORD).enumerate() {
         if let Err(reason) = judge.record(&Record::of(bytes)) {
             return Err(Refusal {
@@ -317,18 +329,18 @@ pub fn judge_reason(program: &[u8]) -> Result<(), Refusal> {
 }
 
 /// Looks at all that is lent, and gives the places of the slots or the refusal.
-fn accept<'a>(
+fn accept<'a, const N: usize>(
     program: &[u8],
     values: &'a mut [f64],
     derivs: &'a mut [f64],
-) -> Result<(&'a mut Slots, &'a mut Slots), Answer> {
+) -> Result<(&'a mut [f64; N], &'a mut [f64; N]), Answer> {
     let (Some(values), Some(derivs)) = (values.first_chunk_mut(), derivs.first_chunk_mut()) else {
         return Err(Answer::bare(1));
     };
     if !program.len().is_multiple_of(RECORD) || program.len() / RECORD > MAX_RECORDS {
         return Err(Answer::bare(2));
     }
-    match judge_reason(program) {
+    match judge_within::<N>(program) {
         Ok(()) => Ok((values, derivs)),
         Err(Refusal {
             record: Some(record),
@@ -340,14 +352,14 @@ fn accept<'a>(
 
 /// Runs a program that is judged good. The last value pushed is kept aside, so
 /// that the stack holds those below it.
-fn run(program: &[u8], values: &mut Slots, derivs: &mut Slots) {
+fn run<const N: usize>(program: &[u8], values: &mut [f64; N], derivs: &mut [f64; N]) {
     let mut stack = [0.0; STACK];
     let mut count = 0;
     let mut top = 0.0;
     for bytes in program.chunks_exact(RECORD) {
         let record = Record::of(bytes);
         match record.kind {
-            CONSTANT => values[record.slot()] = record.value(),
+            CONSTANT => values[record.slot::<N>()] = record.value(),
             PUSH_VALUE => {
                 stack[count] = top;
                 count += 1;
@@ -356,7 +368,7 @@ fn run(program: &[u8], values: &mut Slots, derivs: &mut Slots) {
             PUSH_SLOT => {
                 stack[count] = top;
                 count += 1;
-                top = values[record.slot()];
+                top = values[record.slot::<N>()];
             }
             ADD => {
                 count -= 1;
@@ -389,11 +401,11 @@ fn run(program: &[u8], values: &mut Slots, derivs: &mut Slots) {
             }
             STORE | STORE_AGAIN => {
                 count = 0;
-                values[record.slot()] = top;
+                values[record.slot::<N>()] = top;
             }
             DERIVATIVE => {
                 count = 0;
-                derivs[record.slot()] = top;
+                derivs[record.slot::<N>()] = top;
             }
             _ => {}
         }
@@ -430,19 +442,38 @@ fn compar(a: f64, b: f64) -> f64 {
 }
 
 /// The slot and initial value of each state of a program that is judged good.
-fn initials(program: &[u8]) -> impl Iterator<Item = (usize, f64)> + '_ {
+fn initials<const N: usize>(program: &[u8]) -> impl Iterator<Item = (usize, f64)> + '_ {
     let records = program.chunks_exact(RECORD);
     let behind = records.skip_while(|bytes| bytes[0] == CONSTANT);
     let initials = behind.take_while(|bytes| bytes[0] == INITIAL);
     initials.map(|bytes| {
         let record = Record::of(bytes);
-        (record.slot(), record.value())
+        (record.slot::<N>(), record.value())
     })
 }
 
 /// Evaluates a program at the lent time and states.
 pub fn evaluate(program: &[u8], values: &mut [f64], derivs: &mut [f64]) -> Answer {
-    match accept(program, values, derivs) {
+    evaluate_within::<SLOTS>(program, values, derivs)
+}
+
+/// Sets the time to 0 and the states to their initial values.
+pub fn start(program: &[u8], values: &mut [f64], derivs: &mut [f64]) -> Answer {
+    start_within::<SLOTS>(program, values, derivs)
+}
+
+/// Evaluates, then goes on by one Euler step of h.
+pub fn step(program: &[u8], h: f64, values: &mut [f64], derivs: &mut [f64]) -> Answer {
+    step_within::<SLOTS>(program, h, values, derivs)
+}
+
+/// Evaluates where there are N slots.
+pub fn evaluate_within<const N: usize>(
+    program: &[u8],
+    values: &mut [f64],
+    derivs: &mut [f64],
+) -> Answer {
+    match accept::<N>(program, values, derivs) {
         Ok((values, derivs)) => {
             run(program, values, derivs);
             Answer::bare(0)
@@ -451,12 +482,16 @@ pub fn evaluate(program: &[u8], values: &mut [f64], derivs: &mut [f64]) -> Answe
     }
 }
 
-/// Sets the time to 0 and the states to their initial values.
-pub fn start(program: &[u8], values: &mut [f64], derivs: &mut [f64]) -> Answer {
-    match accept(program, values, derivs) {
+/// Starts where there are N slots.
+pub fn start_within<const N: usize>(
+    program: &[u8],
+    values: &mut [f64],
+    derivs: &mut [f64],
+) -> Answer {
+    match accept::<N>(program, values, derivs) {
         Ok((values, _)) => {
             values[0] = 0.0;
-            for (slot, value) in initials(program) {
+            for (slot, value) in initials::<N>(program) {
                 values[slot] = value;
             }
             Answer::bare(0)
@@ -465,12 +500,17 @@ pub fn start(program: &[u8], values: &mut [f64], derivs: &mut [f64]) -> Answer {
     }
 }
 
-/// Evaluates, then goes on by one Euler step of h.
-pub fn step(program: &[u8], h: f64, values: &mut [f64], derivs: &mut [f64]) -> Answer {
-    match accept(program, values, derivs) {
+/// Takes a step where there are N slots.
+pub fn step_within<const N: usize>(
+    program: &[u8],
+    h: f64,
+    values: &mut [f64],
+    derivs: &mut [f64],
+) -> Answer {
+    match accept::<N>(program, values, derivs) {
         Ok((values, derivs)) => {
             run(program, values, derivs);
-            for (slot, _) in initials(program) {
+            for (slot, _) in initials::<N>(program) {
                 let product = h * derivs[slot];
                 values[slot] += product;
             }

@@ -4,10 +4,8 @@
 //! The place is then sought in the lines of that statement alone.
 
 use crate::deck::{Card, Lines};
+use crate::limits::FAULT;
 use crate::tokens::begins;
-
-/// The bytes of a fault in the list.
-pub const FAULT: usize = 8;
 
 /// A fault of the statement with this first line.
 #[derive(Clone, Copy, Debug, PartialEq)]
@@ -119,8 +117,8 @@ mod tests {
     fn bytes_of_a_fault() {
         let mut fault = Fault::at_first(300, 24);
         assert_eq!(fault.bytes(), [44, 1, 24, 0, 44, 1, 1, 0]);
-        fault.place = behind(0x0203, 0x3fff);
-        assert_eq!(fault.bytes(), [44, 1, 24, 0, 3, 2, 0, 0x40]);
+        fault.place = behind(0x0203, 0x7fff);
+        assert_eq!(fault.bytes(), [44, 1, 24, 0, 3, 2, 0, 0x80]);
     }
 
     /// Line and column of a spot of the first statement of a text.

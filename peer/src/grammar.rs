@@ -3,6 +3,7 @@
 
 use crate::blocks::{Header, Mark};
 use crate::faults::{Spot, Wrong};
+use crate::limits::LEVELS;
 use crate::model::{Definition, Equation, Model, Sort};
 use crate::program::{
     Item, ADD, COMPAR, DERIVATIVE, DIVIDE, INSW, LIMIT, MULTIPLY, NEGATE, STORE, SUBTRACT,
@@ -13,9 +14,6 @@ use crate::tokens::{pack, Name, Token};
 pub const GRAMMAR: u8 = 18;
 /// The seventeenth level is opened.
 pub const TOO_DEEP: u8 = 19;
-
-/// How deep parentheses and function calls may stand.
-const LEVELS: u32 = 16;
 
 /// The reserved words.
 mod word {
@@ -236,7 +234,7 @@ impl Reader<'_> {
             Token::Name(word::LIMIT) => self.call(LIMIT, 3, level)?,
             Token::Name(word::COMPAR) => self.call(COMPAR, 2, level)?,
             Token::Name(name) if !is_reserved(name) => {
-                self.model.uses.push(self.model.items.len() as u32);
+                self.model.uses.push(self.model.items.len() as u16);
                 self.emit(Item::name(name));
             }
             Token::Mark(b'(') => {
@@ -286,15 +284,15 @@ impl Reader<'_> {
     }
 
     /// Reads names with commas up to a mark, and gives where they begin and end.
-    fn names(&mut self, mark: u8) -> Result<(u32, u32), u8> {
-        let from = self.model.header_names.len() as u32;
+    fn names(&mut self, mark: u8) -> Result<(u16, u16), u8> {
+        let from = self.model.header_names.len() as u16;
         loop {
             let name = self.name()?;
             self.model.header_names.push(name);
             match self.next() {
                 Token::Mark(b',') => {}
                 token if token == Token::Mark(mark) => {
-                    return Ok((from, self.model.header_names.len() as u32));
+                    return Ok((from, self.model.header_names.len() as u16));
                 }
                 _ => return Err(GRAMMAR),
             }
@@ -323,8 +321,8 @@ impl Reader<'_> {
     }
 
     /// How many items and uses the model has.
-    fn lengths(&self) -> (u32, u32) {
-        (self.model.items.len() as u32, self.model.uses.len() as u32)
+    fn lengths(&self) -> (u16, u16) {
+        (self.model.items.len() as u16, self.model.uses.len() as u16)
     }
 
     /// Adds an item to the postfix of the statement.

@@ -3,7 +3,8 @@
 //! dependency. It exists to disagree with the proved library; `check` compares
 //! the two and `bench` measures them side by side.
 //!
-//! One module stands for each section of the papers; `names` serves the model.
+//! One module stands for each section of the papers; `names` serves the model,
+//! and `limits` all of them.
 
 #![forbid(unsafe_code)]
 
@@ -12,6 +13,7 @@ pub mod deck;
 pub mod evaluate;
 pub mod faults;
 pub mod grammar;
+pub mod limits;
 pub mod listing;
 pub mod model;
 pub mod names;

@@ -2,16 +2,13 @@
 
 use std::io::Write;
 
-use crate::faults::FAULT;
-use crate::translate::{translate_ordered, FAULT_LIST};
-
-/// The bytes lent for the program.
-const PROGRAM: usize = 65_536;
+use crate::limits::{FAULT, FAULT_LIST, MAX_PROGRAM};
+use crate::translate::translate_ordered;
 
 /// What the listing program prints for a text.
 pub fn listing(text: &[u8]) -> Vec<u8> {
     let mut faults = vec![0; FAULT_LIST];
-    let mut program = vec![0; PROGRAM];
+    let mut program = vec![0; MAX_PROGRAM];
     let (verdict, order) = translate_ordered(text, &mut faults, &mut program);
     let count = verdict.count as usize;
     let mut out = Vec::new();

@@ -3,6 +3,7 @@
 
 use crate::blocks::{Block, Mark};
 use crate::faults::Fault;
+use crate::limits::{MAX_DEFINITIONS, MAX_RECORDS};
 use crate::names::{slot, Names};
 use crate::program::{Item, STORE_AGAIN};
 use crate::tokens::Name;
@@ -15,9 +16,6 @@ pub const UNDEFINED: u8 = 22;
 pub const INITIAL: u8 = 23;
 /// Unsortable.
 pub const UNSORTABLE: u8 = 24;
-
-/// The most definitions that a model may have.
-pub const MAX_DEFINITIONS: usize = 255;
 
 /// What a definition makes of its name.
 #[derive(Clone, Copy, Debug, PartialEq)]
@@ -46,9 +44,9 @@ pub struct Definition {
 pub struct Equation {
     pub line: u32,
     /// Where its postfix items begin and end.
-    pub items: (u32, u32),
+    pub items: (u16, u16),
     /// Where its uses of names begin and end.
-    pub uses: (u32, u32),
+    pub uses: (u16, u16),
     /// The index of its definition.
     pub definition: u16,
     /// The name of the initial value, if it is given by name.
@@ -63,7 +61,7 @@ pub struct Unit {
     /// Where its equations begin and end.
     pub equations: (u16, u16),
     /// Where its inputs begin and end, if it is a block.
-    pub inputs: Option<(u32, u32)>,
+    pub inputs: Option<(u16, u16)>,
 }
 
 /// All that the statements say, in text order.
@@ -73,7 +71,7 @@ pub struct Model {
     pub equations: Vec<Equation>,
     pub items: Vec<Item>,
     /// The indexes of those items that push what a name stands for.
-    pub uses: Vec<u32>,
+    pub uses: Vec<u16>,
     /// The headers and ends of blocks.
     pub marks: Vec<Mark>,
     /// The outputs and inputs of all headers.
@@ -87,11 +85,12 @@ pub struct Model {
 impl Model {
     /// An empty model with room for what a text of this size usually says.
     pub fn with_room(lines: usize, bytes: usize) -> Self {
+        let items = (bytes / 2).min(MAX_RECORDS);
         Model {
             definitions: Vec::with_capacity(lines.min(MAX_DEFINITIONS)),
             equations: Vec::with_capacity(lines.min(MAX_DEFINITIONS)),
-            items: Vec::with_capacity(bytes.min(4096)),
-            uses: Vec::with_capacity(bytes.min(4096)),
+            items: Vec::with_capacity(items),
+            uses: Vec::with_capacity(items / 2),
             ..Model::default()
         }
     }
@@ -108,7 +107,7 @@ impl Model {
     }
 
     /// The indexes of some names of headers.
-    pub fn header_known(&self, range: (u32, u32)) -> &[u16] {
+    pub fn header_known(&self, range: (u16, u16)) -> &[u16] {
         &self.header_known[range.0 as usize..range.1 as usize]
     }
 
@@ -227,7 +226,7 @@ impl Model {
     }
 
     /// Resolves the equations inside a block, and gives the fault of its inputs.
-    fn resolve_block(&mut self, unit: &Unit, inputs: (u32, u32), names: &Names) -> Option<u8> {
+    fn resolve_block(&mut self, unit: &Unit, inputs: (u16, u16), names: &Names) -> Option<u8> {
         for equation in &self.equations[unit.equations.0 as usize..unit.equations.1 as usize] {
             for &index in &self.uses[equation.uses.0 as usize..equation.uses.1 as usize] {
                 let item = &mut self.items[index as usize];

@@ -1,11 +1,15 @@
 //! The order of units: assignments and state statements outside, and blocks.
 
 use crate::faults::Fault;
+use crate::limits::MAX_STATEMENTS;
 use crate::model::{Model, Sort, Unit, UNSORTABLE};
 use crate::names::slot;
 
-/// A set of up to 256 units, by their indexes: 64 to a word, the least lowest.
-pub type Set = [u64; 4];
+/// The words of a set.
+const WORDS: usize = MAX_STATEMENTS.div_ceil(64);
+
+/// A set of units, by their indexes: 64 to a word, the least lowest.
+pub type Set = [u64; WORDS];
 
 /// Takes the least member out of a set.
 fn take_least(set: &mut Set) -> Option<usize> {
@@ -19,26 +23,37 @@ fn take_least(set: &mut Set) -> Option<usize> {
     None
 }
 
-/// Adds a member to a set; false if it was there already.
-fn add(set: &mut Set, member: usize) -> bool {
-    let word = &mut set[member / 64 % 4];
-    let bit = 1 << (member % 64);
-    let fresh = *word & bit == 0;
-    *word |= bit;
-    fresh
+/// Adds a member to a set.
+fn add(set: &mut Set, member: usize) {
+    set[member / 64 % WORDS] |= 1 << (member % 64);
 }
 
+/// No unit, or no edge.
+const NONE: u16 = u16::MAX;
+
 /// A unit while it is not yet in its place.
-#[derive(Clone)]
+#[derive(Clone, Copy)]
 struct Node {
-    /// The units that use it.
-    users: Set,
-    /// How many units that it uses are not yet in their places.
+    /// The last edge to a unit that uses it.
+    users: u16,
+    /// How many uses of units that are not yet in their places it has.
     waiting: u16,
 }
 
+/// A use: the unit that uses, and the edge to one more that uses the same.
+struct Edge {
+    user: u16,
+    next: u16,
+}
+
+/// All units and their uses.
+struct Graph {
+    nodes: Vec<Node>,
+    edges: Vec<Edge>,
+}
+
 /// Gives the units in the order that the paper asks for, or the faults 24.
-/// Names are resolved, and there are at most 255 units.
+/// Names are resolved, and there are at most as many units as statements.
 ///
 /// The least unit all of whose used ones stand already comes next; what is
 /// never ready reaches a loop, and so is just what is unsortable.
@@ -54,17 +69,24 @@ pub fn order_by(
     units: &[Unit],
     mut take: impl FnMut(&mut Set) -> Option<usize>,
 ) -> Result<Vec<Unit>, Vec<Fault>> {
-    let (mut nodes, mut ready) = nodes(model, units);
+    let Graph { mut nodes, edges } = Graph::new(model, units);
+    let mut ready: Set = [0; WORDS];
+    for (index, node) in nodes.iter().enumerate() {
+        if node.waiting == 0 {
+            add(&mut ready, index);
+        }
+    }
     let mut order = Vec::with_capacity(units.len());
     while let Some(next) = take(&mut ready) {
         order.push(units[next]);
-        let mut users = nodes[next].users;
-        while let Some(user) = take_least(&mut users) {
-            let waiting = &mut nodes[user].waiting;
+        let mut at = nodes[next].users;
+        while let Some(edge) = edges.get(at as usize) {
+            let waiting = &mut nodes[edge.user as usize].waiting;
             *waiting -= 1;
             if *waiting == 0 {
-                add(&mut ready, user);
+                add(&mut ready, edge.user as usize);
             }
+            at = edge.next;
         }
     }
     if order.len() == units.len() {
@@ -76,62 +98,74 @@ pub fn order_by(
 
 /// All pairs of a unit and one that it uses, by their indexes.
 pub fn uses(model: &Model, units: &[Unit]) -> Vec<(usize, usize)> {
-    let mut pairs = Vec::new();
-    for (used, mut node) in nodes(model, units).0.into_iter().enumerate() {
-        while let Some(user) = take_least(&mut node.users) {
-            pairs.push((user, used));
+    let Graph { nodes, edges } = Graph::new(model, units);
+    let mut pairs = Vec::with_capacity(edges.len());
+    for (used, node) in nodes.iter().enumerate() {
+        let mut at = node.users;
+        while let Some(edge) = edges.get(at as usize) {
+            pairs.push((edge.user as usize, used));
+            at = edge.next;
         }
     }
+    pairs.sort_unstable_by_key(|&(user, used)| (used, user));
+    pairs.dedup();
     pairs
 }
 
-/// The units before any is in its place, and those that wait for none.
-#[inline(always)]
-fn nodes(model: &Model, units: &[Unit]) -> (Vec<Node>, Set) {
-    let givers = givers(model, units);
-    let empty = Node {
-        users: [0; 4],
-        waiting: 0,
-    };
-    let mut nodes = vec![empty; units.len()];
-    let mut ready: Set = [0; 4];
-    for (user, unit) in units.iter().enumerate() {
-        let mut waiting = 0;
-        let mut wait_for = |slot: u16| {
-            if let Some(used) = nodes.get_mut(givers[slot as usize % 256] as usize) {
-                waiting += add(&mut used.users, user) as u16;
-            }
+impl Graph {
+    /// The units before any is in its place.
+    #[inline(always)]
+    fn new(model: &Model, units: &[Unit]) -> Self {
+        let givers = givers(model, units);
+        let empty = Node {
+            users: NONE,
+            waiting: 0,
         };
-        match unit.inputs {
-            Some(inputs) => {
-                for &input in model.header_known(inputs) {
-                    wait_for(slot(input));
+        let mut graph = Graph {
+            nodes: vec![empty; units.len()],
+            edges: Vec::with_capacity(model.uses.len() + model.header_known.len()),
+        };
+        for (user, unit) in units.iter().enumerate() {
+            match unit.inputs {
+                Some(inputs) => {
+                    for &input in model.header_known(inputs) {
+                        graph.enter(user, givers[slot(input) as usize]);
+                    }
+                }
+                None => {
+                    let equation = &model.equations[unit.equations.0 as usize];
+                    for slot in model.slots_of(equation) {
+                        graph.enter(user, givers[slot as usize]);
+                    }
                 }
             }
-            None => {
-                let equation = &model.equations[unit.equations.0 as usize];
-                model.slots_of(equation).for_each(wait_for);
-            }
         }
-        nodes[user].waiting = waiting;
-        if waiting == 0 {
-            add(&mut ready, user);
+        graph
+    }
+
+    /// Enters a use, unless it is of no unit.
+    #[inline(always)]
+    fn enter(&mut self, user: usize, used: u16) {
+        if let Some(node) = self.nodes.get_mut(used as usize) {
+            let edge = Edge {
+                user: user as u16,
+                next: node.users,
+            };
+            node.users = self.edges.len() as u16;
+            self.edges.push(edge);
+            self.nodes[user].waiting += 1;
         }
     }
-    (nodes, ready)
 }
 
-/// No unit: what is known without order.
-const NONE: u16 = u16::MAX;
-
 /// For each slot the unit that assigns it.
-fn givers(model: &Model, units: &[Unit]) -> [u16; 256] {
-    let mut givers = [NONE; 256];
+fn givers(model: &Model, units: &[Unit]) -> Vec<u16> {
+    let mut givers = vec![NONE; model.definitions.len() + 1];
     for (index, unit) in units.iter().enumerate() {
         for equation in model.equations_of(unit) {
             let definition = &model.definitions[equation.definition as usize];
             if definition.sort == Sort::Assigned {
-                givers[slot(definition.known) as usize % 256] = index as u16;
+                givers[slot(definition.known) as usize] = index as u16;
             }
         }
     }

@@ -1,13 +1,9 @@
 //! The program: records of 16 bytes.
 
+use crate::limits::RECORD;
 use crate::model::{Model, Sort, Unit};
 use crate::names::slot;
 use crate::tokens::Name;
-
-/// The bytes of a record.
-pub const RECORD: usize = 16;
-/// The most records of a program.
-pub const MAX_RECORDS: usize = 4096;
 
 pub const CONSTANT: u8 = 1;
 pub const INITIAL: u8 = 2;

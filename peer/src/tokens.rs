@@ -1,5 +1,7 @@
 //! Tokens.
 
+use crate::limits::NAME_BYTES;
+
 /// A byte that no token may hold.
 pub const BAD_BYTE: u8 = 14;
 /// A name of more than six characters.
@@ -9,8 +11,6 @@ pub const BAD_NUMBER: u8 = 16;
 /// A number whose digits or exponent are out of range.
 pub const OUT_OF_RANGE: u8 = 17;
 
-/// The most characters a name may have.
-const NAME_BYTES: usize = 6;
 /// The greatest whole number that the digits of a number may make.
 const MAX_DIGITS: u64 = 999_999_999_999_999;
 /// The exact powers of ten.

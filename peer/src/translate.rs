@@ -2,19 +2,15 @@
 
 use crate::blocks;
 use crate::deck::{Lines, Statement};
-use crate::faults::{Fault, Spot, Wrong, FAULT};
+use crate::faults::{Fault, Spot, Wrong};
 use crate::grammar;
-use crate::model::{Model, Unit, MAX_DEFINITIONS};
+use crate::limits::{
+    FAULT, FAULT_LIST, MAX_DEFINITIONS, MAX_RECORDS, MAX_STATEMENTS, MAX_TEXT, RECORD,
+};
+use crate::model::{Model, Unit};
 use crate::order::order;
-use crate::program::{self, MAX_RECORDS, RECORD};
+use crate::program;
 use crate::tokens::{cut, Bad, Token};
-
-/// The least length of a lent fault list.
-pub const FAULT_LIST: usize = 2048;
-/// The most bytes of a text.
-pub const MAX_TEXT: usize = 16_384;
-/// The most statements of a text.
-pub const MAX_STATEMENTS: usize = 256;
 
 /// The answer of the translator: its number, and the count of records or faults.
 #[derive(Clone, Copy, Debug, PartialEq, Eq)]
@@ -115,7 +111,7 @@ fn judge(text: &[u8], fault_room: usize) -> Judged {
     }
 }
 
-/// Reads all statements and gives their faults; none if they are over 256.
+/// Reads all statements and gives their faults; none if they are too many.
 fn read_statements(lines: &Lines, model: &mut Model) -> Option<Vec<Fault>> {
     let mut faults = Vec::new();
     let mut tokens = Vec::with_capacity(64);
@@ -162,7 +158,7 @@ fn sorted(model: &mut Model) -> Result<Vec<Unit>, Vec<Fault>> {
     order(model, &units)
 }
 
-/// Writes the fault list; there are at most 256 faults.
+/// Writes the fault list; there is at most one fault for each statement.
 fn write_faults(number: u32, found: &[Fault], faults: &mut [u8]) -> Verdict {
     for (place, fault) in faults.chunks_exact_mut(FAULT).zip(found) {
         place.copy_from_slice(&fault.bytes());

@@ -69,7 +69,7 @@ fn two_outputs_one_set_twice() {
     assert_eq!(program, expected);
     assert_eq!(listed(&VALVE), "OK 27\n8\n9\n2\n10\n");
     // At time 5: C = 5, T = 3, A = 9, B = 4.5, then A = -9 + 4.5, X' = -9.
-    let (mut values, mut derivs) = (vec![-7.0; 256], vec![-8.0; 256]);
+    let (mut values, mut derivs) = (vec![-7.0; SLOTS], vec![-8.0; SLOTS]);
     values[0] = 5.0;
     assert_eq!(evaluate(&program, &mut values, &mut derivs).number, 0);
     assert_eq!(
@@ -468,38 +468,46 @@ fn small_blocks(count: usize) -> String {
 
 #[test]
 fn headers_and_ends_are_statements() {
-    // 1 + 85 * 3 statements; each block has two records.
-    assert_eq!(good(&small_blocks(85)).len(), (1 + 85 * 2) * 16);
-    let more = |line: &str| format!("{}{line}\n", small_blocks(85));
+    // 1 + 170 * 3 statements, and one more; each block has two records.
+    let full = format!("{}D=1\n", small_blocks(170));
+    assert_eq!(good(&full).len(), (1 + 170 * 2 + 2) * 16);
+    let more = |line: &str| format!("{full}{line}\n");
     assert_eq!(bare(more("ENDPRO").as_bytes()), 4);
     assert_eq!(bare(more("PROCED B=F(C)").as_bytes()), 4);
-    let ends = "ENDPRO\n".repeat(256);
-    let all: Vec<_> = (1..=256).map(|line| (line, 25)).collect();
+    let ends = "ENDPRO\n".repeat(512);
+    let all: Vec<_> = (1..=512).map(|line| (line, 25)).collect();
     assert_eq!(refused(&ends, 7), all);
-    assert_eq!(bare("ENDPRO\n".repeat(257).as_bytes()), 4);
+    assert_eq!(bare("ENDPRO\n".repeat(513).as_bytes()), 4);
 }
 
 #[test]
 fn every_setting_counts() {
-    // Two constants and 253 settings of A are 255, with three slots.
-    let block = format!("{H}\nA=C\n{}{E}\n", "A=A+C\n".repeat(252));
-    let program = good(&format!("CONST C=1,K=2\n{block}"));
-    assert_eq!(program.len(), (2 + 2 + 252 * 4) * 16);
-    assert_eq!(program[3 * 16..4 * 16], record(13, 3, 3, 0.0));
-    assert_eq!(program[1011 * 16..], record(15, 3, 255, 0.0));
-    assert_eq!(bare(format!("CONST C=1,K=2,L=3\n{block}").as_bytes()), 6);
+    // In lines 1 to 89 are 623 constants, seven to a line; with 400 settings of A
+    // they are 1,023, but need 624 slots.
+    let lists = (0..89).map(|i| {
+        let list: Vec<_> = (0..7).map(|k| format!("K{}=2", i * 7 + k)).collect();
+        format!("CONST {}\n", list.join(","))
+    });
+    let constants = lists.collect::<String>().replace("K0=2", "C=1");
+    let block = format!("{H}\nA=C\n{}{E}\n", "A=A+C\n".repeat(399));
+    let program = good(&format!("{constants}{block}"));
+    assert_eq!(program.len(), (623 + 2 + 399 * 4) * 16);
+    assert_eq!(program[624 * 16..625 * 16], record(13, 624, 91, 0.0));
+    assert_eq!(program[2220 * 16..], record(15, 624, 490, 0.0));
+    let more = format!("{constants}CONST L=3\n");
+    assert_eq!(bare(format!("{more}{block}").as_bytes()), 6);
     // That comes before the pairing.
     let unpaired = block.replace(E, H);
-    assert_eq!(bare(format!("CONST C=1,K=2,L=3\n{unpaired}").as_bytes()), 6);
-    let found = refused(&format!("CONST C=1,K=2\n{unpaired}"), 7);
-    assert_eq!(found, [(2, 25), (256, 25)]);
+    assert_eq!(bare(format!("{more}{unpaired}").as_bytes()), 6);
+    let found = refused(&format!("{constants}{unpaired}"), 7);
+    assert_eq!(found, [(90, 25), (491, 25)]);
 }
 
 #[test]
 fn room() {
     let text = deck(&VALVE);
-    let (mut list, mut program) = (vec![7; 2048], vec![9; 27 * 16 - 1]);
+    let (mut list, mut program) = (vec![7; 4096], vec![9; 27 * 16 - 1]);
     let verdict = floesedge_peer::translate(text.as_bytes(), &mut list, &mut program);
     assert_eq!((verdict.number, verdict.count), (8, 0));
-    assert_eq!((list, program), (vec![7; 2048], vec![9; 27 * 16 - 1]));
+    assert_eq!((list, program), (vec![7; 4096], vec![9; 27 * 16 - 1]));
 }

@@ -61,7 +61,7 @@ fn comments_do_not_count_among_the_four() {
         (13, 1, 1, 0.0),
     ]);
     assert_eq!(good("A=1...\n*\n+2...\n*\n*...\n+3...\n*\n+4"), sum);
-    let many = "*\n".repeat(500);
+    let many = "*\n".repeat(1000);
     assert_eq!(good(&format!("A=1...\n{many}+2...\n+3...\n*\n+4\n")), sum);
     assert_eq!(
         refused("A=1...\n*\n+2...\n*\n+3...\n*\n+4...\n*\n+5\nB=1", 5),
@@ -79,7 +79,7 @@ fn comments_are_of_any_length() {
         (5, 0, 1, 0.0),
         (13, 1, 1, 0.0),
     ]);
-    for bytes in [1, 72, 73, 100, 16_000] {
+    for bytes in [1, 72, 73, 100, 32_000] {
         let text = format!("A=1...\n{}\n+2", comment(bytes));
         assert_eq!(good(&text), sum);
         let dots = format!("A=1...\n{}...\n+2", comment(bytes));
@@ -137,8 +137,8 @@ fn a_blank_inside_ends_the_statement() {
 #[test]
 fn comments_are_lines_of_the_text() {
     let inside = |count: usize| format!("A=1...\n{}+2\n", "*\n".repeat(count));
-    good(&inside(510));
-    assert_eq!(bare(inside(511).as_bytes()), 3);
+    good(&inside(1022));
+    assert_eq!(bare(inside(1023).as_bytes()), 3);
     // Faults behind a statement with comments stand at their own lines.
     assert_eq!(refused("A=1...\n*\n*\n+2\nB=\n", 5), [(5, 18)]);
     assert_eq!(refused("A=1...\n*\n*\n+2\nA=3\n", 7), [(5, 21)]);

@@ -2,11 +2,12 @@
 
 mod common;
 use common::*;
+use floesedge_peer::evaluate::{evaluate_within, start_within, step_within};
 use floesedge_peer::{evaluate, judge_reason, start, step, Answer, Reason};
 
 /// Slots all filled with a mark.
 fn slots(mark: f64) -> Vec<f64> {
-    vec![mark; 256]
+    vec![mark; SLOTS]
 }
 
 const OK: Answer = Answer {
@@ -84,7 +85,7 @@ fn operations() {
 #[test]
 fn lent_places() {
     let program = good(TANK);
-    for (values, derivs) in [(255, 256), (256, 255), (0, 0)] {
+    for (values, derivs) in [(1023, 1024), (1024, 1023), (256, 256), (0, 0)] {
         let (mut values, mut derivs) = (vec![1.0; values], vec![1.0; derivs]);
         let answer = Answer {
             number: 1,
@@ -95,9 +96,12 @@ fn lent_places() {
         assert_eq!(step(&program, 1.0, &mut values, &mut derivs), answer);
         assert!(values.iter().chain(&derivs).all(|&x| x == 1.0));
     }
-    let (mut values, mut derivs) = (vec![1.0; 300], vec![1.0; 301]);
+    let (mut values, mut derivs) = (vec![1.0; 1025], vec![1.0; 1300]);
     assert_eq!(evaluate(&program, &mut values, &mut derivs), OK);
-    assert!(values[256..].iter().all(|&x| x == 1.0));
+    assert!(values[1024..]
+        .iter()
+        .chain(&derivs[1024..])
+        .all(|&x| x == 1.0));
 }
 
 #[test]
@@ -168,14 +172,21 @@ fn each_bad_record() {
         bad(&[(2, 1, 0, 0.0), p, (14, 1, 0, -0.0)]),
         (Some(2), UnusedField)
     );
-    for kind in [1, 2, 4] {
-        assert_eq!(bad(&[(kind, 256, 0, 0.0)]), (Some(0), SlotOver255));
+    for slot in [1024, 1025, 2048, 0x8001, 0xffff] {
+        for kind in [1, 2, 4] {
+            assert_eq!(bad(&[(kind, slot, 0, 0.0)]), (Some(0), SlotOver1023));
+        }
+        assert_eq!(bad(&[p, (13, slot, 0, 0.0)]), (Some(1), SlotOver1023));
+        assert_eq!(
+            bad(&[(2, 1, 0, 0.0), p, (14, slot, 0, 0.0)]),
+            (Some(2), SlotOver1023)
+        );
     }
-    assert_eq!(bad(&[p, (13, 257, 0, 0.0)]), (Some(1), SlotOver255));
-    assert_eq!(
-        bad(&[(2, 1, 0, 0.0), p, (14, 257, 0, 0.0)]),
-        (Some(2), SlotOver255)
-    );
+    // Slots up to 1,023 are not over, and are told from those below them.
+    for slot in [257, 513, 1023] {
+        let list = [(1, slot - 256, 0, 0.0), (4, slot, 0, 0.0)];
+        assert_eq!(bad(&list), (Some(1), ReadBeforeSet));
+    }
     assert_eq!(
         bad(&[(2, 1, 0, 0.0), (1, 2, 0, 0.0)]),
         (Some(1), ConstantLate)
@@ -245,9 +256,9 @@ fn each_bad_store_again() {
         let list = [p, stored, p, (15, 1, 0, value)];
         assert_eq!(bad(&list), (Some(3), UnusedField));
     }
-    for slot in [256, 257, 0x8001] {
+    for slot in [1024, 1025, 0x8001] {
         let list = [p, stored, p, (15, slot, 0, 0.0)];
-        assert_eq!(bad(&list), (Some(3), SlotOver255));
+        assert_eq!(bad(&list), (Some(3), SlotOver1023));
     }
     // Other than one value.
     assert_eq!(bad(&[p, stored, again]), (Some(2), AgainCount));
@@ -317,6 +328,88 @@ fn stores_again() {
     (expected[0], expected[1]) = (0.5, 0.0);
     assert_eq!(values, expected);
     assert_eq!(derivs, slots(-8.0));
+}
+
+#[test]
+fn slots_up_to_1023() {
+    // Slot 1023 is a state that begins with 4, slot 256 the constant 3, slot 255
+    // their product, and then that less 1, which is the derivative.
+    let program = records(&[
+        (1, 256, 1, 3.0),
+        (2, 1023, 2, 4.0),
+        (4, 1023, 3, 0.0),
+        (4, 256, 3, 0.0),
+        (7, 0, 3, 0.0),
+        (13, 255, 3, 0.0),
+        (4, 255, 4, 0.0),
+        (3, 0, 4, 1.0),
+        (6, 0, 4, 0.0),
+        (15, 255, 4, 0.0),
+        (4, 255, 2, 0.0),
+        (14, 1023, 2, 0.0),
+    ]);
+    let (mut values, mut derivs) = (slots(-7.0), slots(-8.0));
+    assert_eq!(start(&program, &mut values, &mut derivs), OK);
+    assert_eq!(step(&program, 0.5, &mut values, &mut derivs), OK);
+    let (mut expected, mut rates) = (slots(-7.0), slots(-8.0));
+    (expected[0], expected[255], expected[256]) = (0.5, 11.0, 3.0);
+    (expected[1023], rates[1023]) = (9.5, 11.0);
+    assert_eq!((values, derivs), (expected, rates));
+    // Where there are 256 slots, the first record is bad.
+    let (mut values, mut derivs) = (slots(-7.0), slots(-8.0));
+    let answer = step_within::<256>(&program, 0.5, &mut values, &mut derivs);
+    assert_eq!((answer.number, answer.record), (3, 0));
+    assert_eq!((values, derivs), (slots(-7.0), slots(-8.0)));
+}
+
+/// Lent values or derivatives that are all different.
+fn lent(first: f64) -> Vec<f64> {
+    (0..SLOTS).map(|slot| first + slot as f64 / 8.0).collect()
+}
+
+/// Runs a program of slots below 256 where there are 256, and where there are
+/// 1,024: the first 256 places must be the same, and all others stay.
+fn assert_as_before(program: &[u8]) {
+    let (mut values, mut derivs) = (lent(1.0), lent(-500.0));
+    let (mut few_values, mut few_derivs) = (values.clone(), derivs.clone());
+    few_values.truncate(256);
+    few_derivs.truncate(256);
+    for act in 0..4 {
+        let (ours, before) = match act {
+            0 => (
+                evaluate(program, &mut values, &mut derivs),
+                evaluate_within::<256>(program, &mut few_values, &mut few_derivs),
+            ),
+            1 => (
+                start(program, &mut values, &mut derivs),
+                start_within::<256>(program, &mut few_values, &mut few_derivs),
+            ),
+            _ => (
+                step(program, 0.25, &mut values, &mut derivs),
+                step_within::<256>(program, 0.25, &mut few_values, &mut few_derivs),
+            ),
+        };
+        assert_eq!((ours, before), (OK, OK));
+        assert_eq!(
+            (&values[..256], &derivs[..256]),
+            (&few_values[..], &few_derivs[..])
+        );
+        assert_eq!(values[256..], lent(1.0)[256..]);
+        assert_eq!(derivs[256..], lent(-500.0)[256..]);
+    }
+}
+
+#[test]
+fn programs_of_before_run_as_before() {
+    assert_as_before(&[]);
+    assert_as_before(&good(TANK));
+    // 253 constants, a state of slot 254, and slot 255 that it is made of.
+    let constants: String = (1..254).map(|i| format!("CONST K{i}={i}\n")).collect();
+    let program = good(&format!("{constants}X=INTGRL(K253,-X+Y)\nY=TIME*X+K1\n"));
+    let last = records(&[(4, 255, 254, 0.0), (5, 0, 254, 0.0), (14, 254, 254, 0.0)]);
+    assert_eq!(program.len(), (253 + 1 + 6 + 5) * 16);
+    assert!(program.ends_with(&last));
+    assert_as_before(&program);
 }
 
 #[test]

@@ -2,16 +2,17 @@
 
 mod common;
 use common::*;
-use floesedge_peer::{evaluate, judge_reason, translate, Verdict};
+use floesedge_peer::{evaluate, judge_reason, listing, start, step, translate, Verdict};
 
 #[test]
 fn lines() {
-    assert_eq!(bare(&[b'\n'; 512]), 0);
-    assert_eq!(bare(&[b'\n'; 513]), 3);
-    let mut text = vec![b'\n'; 512];
+    assert_eq!(bare(&[b'\n'; 513]), 0);
+    assert_eq!(bare(&[b'\n'; 1024]), 0);
+    assert_eq!(bare(&[b'\n'; 1025]), 3);
+    let mut text = vec![b'\n'; 1024];
     text.push(b' ');
     assert_eq!(bare(&text), 3);
-    let mut text = vec![b'\n'; 511];
+    let mut text = vec![b'\n'; 1023];
     text.push(b' ');
     assert_eq!(bare(&text), 0);
 }
@@ -19,11 +20,12 @@ fn lines() {
 #[test]
 fn bytes() {
     let comment = |n: usize| [b"*".as_slice(), &vec![b'x'; n - 1]].concat();
-    assert_eq!(bare(&comment(16_384)), 0);
-    assert_eq!(bare(&comment(16_385)), 2);
+    assert_eq!(bare(&comment(16_385)), 0);
+    assert_eq!(bare(&comment(32_768)), 0);
+    assert_eq!(bare(&comment(32_769)), 2);
     // The size comes before the lines.
-    assert_eq!(bare(&vec![b'\n'; 16_384]), 3);
-    assert_eq!(bare(&vec![b'\n'; 16_385]), 2);
+    assert_eq!(bare(&vec![b'\n'; 32_768]), 3);
+    assert_eq!(bare(&vec![b'\n'; 32_769]), 2);
 }
 
 /// Statements that assign N0, N1, ..
@@ -33,14 +35,30 @@ fn assignments(count: usize) -> String {
 
 #[test]
 fn statements() {
-    assert_eq!(good(&assignments(255)).len(), 255 * 32);
-    // Each of 256 good statements defines a name.
-    assert_eq!(bare(assignments(256).as_bytes()), 6);
-    assert_eq!(bare(assignments(257).as_bytes()), 4);
-    let faulty: String = "(\n".repeat(256);
-    let all: Vec<_> = (1..=256).map(|line| (line, 18)).collect();
+    assert_eq!(good(&assignments(257)).len(), 257 * 32);
+    let program = good(&assignments(512));
+    assert_eq!(program.len(), 512 * 32);
+    assert_eq!(program[1023 * 16..], record(13, 512, 512, 0.0));
+    assert_eq!(bare(assignments(513).as_bytes()), 4);
+    let faulty: String = "(\n".repeat(512);
+    let all: Vec<_> = (1..=512).map(|line| (line, 18)).collect();
     assert_eq!(refused(&faulty, 5), all);
-    assert_eq!(bare("(\n".repeat(257).as_bytes()), 4);
+    assert_eq!(bare("(\n".repeat(513).as_bytes()), 4);
+}
+
+#[test]
+fn units() {
+    // Each uses the next one, and the last one the first: all are unsortable.
+    let chain = |last: &str| -> String {
+        let uses = (0..511).map(|i| format!("N{i}=N{}\n", i + 1));
+        format!("{}N511={last}\n", uses.collect::<String>())
+    };
+    let all: Vec<_> = (1..=512).map(|line| (line, 24)).collect();
+    assert_eq!(refused(&chain("N0"), 7), all);
+    // With a number there, they stand in reverse.
+    let lines = (1..=512).rev().map(|line| format!("{line}\n"));
+    let expected = format!("OK 1024\n{}", lines.collect::<String>());
+    assert_eq!(listing(chain("1").as_bytes()), expected.as_bytes());
 }
 
 /// Constants over as many statements as they need, names from a list.
@@ -54,17 +72,44 @@ fn constants(names: &[String]) -> String {
 
 #[test]
 fn definitions() {
-    let mut names: Vec<_> = (0..255).map(|i| format!("N{i}")).collect();
+    let mut names: Vec<_> = (0..1023).map(|i| format!("N{i}")).collect();
+    assert_eq!(good(&constants(&names[..256])).len(), 256 * 16);
+    // Eight to a line: the last seven stand in line 128.
     let program = good(&constants(&names));
-    assert_eq!(program.len(), 255 * 16);
-    assert_eq!(program[254 * 16..], record(1, 255, 32, 1.0));
-    names.push("N255".into());
+    assert_eq!(program.len(), 1023 * 16);
+    assert_eq!(program[255 * 16..256 * 16], record(1, 256, 32, 1.0));
+    assert_eq!(program[1022 * 16..], record(1, 1023, 128, 1.0));
+    names.push("N1023".into());
     assert_eq!(bare(constants(&names).as_bytes()), 6);
     // Doubles are counted, and come after.
-    names[255] = "N0".into();
+    names[1023] = "N0".into();
     assert_eq!(bare(constants(&names).as_bytes()), 6);
-    names.remove(254);
-    assert_eq!(refused(&constants(&names), 7), [(32, 21)]);
+    names.remove(1022);
+    assert_eq!(refused(&constants(&names), 7), [(128, 21)]);
+}
+
+#[test]
+fn the_last_slot() {
+    // 1,021 constants in 128 lines, then a state and what it is made of.
+    let names: Vec<_> = (0..1021).map(|i| format!("N{i}")).collect();
+    let text = format!("{}X=INTGRL(N1020,Y)\nY=X+N0\n", constants(&names));
+    let program = good(&text);
+    let behind = records(&[
+        (2, 1022, 129, 1.0),
+        (4, 1022, 130, 0.0),
+        (4, 1, 130, 0.0),
+        (5, 0, 130, 0.0),
+        (13, 1023, 130, 0.0),
+        (4, 1023, 129, 0.0),
+        (14, 1022, 129, 0.0),
+    ]);
+    assert_eq!(program[1021 * 16..], behind);
+    let (mut values, mut derivs) = (vec![-7.0; SLOTS], vec![-8.0; SLOTS]);
+    assert_eq!(start(&program, &mut values, &mut derivs).number, 0);
+    assert_eq!(step(&program, 0.5, &mut values, &mut derivs).number, 0);
+    // X is 1 and Y is 2, so X becomes 1 + 0.5 * 2.
+    assert_eq!(values[1021..], [1.0, 2.0, 2.0]);
+    assert_eq!(derivs[1021..], [-8.0, 2.0, -8.0]);
 }
 
 #[test]
@@ -132,7 +177,7 @@ fn records_of_a_program() {
 
 #[test]
 fn room() {
-    let mut faults = vec![7; 2048];
+    let mut faults = vec![7; 4096];
     for (room, number, count) in [(239, 8, 0), (240, 0, 15), (255, 0, 15), (0, 8, 0)] {
         let mut program = vec![9; room];
         let verdict = translate(TANK.as_bytes(), &mut faults, &mut program);
@@ -146,15 +191,15 @@ fn room() {
             count: 0
         }
     );
-    assert_eq!(faults, vec![7; 2048]);
+    assert_eq!(faults, vec![7; 4096]);
 }
 
 #[test]
 fn fault_list() {
-    for room in [0, 8, 1024, 2047] {
+    for room in [0, 8, 2047, 2048, 4088, 4095] {
         let mut faults = vec![7; room];
         let mut program = vec![9; 64];
-        let verdict = translate(&[0; 20_000], &mut faults, &mut program);
+        let verdict = translate(&[0; 40_000], &mut faults, &mut program);
         assert_eq!(
             verdict,
             Verdict {
@@ -165,6 +210,7 @@ fn fault_list() {
         assert_eq!(faults, vec![7; room]);
         assert_eq!(program, vec![9; 64]);
     }
+    assert_eq!(translate(&[0; 40_000], &mut [7; 4096], &mut []).number, 2);
 }
 
 #[test]
@@ -188,7 +234,7 @@ fn stack_of_67() {
     }
     assert_eq!(highest, 67);
     assert_eq!(judge_reason(&program), Ok(()));
-    let (mut values, mut derivs) = (vec![0.0; 256], vec![0.0; 256]);
+    let (mut values, mut derivs) = (vec![0.0; SLOTS], vec![0.0; SLOTS]);
     assert_eq!(evaluate(&program, &mut values, &mut derivs).number, 0);
     // The innermost 2 is limited to 0, so each level gives 1 + 1 * 0.
     assert_eq!(values[1], 1.0);

@@ -32,7 +32,7 @@ fn program(text: &str, order: &[u32]) -> Vec<u8> {
 
 /// The greatest member of a set, taken out.
 fn take_greatest(set: &mut Set) -> Option<usize> {
-    let member = (0..256).rfind(|member| set[member / 64] >> (member % 64) & 1 == 1)?;
+    let member = (0..512).rfind(|member| set[member / 64] >> (member % 64) & 1 == 1)?;
     set[member / 64] &= !(1 << (member % 64));
     Some(member)
 }
@@ -60,8 +60,8 @@ fn pairs(text: &str) -> Vec<(u32, u32)> {
 /// What evaluating, two steps, and a start with a step leave, by bits, from
 /// values and derivatives that are all different.
 fn left(program: &[u8]) -> Vec<u64> {
-    let mut values: Vec<f64> = (0..256).map(|slot| 5.0 + slot as f64 / 4.0).collect();
-    let mut derivs: Vec<f64> = (0..256).map(|slot| -8.0 - slot as f64).collect();
+    let mut values: Vec<f64> = (0..SLOTS).map(|slot| 5.0 + slot as f64 / 4.0).collect();
+    let mut derivs: Vec<f64> = (0..SLOTS).map(|slot| -8.0 - slot as f64).collect();
     let mut bits = Vec::new();
     for act in 0..5 {
         let (values, derivs) = (&mut values[..], &mut derivs[..]);
@@ -78,10 +78,10 @@ fn left(program: &[u8]) -> Vec<u64> {
 
 /// The record for which a program is refused with 3, nothing being written.
 fn bad_record(program: &[u8]) -> u32 {
-    let (mut values, mut derivs) = (vec![-7.0; 256], vec![-8.0; 256]);
+    let (mut values, mut derivs) = (vec![-7.0; SLOTS], vec![-8.0; SLOTS]);
     let answer = step(program, 0.1, &mut values, &mut derivs);
     assert_eq!(answer.number, 3);
-    assert_eq!((values, derivs), (vec![-7.0; 256], vec![-8.0; 256]));
+    assert_eq!((values, derivs), (vec![-7.0; SLOTS], vec![-8.0; SLOTS]));
     answer.record
 }
 
@@ -135,7 +135,7 @@ fn a_block_moves_whole() {
     assert_eq!(other, expected);
     assert_eq!(left(&other), left(&good(VALVE)));
     // At time 5: C = 5, A = 10 and then 15, B = 14, E = 3.
-    let (mut values, mut derivs) = (vec![5.0; 256], vec![0.0; 256]);
+    let (mut values, mut derivs) = (vec![5.0; SLOTS], vec![0.0; SLOTS]);
     assert_eq!(evaluate(&other, &mut values, &mut derivs).number, 0);
     assert_eq!(values[..6], [5.0, 15.0, 14.0, 5.0, 3.0, 5.0]);
 }
@@ -147,7 +147,7 @@ fn a_block_taken_apart_is_accepted_and_not_the_same() {
     let at = |from: usize, to: usize| &own[from * 16..to * 16];
     let apart = [at(0, 6), at(10, 14), at(6, 10), at(14, 16)].concat();
     assert_eq!(apart[5 * 16], 13);
-    let (mut values, mut derivs) = (vec![5.0; 256], vec![0.0; 256]);
+    let (mut values, mut derivs) = (vec![5.0; SLOTS], vec![0.0; SLOTS]);
     assert_eq!(evaluate(&apart, &mut values, &mut derivs).number, 0);
     assert_eq!(values[..6], [5.0, 15.0, 9.0, 5.0, 3.0, 5.0]);
 }

@@ -23,7 +23,7 @@ fn spaces(count: usize) -> String {
 
 #[test]
 fn eight_bytes() {
-    let mut list = [7; 2048];
+    let mut list = [7; 4096];
     let verdict = translate(b"A=1...\n*\n)", &mut list, &mut []);
     assert_eq!((verdict.number, verdict.count), (5, 1));
     assert_eq!(list[..9], [1, 0, 18, 0, 3, 0, 1, 0, 7]);
@@ -32,10 +32,15 @@ fn eight_bytes() {
     let verdict = translate(text.as_bytes(), &mut list, &mut []);
     assert_eq!((verdict.number, verdict.count), (5, 1));
     assert_eq!(list[..9], [45, 1, 11, 0, 47, 1, 44, 1, 7]);
-    // The list is filled to its last byte by 256 faults.
-    let verdict = translate("A=\n".repeat(256).as_bytes(), &mut list, &mut []);
-    assert_eq!((verdict.number, verdict.count), (5, 256));
-    assert_eq!(list[2040..], [0, 1, 18, 0, 0, 1, 2, 0]);
+    // The list is filled to its last byte by 512 faults.
+    let verdict = translate("A=\n".repeat(512).as_bytes(), &mut list, &mut []);
+    assert_eq!((verdict.number, verdict.count), (5, 512));
+    assert_eq!(list[4088..], [0, 2, 18, 0, 0, 2, 2, 0]);
+    // The last line that there may be: 1,024.
+    let text = format!("{}A=\n", "\n".repeat(1023));
+    let verdict = translate(text.as_bytes(), &mut list, &mut []);
+    assert_eq!((verdict.number, verdict.count), (5, 1));
+    assert_eq!(list[..8], [0, 4, 18, 0, 0, 4, 2, 0]);
 }
 
 #[test]
@@ -231,7 +236,7 @@ fn open_at_the_end_of_the_text() {
     assert_fault("A=3...\n*2", (1, 11, 1, 6));
     assert_fault("A=3...\n*2\n", (1, 11, 1, 6));
     assert_fault("A=1...\n*\n+1 ... \n*\n* ...\n*2", (1, 11, 3, 7));
-    let comments = "*\n".repeat(511);
+    let comments = "*\n".repeat(1023);
     assert_fault(&format!("A=1...\n{comments}"), (1, 11, 1, 6));
     // 11 comes before 12 and 13, and has its own place then.
     let five = "A=1...\n+1...\n+1...\n+1...\n*\n+1...";
@@ -241,7 +246,7 @@ fn open_at_the_end_of_the_text() {
     // It comes before bad tokens.
     assert_fault("#...\n2X...", (1, 11, 2, 5));
     // A whole text on one card.
-    assert_fault(&format!("A{}...", spaces(16_380)), (1, 11, 1, 16_384));
+    assert_fault(&format!("A{}...", spaces(32_764)), (1, 11, 1, 32_768));
 }
 
 #[test]

@@ -194,7 +194,7 @@ fn listings() {
     let bad = TANK.replace("Q=K*H", "Q=K*");
     assert_eq!(listing(bad.as_bytes()), b"NO 5\n3 18 3 4\n");
     assert_eq!(listing(b""), b"OK 0\n");
-    assert_eq!(listing(&[b'\n'; 513]), b"NO 3\n");
+    assert_eq!(listing(&[b'\n'; 1025]), b"NO 3\n");
     assert_eq!(
         listing(b"A=B\nB=A\nD=A"),
         b"NO 7\n1 24 1 1\n2 24 2 1\n3 24 3 1\n"

@@ -1,11 +1,13 @@
 //! Texts with procedural blocks: sound ones, ones near each limit, and ones
 //! damaged in every way that the papers name.
 
+use crate::limits::{DEFINITIONS, STATEMENTS};
 use crate::random::Random;
 use crate::texts::{
     any_token, assignment, constants, damage_tokens, different_names, expression, lay_out, name,
     number, state, tokens, Size, Tokens,
 };
+use floesedge_peer::limits::{MAX_RECORDS, MAX_STATEMENTS};
 
 /// A text of a random family with blocks.
 pub fn text(random: &mut Random) -> Vec<u8> {
@@ -147,10 +149,11 @@ fn sound(random: &mut Random, size: Size) -> Vec<u8> {
 fn deck(random: &mut Random, size: Size) -> Deck {
     let (blocks, most) = match size {
         Size::Small => (random.range(1, 4), 3),
-        Size::Large => (random.range(6, 20), 8),
+        Size::Large => (random.range(6, 60), 8),
     };
     let leaves = random.pick(&[1, 2, 4, 6]);
-    let mut fresh = different_names(random, 250);
+    // A block and what stands before it take at most 7 names.
+    let mut fresh = different_names(random, blocks * 7 + most * 2);
     let count = random.range(1, most);
     let constant_names = fresh.split_off(fresh.len() - count);
     let count = random.below(most);
@@ -543,7 +546,7 @@ fn mess(random: &mut Random) -> Vec<u8> {
 
 /// Headers and ends alone, in any order.
 fn headers(random: &mut Random) -> Vec<u8> {
-    let most = random.pick(&[3, 6, 12, 256]);
+    let most = random.pick(&[3, 6, 12, MAX_STATEMENTS]);
     let mut text = String::new();
     for i in 0..random.range(1, most) {
         let line = match random.below(7) {
@@ -652,7 +655,7 @@ fn slips(random: &mut Random) -> Vec<u8> {
 
 // Limits.
 
-/// Blocks just about 256 statements, 255 settings or 4,096 records.
+/// Blocks of just about the most statements, settings or records.
 fn limits(random: &mut Random) -> Vec<u8> {
     match random.below(4) {
         0 => many_blocks(random),
@@ -662,9 +665,9 @@ fn limits(random: &mut Random) -> Vec<u8> {
     }
 }
 
-/// Just about 256 statements in blocks.
+/// Just about the most statements in blocks.
 fn many_blocks(random: &mut Random) -> Vec<u8> {
-    let mut left = random.range(254, 258);
+    let mut left = STATEMENTS.about(random);
     let mut text = String::from("CONST C=1\n");
     left -= 1;
     while left >= 3 {
@@ -685,10 +688,12 @@ fn many_blocks(random: &mut Random) -> Vec<u8> {
     text.into_bytes()
 }
 
-/// Just about 255 settings, most of them such that set again.
+/// Just about the most settings, all that constants leave being such inside a
+/// block, most of which set again.
 fn many_settings(random: &mut Random) -> Vec<u8> {
-    let count = random.range(250, 258);
-    let constants = random.range(2, 60);
+    let count = DEFINITIONS.about(random);
+    let most = count.min(MAX_STATEMENTS * 3 / 4);
+    let constants = count - random.range(most / 2, most - 2);
     let mut text = String::from("CONST C=1\n");
     for part in (1..constants).collect::<Vec<_>>().chunks(7) {
         let list: Vec<String> = part.iter().map(|i| format!("K{i}=2")).collect();
@@ -703,9 +708,9 @@ fn many_settings(random: &mut Random) -> Vec<u8> {
     text.into_bytes()
 }
 
-/// Just about 4,096 records, in blocks that set again.
+/// Just about the most records, in blocks that set again.
 fn many_records(random: &mut Random) -> Vec<u8> {
-    let mut left = random.range(4_094, 4_098) - 1;
+    let mut left = random.range(MAX_RECORDS - 2, MAX_RECORDS + 2) - 1;
     let mut text = String::from("CONST C=1\n");
     let mut i = 0;
     while left >= 2 {

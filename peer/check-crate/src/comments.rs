@@ -1,6 +1,7 @@
 //! Comment cards inside statements: texts with them, what of them a text has,
 //! and a comment put into any text.
 
+use crate::limits::{BYTES, LINES};
 use crate::random::Random;
 
 // Comments.
@@ -165,11 +166,11 @@ pub(crate) fn filled(random: &mut Random, text: &mut Vec<u8>) {
     text.extend(b"FILLED=1...\n");
     let behind = random.pick(&["", "+1", "+1\n", "\n", " *2...\n*\n"]);
     if random.once_in(2) {
-        let wanted = random.range(16_382, 16_386);
+        let wanted = BYTES.about(random);
         let count = wanted.saturating_sub(text.len() + 2 + behind.len());
         text.extend([b"*".as_slice(), &b"x".repeat(count), b"\n"].concat());
     } else {
-        let wanted = random.range(510, 514);
+        let wanted = LINES.about(random);
         let have = text.iter().filter(|&&byte| byte == b'\n').count();
         text.extend(b"*\n".repeat(wanted.saturating_sub(have + lines(behind.as_bytes()).len())));
     }

@@ -3,9 +3,11 @@
 
 #![forbid(unsafe_code)]
 
+pub mod before;
 pub mod blocks;
 pub mod comments;
 pub mod library;
+pub mod limits;
 pub mod orders;
 pub mod places;
 pub mod programs;

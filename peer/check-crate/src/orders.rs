@@ -5,12 +5,13 @@
 use crate::library;
 use crate::random::Random;
 use crate::runs::{self, agree, alike, identical, run, Act, Buffers, Evaluated, LIBRARY, PEER};
+use floesedge_peer::limits::{FAULT_LIST, MAX_PROGRAM, RECORD, SLOTS};
 use floesedge_peer::model::{Model, Unit};
 use floesedge_peer::order::{order_by, uses, Set};
 use floesedge_peer::program::{
-    records_needed, write, CONSTANT, DERIVATIVE, INITIAL, PUSH_SLOT, RECORD, STORE, STORE_AGAIN,
+    records_needed, write, CONSTANT, DERIVATIVE, INITIAL, PUSH_SLOT, STORE, STORE_AGAIN,
 };
-use floesedge_peer::translate::{ordered, FAULT_LIST};
+use floesedge_peer::translate::ordered;
 use floesedge_peer::Answer;
 
 /// What another order was, and what came of it.
@@ -99,7 +100,7 @@ pub fn check(text: &[u8], seed: u64) -> Result<Vec<Event>, Box<Difference>> {
 
 /// The library's program of a text.
 fn own_program(text: &[u8]) -> Vec<u8> {
-    let mut program = vec![0; 65_536];
+    let mut program = vec![0; MAX_PROGRAM];
     let verdict = library::translate(text, &mut [0; FAULT_LIST], &mut program);
     program.truncate(verdict.count as usize * RECORD);
     program
@@ -139,7 +140,7 @@ pub struct Difference {
 impl Trial {
     /// Lends random values and derivatives to a program, and runs it.
     fn new(random: &mut Random, own: Vec<u8>) -> Self {
-        let mut room = || random.pick(&[256, 256, 256, 257, 300]);
+        let mut room = || SLOTS + random.pick(&[0, 0, 0, 1, 276]);
         let rooms = (room(), room());
         let lent = Buffers::random(random, rooms);
         let mut step = || Act::Step(runs::step_of(random));
@@ -225,13 +226,13 @@ fn wrong(program: &[u8], why: &'static str) -> Wrong {
 
 /// The operand of a record.
 fn slot(record: &[u8]) -> usize {
-    u16::from_le_bytes([record[2], record[3]]) as usize % 256
+    u16::from_le_bytes([record[2], record[3]]) as usize % SLOTS
 }
 
 /// The first record that reads a slot before it is set, or stores again to one
 /// before it is stored to; all else must be as it is in the program of a text.
 fn first_bad(program: &[u8]) -> Option<u32> {
-    let (mut known, mut stored) = ([false; 256], [false; 256]);
+    let (mut known, mut stored) = ([false; SLOTS], [false; SLOTS]);
     known[0] = true;
     let bad = program.chunks_exact(RECORD).position(|record| {
         let slot = slot(record);
@@ -395,7 +396,7 @@ fn statements(program: &[u8]) -> (&[u8], Vec<&[u8]>) {
 struct Placing<'a> {
     statements: &'a [&'a [u8]],
     /// For each slot the statement of kind 13.
-    givers: [Option<usize>; 256],
+    givers: [Option<usize>; SLOTS],
     met: Vec<bool>,
     order: Vec<&'a [u8]>,
 }
@@ -420,7 +421,7 @@ impl Placing<'_> {
 fn keep_reads<'a>(random: &mut Random, statements: &'a [&'a [u8]]) -> Vec<&'a [u8]> {
     let mut placing = Placing {
         statements,
-        givers: [None; 256],
+        givers: [None; SLOTS],
         met: vec![false; statements.len()],
         order: Vec::with_capacity(statements.len()),
     };

@@ -2,10 +2,11 @@
 //! ones that are accepted, such with exactly one rule broken, damaged ones,
 //! and random records.
 
+use crate::before;
 use crate::random::Random;
 use crate::texts;
+use floesedge_peer::limits::{FAULT_LIST, MAX_LINES, MAX_PROGRAM, MAX_RECORDS, SLOTS};
 use floesedge_peer::translate;
-use floesedge_peer::translate::FAULT_LIST;
 
 /// A record before it is packed into bytes.
 #[derive(Clone, Copy)]
@@ -22,7 +23,7 @@ fn record(random: &mut Random, kind: u8, operand: u16, bits: u64) -> Record {
     let line = if random.once_in(20) {
         random.word() as u32
     } else {
-        random.below(512) as u32
+        random.below(MAX_LINES) as u32
     };
     Record {
         kind,
@@ -73,7 +74,7 @@ pub fn program(random: &mut Random) -> Vec<u8> {
 /// The program of a random text, empty if it is refused.
 fn translated(random: &mut Random) -> Vec<u8> {
     let mut faults = vec![0; FAULT_LIST];
-    let mut program = vec![0; 65_536];
+    let mut program = vec![0; MAX_PROGRAM];
     for _ in 0..10 {
         let text = texts::text(random);
         let verdict = translate(&text, &mut faults, &mut program);
@@ -98,7 +99,7 @@ fn damage(random: &mut Random, bytes: &mut Vec<u8>) {
             0 => bytes[at] = random.below(17) as u8,
             1 => bytes[at + 1] = random.byte(),
             2 => bytes[at + 2] = random.byte(),
-            3 => bytes[at + 3] = random.below(3) as u8,
+            3 => bytes[at + 3] = random.below(6) as u8,
             4 => bytes[at + 4 + random.below(4)] = random.byte(),
             5 => bytes[at + 8 + random.below(8)] ^= 1 << random.below(8),
             6 => drop(bytes.drain(at..at + 16)),
@@ -124,11 +125,27 @@ struct Accepted {
     states: Vec<u16>,
 }
 
+/// Slots for a program in random order, and into how many of each sort they are
+/// put at most: any slots, those of before, or those about the last of now and
+/// of before.
+fn free_slots(random: &mut Random) -> (Vec<u16>, usize) {
+    let (last, before) = (SLOTS as u16 - 1, before::SLOTS as u16 - 1);
+    let (mut slots, scale): (Vec<u16>, _) = match random.below(8) {
+        0 => ((1..=last).collect(), random.pick(&[60, 120, 300])),
+        1 | 2 => ((1..=last).collect(), random.pick(&[2, 5, 20])),
+        3 => (
+            (before - 9..before + 10).chain(last - 9..=last).collect(),
+            random.pick(&[2, 5, 8]),
+        ),
+        _ => ((1..=before).collect(), random.pick(&[2, 5, 20, 60])),
+    };
+    random.shuffle(&mut slots);
+    (slots, scale)
+}
+
 /// Makes an accepted program by keeping count of what stands on the stack.
 fn accepted(random: &mut Random) -> Accepted {
-    let mut slots: Vec<u16> = (1..=255).collect();
-    random.shuffle(&mut slots);
-    let scale = random.pick(&[2, 5, 20, 60]);
+    let (mut slots, scale) = free_slots(random);
     let mut records = Vec::new();
     let mut set = vec![0];
     let take = |slots: &mut Vec<u16>, set: &mut Vec<u16>| {
@@ -277,11 +294,13 @@ fn break_rule(random: &mut Random, program: &mut Accepted, rule: usize) {
                 records[at].bits = 1 << random.below(64);
             }
         }
-        // Slot over 255.
+        // Slot over the last.
         4 => {
             let has_slot = |r: &Record| matches!(r.kind, 1 | 2 | 4 | 13..=15);
             if let Some(at) = often_again(random, records, has_slot) {
-                records[at].operand += random.pick(&[256, 512, 0x8000, 0xff00]);
+                let first = SLOTS as u16;
+                let over = records[at].operand + random.pick(&[first, 2 * first, 0x8000, 0xfc00]);
+                records[at].operand = random.pick(&[over, over, first]);
             }
         }
         // Kind 1 after another kind.
@@ -444,6 +463,8 @@ fn break_rule(random: &mut Random, program: &mut Accepted, rule: usize) {
 
 /// Random records with few slots and plausible kinds.
 fn plausible(random: &mut Random) -> Vec<u8> {
+    let (last, before) = (SLOTS as u16 - 1, before::SLOTS as u16);
+    let slots = random.pick(&[[0, 1, 2, 3], [0, before - 1, before, last]]);
     let mut records = Vec::new();
     for i in 0..random.range(1, 12) {
         let kind = match (i, random.below(3)) {
@@ -451,7 +472,7 @@ fn plausible(random: &mut Random) -> Vec<u8> {
             (_, 1) => random.range(3, 4),
             _ => random.range(3, 15),
         } as u8;
-        let slot = random.below(4) as u16;
+        let slot = random.pick(&slots);
         let value = random.float().to_bits();
         let (operand, bits) = match kind {
             1 | 2 => (slot, value),
@@ -472,8 +493,8 @@ fn odd_length(random: &mut Random) -> Vec<u8> {
         bytes.truncate(bytes.len() - cut);
         return bytes;
     }
-    // Pushes and sums that end in a store: just about 4,096 records.
-    let count = random.range(4_094, 4_098);
+    // Pushes and sums that end in a store: just about the most records.
+    let count = random.range(MAX_RECORDS - 2, MAX_RECORDS + 2);
     let mut records = vec![record(random, 3, 0, 1.5f64.to_bits())];
     while records.len() + 2 < count {
         let kind = random.pick(&[3, 4]);

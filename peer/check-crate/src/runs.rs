@@ -18,9 +18,9 @@ pub enum Act {
 
 /// An evaluator: its three functions.
 pub struct Evaluator {
-    evaluate: fn(&[u8], &mut [f64], &mut [f64]) -> Answer,
-    start: fn(&[u8], &mut [f64], &mut [f64]) -> Answer,
-    step: fn(&[u8], f64, &mut [f64], &mut [f64]) -> Answer,
+    pub evaluate: fn(&[u8], &mut [f64], &mut [f64]) -> Answer,
+    pub start: fn(&[u8], &mut [f64], &mut [f64]) -> Answer,
+    pub step: fn(&[u8], f64, &mut [f64], &mut [f64]) -> Answer,
 }
 
 pub const PEER: Evaluator = Evaluator {
@@ -49,6 +49,24 @@ impl Buffers {
         Buffers {
             values: floats(rooms.0),
             derivs: floats(rooms.1),
+        }
+    }
+
+    /// The same, of which only the first places are lent.
+    pub fn first(&self, places: usize) -> Self {
+        let end = places + 2 * MARGIN;
+        Buffers {
+            values: self.values[..end].to_vec(),
+            derivs: self.derivs[..end].to_vec(),
+        }
+    }
+
+    /// What stands behind the first places that are lent.
+    pub fn behind(&self, places: usize) -> Self {
+        let begin = MARGIN + places;
+        Buffers {
+            values: self.values[begin..].to_vec(),
+            derivs: self.derivs[begin..].to_vec(),
         }
     }
 

@@ -3,8 +3,10 @@
 
 use crate::blocks;
 use crate::comments;
+use crate::limits::{BYTES, DEFINITIONS, LINES, STATEMENTS};
 use crate::places;
 use crate::random::Random;
+use floesedge_peer::limits::{MAX_DEFINITIONS, MAX_RECORDS, MAX_STATEMENTS, MAX_TEXT};
 
 /// The tokens of one statement.
 pub(crate) type Tokens = Vec<String>;
@@ -26,7 +28,7 @@ pub fn text(random: &mut Random) -> Vec<u8> {
 
 /// A text of a random family.
 fn of_family(random: &mut Random) -> Vec<u8> {
-    match random.below(114) {
+    match random.below(118) {
         0..=4 => valid(random, Size::Small),
         5 => valid(random, Size::Large),
         6..=10 => damaged(random),
@@ -54,6 +56,7 @@ fn of_family(random: &mut Random) -> Vec<u8> {
         89..=96 => comments::cards(random),
         97 => filled(random),
         98..=113 => places::text(random),
+        114..=117 => full(random),
         _ => tricky(random),
     }
 }
@@ -320,10 +323,12 @@ pub(crate) fn state(
 fn deck(random: &mut Random, size: Size) -> Deck {
     let most = match size {
         Size::Small => random.range(1, 12),
-        Size::Large => random.range(40, 254),
+        Size::Large => random.range(40, MAX_DEFINITIONS),
     };
     let names = different_names(random, most);
-    let first = random.below(most + 1);
+    // Only constants share a statement, and they are as many as that takes.
+    let least = most.saturating_sub(MAX_STATEMENTS * 2 / 3);
+    let first = random.range(least, most);
     let second = random.range(first, most);
     let constant_names = names[..first].to_vec();
     let assigned = names[first..second].to_vec();
@@ -698,7 +703,7 @@ fn graph(random: &mut Random) -> Vec<u8> {
 
 /// A deck of very many statements with uses mostly of lower rank.
 fn large_graph(random: &mut Random) -> Vec<u8> {
-    let count = random.range(30, 255);
+    let count = random.range(30, MAX_STATEMENTS);
     let mut rank: Vec<usize> = (0..count).collect();
     if !random.once_in(4) {
         random.shuffle(&mut rank);
@@ -728,7 +733,7 @@ fn large_graph(random: &mut Random) -> Vec<u8> {
 
 /// A long chain of assignments in some order, at times closed to a loop.
 fn chain(random: &mut Random) -> Vec<u8> {
-    let count = random.range(2, 255);
+    let count = random.range(2, MAX_STATEMENTS);
     let mut places: Vec<usize> = (0..count).collect();
     match random.below(3) {
         0 => places.reverse(),
@@ -754,13 +759,13 @@ fn chain(random: &mut Random) -> Vec<u8> {
 
 // Limits.
 
-/// A text padded to just about 16,384 bytes.
+/// A text padded to just about the most bytes.
 fn sized(random: &mut Random) -> Vec<u8> {
     let mut text = valid(random, Size::Small);
     if text.last().is_some_and(|&byte| byte != b'\n') {
         text.push(b'\n');
     }
-    let wanted = random.range(16_382, 16_386);
+    let wanted = BYTES.about(random);
     let fill = random.pick(b"*  \n");
     text.push(if fill == b'*' { b'*' } else { b' ' });
     while text.len() < wanted {
@@ -778,13 +783,13 @@ fn sized(random: &mut Random) -> Vec<u8> {
     text
 }
 
-/// A text of just about 512 lines.
+/// A text of just about the most lines.
 fn lined(random: &mut Random) -> Vec<u8> {
     let mut text = valid(random, Size::Small);
     if text.last().is_some_and(|&byte| byte != b'\n') {
         text.push(b'\n');
     }
-    let wanted = random.range(510, 514);
+    let wanted = LINES.about(random);
     let have = text.iter().filter(|&&byte| byte == b'\n').count();
     let fill = random.pick(&["\n", "*\n", " \n"]);
     let more = fill.repeat(wanted.saturating_sub(have));
@@ -797,7 +802,7 @@ fn lined(random: &mut Random) -> Vec<u8> {
     text
 }
 
-/// A text of just about 16,384 bytes or 512 lines, most of them comments inside
+/// A text of just about the most bytes or lines, most of them comments inside
 /// its last statement.
 fn filled(random: &mut Random) -> Vec<u8> {
     let mut text = valid(random, Size::Small);
@@ -805,10 +810,11 @@ fn filled(random: &mut Random) -> Vec<u8> {
     text
 }
 
-/// Just about 256 statements, with or without faults.
+/// Just about the most statements, with or without faults.
 fn many_statements(random: &mut Random) -> Vec<u8> {
-    let count = random.range(254, 258);
-    let faulty = random.pick(&[1, 3, 200, 100_000]);
+    let count = STATEMENTS.about(random);
+    let faulty = random.pick(&[1, 3, 200, 100_000, 100_000]);
+    let doubles = random.once_in(2);
     let mut text = String::new();
     for i in 0..count {
         let line = if random.once_in(faulty) {
@@ -819,7 +825,7 @@ fn many_statements(random: &mut Random) -> Vec<u8> {
             match random.below(12) {
                 0 => format!("S{i}=INTGRL(1,2)"),
                 1 => format!("CONST S{i}=1"),
-                2 => format!("S{}=1", random.below(count)),
+                2 if doubles => format!("S{}=1", random.below(count)),
                 3 => format!("* C\nS{i}=1"),
                 4 => format!("\nS{i}=1"),
                 5 => format!("S{i}=1...\n*2\n"),
@@ -832,10 +838,9 @@ fn many_statements(random: &mut Random) -> Vec<u8> {
     text.into_bytes()
 }
 
-/// Just about 255 definitions in lists of constants and other statements.
+/// Just about the most definitions in lists of constants and other statements.
 fn many_definitions(random: &mut Random) -> Vec<u8> {
-    let count = random.range(252, 258);
-    let mut left = count;
+    let mut left = DEFINITIONS.about(random);
     let mut statements = Vec::new();
     let double = random.once_in(4);
     let faulty = random.once_in(6);
@@ -869,9 +874,9 @@ fn many_definitions(random: &mut Random) -> Vec<u8> {
     lay_out(random, &statements, false)
 }
 
-/// Just about 4,096 records.
+/// Just about the most records.
 fn many_records(random: &mut Random) -> Vec<u8> {
-    let mut left = random.range(4_094, 4_098);
+    let mut left = random.range(MAX_RECORDS - 2, MAX_RECORDS + 2);
     let mut text = String::new();
     let mut i = 0;
     while left > 0 {
@@ -898,12 +903,47 @@ fn many_records(random: &mut Random) -> Vec<u8> {
     text.into_bytes()
 }
 
+/// A sound deck of just about the most statements, definitions, lines and bytes,
+/// all at once.
+fn full(random: &mut Random) -> Vec<u8> {
+    let statements = STATEMENTS.about(random);
+    let definitions = DEFINITIONS.about(random).max(statements);
+    let lines = LINES.about(random).max(statements + 1);
+    let mut deck = Vec::new();
+    let mut named = 0;
+    while deck.len() < statements {
+        // Constants take what is more than one for each statement that is left.
+        let more = definitions - named - (statements - deck.len());
+        let count = more.min(7) + 1;
+        deck.push(if count > 1 {
+            let list = (named..named + count).map(|i| format!("K{i}={count}"));
+            format!("CONST {}", list.collect::<Vec<_>>().join(","))
+        } else {
+            let used = random.below(named.max(1));
+            let sum = random.pick(&["TIME", "1.5", "-TIME/2"]);
+            match random.below(6) {
+                0 => format!("K{named}=INTGRL({used},{sum})"),
+                1 if used < named => format!("K{named}={sum}+K{used}"),
+                _ => format!("K{named}={sum}"),
+            }
+        });
+        named += count;
+    }
+    if random.once_in(2) {
+        random.shuffle(&mut deck);
+    }
+    deck.resize(lines - 1, "*".into());
+    let text = deck.join("\n");
+    let left = BYTES.about(random).saturating_sub(text.len() + 2);
+    format!("{text}\n*{}", "-".repeat(left)).into_bytes()
+}
+
 /// A token in nearly every byte, up to the most that a text holds, at times
 /// with damage.
 fn dense(random: &mut Random) -> Vec<u8> {
-    let most = random.range(100, 16_500);
+    let most = random.range(100, MAX_TEXT + 100);
     let mut text = b"T=1\n".to_vec();
-    for i in 0..random.range(1, 255) {
+    for i in 0..random.range(1, MAX_STATEMENTS) {
         let part = random.pick(&["+1", "-2", "*3", "+T", "/T"]);
         let sum = part.repeat(random.range(1, 34));
         let statement = format!("N{i}={}\n", &sum[1..]);
@@ -1317,7 +1357,7 @@ fn alphabet_bytes(random: &mut Random) -> Vec<u8> {
 fn raw_bytes(random: &mut Random) -> Vec<u8> {
     let count = match random.below(12) {
         0 => 0,
-        1 => random.range(16_300, 17_000),
+        1 => BYTES.about(random),
         2 => random.below(5000),
         _ => random.below(200),
     };

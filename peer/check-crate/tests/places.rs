@@ -3,9 +3,8 @@
 
 use floesedge_check::random::Random;
 use floesedge_check::texts;
-use floesedge_peer::faults::FAULT;
+use floesedge_peer::limits::{FAULT, FAULT_LIST, MAX_PROGRAM};
 use floesedge_peer::translate;
-use floesedge_peer::translate::FAULT_LIST;
 
 /// The texts looked at.
 const TEXTS: u64 = 4000;
@@ -15,7 +14,7 @@ type Fault = (usize, u8, usize, usize);
 
 /// The faults of a text, if it is refused with 5 or 7.
 fn faults(text: &[u8]) -> Vec<Fault> {
-    let (mut list, mut program) = (vec![0; FAULT_LIST], vec![0; 65_536]);
+    let (mut list, mut program) = (vec![0; FAULT_LIST], vec![0; MAX_PROGRAM]);
     let verdict = translate(text, &mut list, &mut program);
     let listed = verdict.count as usize * matches!(verdict.number, 5 | 7) as usize;
     let pair = |bytes: &[u8], at: usize| u16::from_le_bytes([bytes[at], bytes[at + 1]]) as usize;

@@ -1,17 +1,20 @@
 //! How often the random texts reach each outcome with blocks, have each shape of
-//! comments inside statements and each sort of place, and that a comment more
-//! changes nothing, by the peer alone; and how often other orders of their units
-//! and statements come to each end, by the library too.
+//! comments inside statements, each sort of place and each size, that a comment
+//! more changes nothing, and how often random programs have slots of before and
+//! others, by the peer alone; and how often other orders of the units and
+//! statements of texts come to each end, by the library too.
 
 use std::collections::BTreeMap;
 
+use floesedge_check::before;
 use floesedge_check::comments::{self, Shape};
+use floesedge_check::limits::{self, Limit, Size};
 use floesedge_check::orders::{self, Event};
 use floesedge_check::places::{self, Kind, Sort};
 use floesedge_check::random::Random;
-use floesedge_check::texts;
-use floesedge_peer::faults::FAULT;
-use floesedge_peer::translate::FAULT_LIST;
+use floesedge_check::runs::{run, Act, Buffers, PEER};
+use floesedge_check::{programs, texts};
+use floesedge_peer::limits::{FAULT, FAULT_LIST, MAX_PROGRAM, RECORD, SLOTS};
 use floesedge_peer::{judge_reason, translate};
 
 /// The texts looked at.
@@ -27,12 +30,12 @@ fn each_outcome_with_blocks_is_common() {
             continue;
         }
         let mut faults = vec![0; FAULT_LIST];
-        let mut program = vec![0; 65_536];
+        let mut program = vec![0; MAX_PROGRAM];
         let verdict = translate(&text, &mut faults, &mut program);
         match verdict.number {
             0 => {
                 sound += 1;
-                program.truncate(verdict.count as usize * 16);
+                program.truncate(verdict.count as usize * RECORD);
                 assert_eq!(judge_reason(&program), Ok(()));
             }
             5 | 7 => {
@@ -63,7 +66,7 @@ fn each_shape_of_comments_is_common() {
     let mut verdicts: BTreeMap<u32, u64> = BTreeMap::new();
     for case in 0..TEXTS {
         let text = texts::text(&mut Random::new(7, case * 2));
-        let number = translate(&text, &mut [0; FAULT_LIST], &mut vec![0; 65_536]).number;
+        let number = translate(&text, &mut [0; FAULT_LIST], &mut vec![0; MAX_PROGRAM]).number;
         if comments::has_comments_inside(&text) {
             *verdicts.entry(number).or_default() += 1;
         }
@@ -105,6 +108,53 @@ fn each_sort_of_place_is_common() {
 }
 
 #[test]
+fn each_size_is_reached() {
+    let mut sizes: BTreeMap<(&str, Size), u64> = BTreeMap::new();
+    for case in 0..TEXTS {
+        let text = texts::text(&mut Random::new(7, case * 2));
+        for size in limits::sizes(&text) {
+            *sizes.entry(size).or_default() += 1;
+        }
+    }
+    println!("of {TEXTS} texts: those with verdict 0 by size: {sizes:?}");
+    for Limit { name, .. } in Limit::ALL {
+        let count = |size| sizes.get(&(name, size)).copied().unwrap_or(0);
+        let (over, full) = (count(Size::OverBefore), count(Size::Full));
+        assert!(over * 100 >= TEXTS, "{name} over those of before: {over}");
+        assert!(
+            full * 500 >= TEXTS,
+            "{name} as many as there may be: {full}"
+        );
+    }
+}
+
+#[test]
+fn programs_of_before_and_others_are_common() {
+    let mut slots: BTreeMap<(bool, bool), u64> = BTreeMap::new();
+    for case in 0..TEXTS {
+        let mut random = Random::new(7, case * 2 + 1);
+        let program = programs::program(&mut random);
+        let of_before = before::is_of_before(&program);
+        let lent = Buffers::random(&mut random, (SLOTS, SLOTS));
+        let acts = [Act::Start, Act::Step(0.5)];
+        let now = run(&PEER, &program, &acts, &lent);
+        let then = before::run_before(&program, &acts, &lent);
+        let accepted = now[0].0.number == 0;
+        *slots.entry((of_before, accepted)).or_default() += 1;
+        // What is accepted for its other slots was refused for them before.
+        if of_before || accepted {
+            let agrees = before::agree(&then, &now, &lent);
+            assert_eq!(agrees, of_before, "case {case}");
+        }
+    }
+    println!("of {TEXTS} programs: by slots of before and acceptance: {slots:?}");
+    for sort in [(true, true), (true, false), (false, true), (false, false)] {
+        let count = slots.get(&sort).copied().unwrap_or(0);
+        assert!(count * 25 >= TEXTS, "{sort:?}: {count}");
+    }
+}
+
+#[test]
 fn each_end_of_other_orders_is_common() {
     let mut events: BTreeMap<Event, u64> = BTreeMap::new();
     for case in 0..TEXTS {
@@ -137,7 +187,7 @@ type Outcome = (u32, u32, Vec<Fault>, Vec<(u32, Vec<u8>)>);
 
 /// What the peer gives on a text.
 fn outcome(text: &[u8]) -> Outcome {
-    let (mut faults, mut program) = (vec![0; FAULT_LIST], vec![0; 65_536]);
+    let (mut faults, mut program) = (vec![0; FAULT_LIST], vec![0; MAX_PROGRAM]);
     let verdict = translate(text, &mut faults, &mut program);
     let listed = verdict.count as usize * matches!(verdict.number, 5 | 7) as usize;
     let recorded = verdict.count as usize * (verdict.number == 0) as usize;
@@ -154,7 +204,7 @@ fn outcome(text: &[u8]) -> Outcome {
         verdict.number,
         verdict.count,
         faults.chunks(FAULT).take(listed).map(fault).collect(),
-        program.chunks(16).take(recorded).map(record).collect(),
+        program.chunks(RECORD).take(recorded).map(record).collect(),
     )
 }
 

@@ -6,12 +6,15 @@ use floesedge_peer::{translate, Verdict};
 /// The tank of the paper.
 pub const TANK: &str = "* TANK\nPARAM K=2\nQ=K*H\nH=INTGRL(1,F-Q)\nF=LIMIT(0,3,TIME)\n";
 
+/// The places of values and of derivatives.
+pub const SLOTS: usize = 1024;
+
 /// A fault: line, code, line of its place, column.
 pub type Fault = (u16, u8, u16, u16);
 
 /// The verdict on a text, with what is written; all other bytes must stay.
 pub fn outcome(text: &[u8]) -> (u32, u32, Vec<Fault>, Vec<u8>) {
-    let mut faults = vec![0xa5; 2055];
+    let mut faults = vec![0xa5; 4103];
     let mut program = vec![0x5a; 65_600];
     let Verdict { number, count } = translate(text, &mut faults, &mut program);
     let listed = if matches!(number, 5 | 7) {

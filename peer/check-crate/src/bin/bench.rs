@@ -9,7 +9,7 @@ use std::time::Instant;
 
 use floesedge_check::library;
 use floesedge_peer as peer;
-use floesedge_peer::translate::FAULT_LIST;
+use floesedge_peer::limits::{FAULT_LIST, MAX_PROGRAM, RECORD, SLOTS};
 
 /// How long one timing should take, in nanoseconds.
 const TARGET: f64 = 400_000.0;
@@ -101,7 +101,7 @@ fn cases() -> Vec<Case> {
     let tank = b"* TANK\nPARAM K=2\nQ=K*H\nH=INTGRL(1,F-Q)\nF=LIMIT(0,3,TIME)\n".to_vec();
     let wide = program_of(&wide_deck());
     let tank_program = program_of(&tank);
-    let records = wide.len() / 16;
+    let records = wide.len() / RECORD;
     vec![
         translate_case("translate: tank", tank),
         translate_case("translate: 255 long expressions", long_deck()),
@@ -119,7 +119,7 @@ fn cases() -> Vec<Case> {
 
 /// A translation; both must agree on it first.
 fn translate_case(name: &str, text: Vec<u8>) -> Case {
-    let (mut faults, mut program) = (vec![0; FAULT_LIST], vec![0; 65_536]);
+    let (mut faults, mut program) = (vec![0; FAULT_LIST], vec![0; MAX_PROGRAM]);
     let (mut faults2, mut program2) = (faults.clone(), program.clone());
     let verdict = peer::translate(&text, &mut faults, &mut program);
     assert_eq!(
@@ -158,7 +158,7 @@ fn translate_case(name: &str, text: Vec<u8>) -> Case {
 
 /// An evaluation at the start; both must agree on it first.
 fn evaluate_case(name: &str, program: Vec<u8>) -> Case {
-    let (mut values, mut derivs) = (vec![0.0; 256], vec![0.0; 256]);
+    let (mut values, mut derivs) = (vec![0.0; SLOTS], vec![0.0; SLOTS]);
     peer::start(&program, &mut values, &mut derivs);
     let (mut values2, mut derivs2) = (values.clone(), derivs.clone());
     let answer = peer::evaluate(&program, &mut values, &mut derivs);
@@ -195,7 +195,7 @@ fn evaluate_case(name: &str, program: Vec<u8>) -> Case {
 
 /// Steps from the start on.
 fn step_case(name: &str, program: Vec<u8>) -> Case {
-    let (mut values, mut derivs) = (vec![0.0; 256], vec![0.0; 256]);
+    let (mut values, mut derivs) = (vec![0.0; SLOTS], vec![0.0; SLOTS]);
     peer::start(&program, &mut values, &mut derivs);
     let (mut values2, mut derivs2) = (values.clone(), derivs.clone());
     let program2 = program.clone();
@@ -224,10 +224,10 @@ fn step_case(name: &str, program: Vec<u8>) -> Case {
 
 /// The program of a text that is sound.
 fn program_of(text: &[u8]) -> Vec<u8> {
-    let mut program = vec![0; 65_536];
+    let mut program = vec![0; MAX_PROGRAM];
     let verdict = peer::translate(text, &mut [0; FAULT_LIST], &mut program);
     assert_eq!(verdict.number, 0);
-    program.truncate(verdict.count as usize * 16);
+    program.truncate(verdict.count as usize * RECORD);
     program
 }
 

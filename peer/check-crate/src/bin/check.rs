@@ -1,20 +1,24 @@
 //! Compares the library with the peer on random texts and programs, and its
-//! answers with and without one comment more in each text, and on the program of
-//! each text in its own order and in others.
+//! answers with and without one comment more in each text, on the program of
+//! each text in its own order and in others, and on programs of before with the
+//! slots of then and of now.
 //!
 //! `check N SEED [FROM]`: N texts and N programs of a seed, from case FROM on.
 
 use std::collections::BTreeMap;
 use std::process::ExitCode;
 
+use floesedge_check::before;
 use floesedge_check::comments::{self, Shape};
+use floesedge_check::limits::{self, Limit, Size};
 use floesedge_check::orders::{self, Event};
 use floesedge_check::places::{self, Kind, Sort};
 use floesedge_check::random::Random;
-use floesedge_check::runs::{self, agree, alike, hex, run, Act, Buffers, LIBRARY, MARGIN, PEER};
+use floesedge_check::runs::{
+    self, agree, alike, hex, run, Act, Buffers, Evaluated, LIBRARY, MARGIN, PEER,
+};
 use floesedge_check::{library, programs, texts};
-use floesedge_peer::faults::FAULT;
-use floesedge_peer::translate::FAULT_LIST;
+use floesedge_peer::limits::{FAULT, FAULT_LIST, MAX_PROGRAM, RECORD, SLOTS};
 use floesedge_peer::{self as peer, Reason, Verdict};
 
 /// How many differences are shown before the run stops.
@@ -35,9 +39,14 @@ struct Counts {
     places: BTreeMap<(Sort, Kind), u64>,
     /// Comments put in, by the verdict and whether they stand inside a statement.
     put_in: BTreeMap<(u32, bool), u64>,
+    /// Texts with verdict 0, by what they have very much of.
+    sizes: BTreeMap<(&'static str, Size), u64>,
     /// Other orders of texts with verdict 0, by what came of them.
     orders: BTreeMap<Event, u64>,
     answers: BTreeMap<u32, u64>,
+    /// Programs run with just the places of now, by whether their slots are all of
+    /// before and whether they were accepted.
+    slots: BTreeMap<(bool, bool), u64>,
     reasons: BTreeMap<Reason, u64>,
     /// Reasons for which a record of kind 15 was bad.
     again: BTreeMap<Reason, u64>,
@@ -47,7 +56,7 @@ struct Counts {
 const AGAIN: [Reason; 8] = [
     Reason::ByteOne,
     Reason::UnusedField,
-    Reason::SlotOver255,
+    Reason::SlotOver1023,
     Reason::AgainCount,
     Reason::AgainUnset,
     Reason::AgainTime,
@@ -90,7 +99,7 @@ fn report(counts: &Counts) -> bool {
         let count = count.copied().unwrap_or(0);
         complete &= count > 0;
         println!(
-            "{name:<34}{count:>10}{}",
+            "{name:<38}{count:>10}{}",
             if count == 0 { "  NEVER" } else { "" }
         );
     };
@@ -127,11 +136,27 @@ fn report(counts: &Counts) -> bool {
             );
         }
     }
+    for Limit { name, most, before } in Limit::ALL {
+        let (over, full) = ((name, Size::OverBefore), (name, Size::Full));
+        line(
+            format!("verdict 0, more than {before} {name}"),
+            counts.sizes.get(&over),
+        );
+        line(format!("verdict 0, {most} {name}"), counts.sizes.get(&full));
+    }
     for event in Event::ALL {
         line(format!("{event:?}"), counts.orders.get(&event));
     }
     for number in 0..=4 {
         line(format!("answer {number}"), counts.answers.get(&number));
+    }
+    for (of_before, slots) in [(true, "slots of before"), (false, "slots over them")] {
+        for (accepted, answer) in [(true, "accepted"), (false, "refused")] {
+            line(
+                format!("{slots}, {answer}"),
+                counts.slots.get(&(of_before, accepted)),
+            );
+        }
     }
     for reason in Reason::ALL {
         line(format!("{reason:?}"), counts.reasons.get(&reason));
@@ -167,36 +192,49 @@ type Translated = (Verdict, Vec<u8>, Vec<u8>);
 /// A translator.
 type Translate = fn(&[u8], &mut [u8], &mut [u8]) -> Verdict;
 
-/// Runs a translator on buffers of given lengths, filled with a pattern and
-/// lent without their margins.
-fn run_text(translate: Translate, text: &[u8], rooms: (usize, usize), pattern: u64) -> Translated {
-    let mut faults = Random::new(pattern, 1).bytes(rooms.0 + 2 * MARGIN);
-    let mut program = Random::new(pattern, 2).bytes(rooms.1 + 2 * MARGIN);
-    let lent_faults = &mut faults[MARGIN..MARGIN + rooms.0];
-    let lent_program = &mut program[MARGIN..MARGIN + rooms.1];
-    let verdict = translate(text, lent_faults, lent_program);
+/// Fault list and program as they are lent, with their margins.
+type Lent = (Vec<u8>, Vec<u8>);
+
+/// Runs a translator on buffers that are lent without their margins.
+fn run_text(translate: Translate, text: &[u8], lent: &Lent) -> Translated {
+    let (mut faults, mut program) = lent.clone();
+    let verdict = translate(text, inside(&mut faults), inside(&mut program));
     (verdict, faults, program)
+}
+
+/// What is lent of a buffer.
+fn inside(buffer: &mut [u8]) -> &mut [u8] {
+    let end = buffer.len() - MARGIN;
+    &mut buffer[MARGIN..end]
+}
+
+/// Random bytes of random lengths to lend for a text.
+fn lent(random: &mut Random, text: &[u8]) -> Lent {
+    let rooms = rooms(random, text);
+    let faults = random.bytes(rooms.0 + 2 * MARGIN);
+    (faults, random.bytes(rooms.1 + 2 * MARGIN))
 }
 
 /// Random lengths to lend for a text.
 fn rooms(random: &mut Random, text: &[u8]) -> (usize, usize) {
+    let before = limits::FAULT_LIST_BEFORE;
     let faults = match random.below(24) {
-        0 => random.pick(&[0, 8, 1023, 1024, 2040, 2047]),
-        1 => random.range(2040, 2056),
-        2 | 3 => random.pick(&[2049, 2056, 3000, 4096]),
+        0 => random.pick(&[0, 8, before - 1, before, before + 8, FAULT_LIST - 1]),
+        1 => random.range(FAULT_LIST - 8, FAULT_LIST + 8),
+        2 | 3 => FAULT_LIST + random.pick(&[1, 8, 1000, FAULT_LIST]),
         _ => FAULT_LIST,
     };
-    let verdict = peer::translate(text, &mut [0; FAULT_LIST], &mut vec![0; 65_536]);
-    let needed = verdict.count as usize * 16;
+    let verdict = peer::translate(text, &mut [0; FAULT_LIST], &mut vec![0; MAX_PROGRAM]);
+    let needed = verdict.count as usize * RECORD;
     let program = match random.below(10) {
         0 if verdict.number == 0 => needed.saturating_sub(1),
         1 if verdict.number == 0 => needed.saturating_sub(random.range(1, 40)),
         2 | 3 if verdict.number == 0 => needed,
         4 if verdict.number == 0 => needed + random.range(1, 40),
-        _ if verdict.number == 8 => random.pick(&[65_535, 65_536, 65_551, 65_552, 66_000, 70_000]),
-        5 => random.pick(&[0, 15, 16, 100, 4096, 65_520, 65_535]),
-        6 => 70_000,
-        _ => 65_536,
+        _ if verdict.number == 8 => MAX_PROGRAM + random.pick(&[0, 1, 16, 17, 465, 4465]) - 1,
+        5 => random.pick(&[0, 15, 16, 100, 4096, MAX_PROGRAM - 16, MAX_PROGRAM - 1]),
+        6 => MAX_PROGRAM + 4464,
+        _ => MAX_PROGRAM,
     };
     (faults, program)
 }
@@ -205,32 +243,35 @@ fn rooms(random: &mut Random, text: &[u8]) -> (usize, usize) {
 fn check_text(seed: u64, case: u64, counts: &mut Counts) -> bool {
     let mut random = Random::new(seed, case * 2);
     let text = texts::text(&mut random);
-    let rooms = rooms(&mut random, &text);
-    let pattern = random.word();
-    let ours = run_text(peer::translate, &text, rooms, pattern);
-    let theirs = run_text(library::translate, &text, rooms, pattern);
+    let lent = lent(&mut random, &text);
+    let both = |text: &[u8]| {
+        let ours = run_text(peer::translate, text, &lent);
+        (ours, run_text(library::translate, text, &lent))
+    };
+    let (ours, theirs) = both(&text);
     count_text(&text, &ours, counts);
     if ours == theirs {
-        return check_comment(&mut random, case, &text, rooms, counts)
+        return check_comment(&mut random, case, &text, (&lent, theirs), counts)
             || check_orders(&mut random, case, &text, counts);
     }
     let differs = |text: &[u8]| {
-        run_text(peer::translate, text, rooms, pattern)
-            != run_text(library::translate, text, rooms, pattern)
+        let (ours, theirs) = both(text);
+        ours != theirs
     };
     let text = shrink(text, 1, differs);
-    println!(
-        "DIFFERENCE in text of case {case}, lent {} and {} bytes",
-        rooms.0, rooms.1
-    );
+    println!("DIFFERENCE in text of case {case}, {}", lengths(&lent));
     println!("text: {}", text.escape_ascii());
     println!("hex: {}", hex(&text));
-    show_text("peer", &run_text(peer::translate, &text, rooms, pattern));
-    show_text(
-        "library",
-        &run_text(library::translate, &text, rooms, pattern),
-    );
+    let (ours, theirs) = both(&text);
+    show_text("peer", &ours);
+    show_text("library", &theirs);
     true
+}
+
+/// How much is lent.
+fn lengths((faults, program): &Lent) -> String {
+    let room = |buffer: &[u8]| buffer.len() - 2 * MARGIN;
+    format!("lent {} and {} bytes", room(faults), room(program))
 }
 
 /// Counts what a text is and what it gave.
@@ -266,13 +307,18 @@ fn count_text(text: &[u8], translated: &Translated, counts: &mut Counts) {
             *counts.places.entry(place).or_default() += 1;
         }
     }
+    if number == 0 {
+        for size in limits::sizes(text) {
+            *counts.sizes.entry(size).or_default() += 1;
+        }
+    }
 }
 
 /// The length of what is written to the fault list and to the program.
 fn written(verdict: Verdict) -> (usize, usize) {
     let count = verdict.count as usize;
     match verdict.number {
-        0 => (0, count * 16),
+        0 => (0, count * RECORD),
         5 | 7 => (count * FAULT, 0),
         _ => (0, 0),
     }
@@ -294,41 +340,35 @@ fn check_comment(
     random: &mut Random,
     case: u64,
     text: &[u8],
-    rooms: (usize, usize),
+    (lent, before): (&Lent, Translated),
     counts: &mut Counts,
 ) -> bool {
     let place = comments::place(random, text);
     let card = comments::comment(random);
-    let pattern = random.word();
-    let both = |text: &[u8]| {
+    let with = |text: &[u8]| {
         let longer = comments::put_in(text, place, &card);
-        let before = run_text(library::translate, text, rooms, pattern);
-        let after = run_text(library::translate, &longer, rooms, pattern);
-        (before, after)
+        run_text(library::translate, &longer, lent)
     };
-    let (before, after) = both(text);
+    let without = |text: &[u8]| run_text(library::translate, text, lent);
+    let after = with(text);
     let number = after.0.number;
     if !changes(before, after, place) {
         let inside = comments::is_inside(text, place);
         *counts.put_in.entry((number, inside)).or_default() += 1;
         return false;
     }
-    let differs = |text: &[u8]| {
-        let (before, after) = both(text);
-        changes(before, after, place)
-    };
+    let differs = |text: &[u8]| changes(without(text), with(text), place);
     let text = shrink(text.to_vec(), 1, differs);
     println!(
-        "DIFFERENCE by a comment in text of case {case}, lent {} and {} bytes",
-        rooms.0, rooms.1
+        "DIFFERENCE by a comment in text of case {case}, {}",
+        lengths(lent)
     );
     let longer = comments::put_in(&text, place, &card);
     println!("text: {}", text.escape_ascii());
     println!("with the comment: {}", longer.escape_ascii());
     println!("hex: {} and {}", hex(&text), hex(&longer));
-    let (before, after) = both(&text);
-    show_text("without", &before);
-    show_text("with", &after);
+    show_text("without", &without(&text));
+    show_text("with", &with(&text));
     true
 }
 
@@ -350,7 +390,7 @@ fn moved((verdict, mut faults, mut program): Translated, place: usize) -> Transl
             fault[at..at + 2].copy_from_slice(&line.to_le_bytes());
         }
     }
-    for record in program[MARGIN..MARGIN + recorded].chunks_exact_mut(16) {
+    for record in program[MARGIN..MARGIN + recorded].chunks_exact_mut(RECORD) {
         let line = u32::from_le_bytes(record[4..8].try_into().unwrap());
         let line = line + (line as usize > place) as u32;
         record[4..8].copy_from_slice(&line.to_le_bytes());
@@ -403,9 +443,9 @@ fn show_text(who: &str, translated: &Translated) {
 /// A random length to lend for values or derivatives.
 fn room(random: &mut Random) -> usize {
     match random.below(40) {
-        0 => random.pick(&[0, 1, 254, 255]),
-        1..=4 => random.pick(&[257, 300]),
-        _ => 256,
+        0 => random.pick(&[0, 1, before::SLOTS, SLOTS - 2, SLOTS - 1]),
+        1..=4 => SLOTS + random.pick(&[1, 276]),
+        _ => SLOTS,
     }
 }
 
@@ -438,19 +478,22 @@ fn check_program(seed: u64, case: u64, counts: &mut Counts) -> bool {
     *counts.answers.entry(number).or_default() += 1;
     if let (3 | 4, Err(refusal)) = (number, peer::judge_reason(&program)) {
         *counts.reasons.entry(refusal.reason).or_default() += 1;
-        let kind = refusal.record.map(|record| program[record as usize * 16]);
+        let kind = refusal
+            .record
+            .map(|record| program[record as usize * RECORD]);
         if kind == Some(15) {
             *counts.again.entry(refusal.reason).or_default() += 1;
         }
     }
     if agree(&ours, &theirs, alike) {
-        return false;
+        return rooms == (SLOTS, SLOTS)
+            && check_before(case, &program, &acts, (&lent, &theirs), counts);
     }
     let differs = |program: &[u8]| {
         let (ours, theirs) = both(program);
         !agree(&ours, &theirs, alike)
     };
-    let program = shrink(program, 16, differs);
+    let program = shrink(program, RECORD, differs);
     println!(
         "DIFFERENCE in program of case {case}, lent {} values and {} derivatives",
         rooms.0, rooms.1
@@ -458,6 +501,34 @@ fn check_program(seed: u64, case: u64, counts: &mut Counts) -> bool {
     runs::show_records(&program);
     let (ours, theirs) = both(&program);
     runs::show(&acts, ["peer", "library"], [&ours, &theirs], alike);
+    true
+}
+
+/// Compares what the library left of a program of before, with just the places
+/// of now, with what the peer leaves with the slots of before; true if it is not
+/// as it must be.
+fn check_before(
+    case: u64,
+    program: &[u8],
+    acts: &[Act],
+    (lent, theirs): (&Buffers, &Evaluated),
+    counts: &mut Counts,
+) -> bool {
+    let of_before = before::is_of_before(program);
+    let accepted = theirs[0].0.number == 0;
+    *counts.slots.entry((of_before, accepted)).or_default() += 1;
+    let few = |program: &[u8]| before::run_before(program, acts, lent);
+    if !of_before || before::agree(&few(program), theirs, lent) {
+        return false;
+    }
+    let all = |program: &[u8]| run(&LIBRARY, program, acts, lent);
+    let differs = |program: &[u8]| {
+        before::is_of_before(program) && !before::agree(&few(program), &all(program), lent)
+    };
+    let program = shrink(program.to_vec(), RECORD, differs);
+    println!("DIFFERENCE in program of case {case}, whose slots are all of before");
+    runs::show_records(&program);
+    before::show(acts, &few(&program), &all(&program), lent);
     true
 }
 
