@@ -102,18 +102,24 @@ fn cases() -> Vec<Case> {
     let wide = program_of(&wide_deck());
     let tank_program = program_of(&tank);
     let records = wide.len() / RECORD;
+    let full_tank = full_tank();
+    let full_tank_program = program_of(&full_tank);
     vec![
         translate_case("translate: tank", tank),
         translate_case("translate: 255 long expressions", long_deck()),
-        translate_case("translate: reversed chain of 255", reversed_chain()),
+        translate_case("translate: reversed chain of 255", reversed_chain(255)),
         translate_case("translate: fault in each of 256 statements", faulty_deck()),
         translate_case("translate: blocks", blocks_deck()),
         translate_case("translate: numbers, k -22 to 22", exponents_deck(-22, 22)),
         translate_case("translate: numbers, k -9 to 3", exponents_deck(-9, 3)),
+        translate_case("translate: reversed chain of 511", reversed_chain(511)),
+        translate_case("translate: full tank", full_tank),
         evaluate_case("evaluate: tank", tank_program.clone()),
         evaluate_case(&format!("evaluate: {records} records"), wide.clone()),
         step_case("step: tank", tank_program),
         step_case(&format!("step: {records} records"), wide),
+        evaluate_case("evaluate: full tank", full_tank_program.clone()),
+        step_case("step: full tank", full_tank_program),
     ]
 }
 
@@ -226,7 +232,7 @@ fn step_case(name: &str, program: Vec<u8>) -> Case {
 fn program_of(text: &[u8]) -> Vec<u8> {
     let mut program = vec![0; MAX_PROGRAM];
     let verdict = peer::translate(text, &mut [0; FAULT_LIST], &mut program);
-    assert_eq!(verdict.number, 0);
+    assert_eq!(verdict.number, 0, "a deck is refused: {verdict:?}");
     program.truncate(verdict.count as usize * RECORD);
     program
 }
@@ -265,10 +271,10 @@ fn in_order_of_names(text: &str) -> Vec<u8> {
     text.into_bytes()
 }
 
-/// 255 assignments, each using the next one in the text.
-fn reversed_chain() -> Vec<u8> {
+/// So many assignments, each using the next one in the text.
+fn reversed_chain(count: usize) -> Vec<u8> {
     let mut text = String::new();
-    for i in (1..255).rev() {
+    for i in (1..count).rev() {
         text.push_str(&format!("A{i}=A{}+1\n", i - 1));
     }
     text.push_str("A0=TIME\n");
@@ -365,6 +371,15 @@ fn exponents_deck(least: i32, most: i32) -> Vec<u8> {
     }
     program_of(text.as_bytes());
     text.into_bytes()
+}
+
+/// The deck of the full tank; without it there is nothing to measure.
+fn full_tank() -> Vec<u8> {
+    let path = concat!(env!("CARGO_MANIFEST_DIR"), "/../../examples/full_tank.deck");
+    std::fs::read(path).unwrap_or_else(|error| {
+        eprintln!("bench: examples/full_tank.deck of this repository is needed: {error}");
+        std::process::exit(1);
+    })
 }
 
 /// A deck whose program has about 300 records.
