@@ -41,6 +41,7 @@ fn main() {
     let mut t = tally::none();
     t = listed(t, b"tank.deck", b"tank.listing");
     t = listed(t, b"furnace.deck", b"furnace.listing");
+    t = listed(t, b"full_tank.deck", b"full_tank.listing");
     t = listed(t, b"grammar.deck", b"grammar.listing");
     t = listed(t, b"long-name.deck", b"long-name.listing");
     t = listed(t, b"long-run.deck", b"long-run.listing");
