@@ -19,11 +19,19 @@ static double values[FLOESEDGE_SLOTS];
 static double derivs[FLOESEDGE_SLOTS];
 static char names[FLOESEDGE_SLOTS][8] = {"TIME"};
 
+static int slot_of(const char *name, size_t slots) {
+    for (size_t s = 0; s < slots; s++)
+        if (strcmp(names[s], name) == 0) return (int)s;
+    return -1;
+}
+
 /* Names the slots of a text that was translated, and counts them. There every '=' outside a comment stands behind the
- * name that it defines, and slots follow the order of definitions. */
+ * name that it defines, but for that of a block's header, and slots follow the order of definitions. A name that a
+ * block sets again has its slot already. */
 static size_t name_slots(const uint8_t *from, size_t len) {
     const uint8_t *stop = from + len;
     size_t slots = 1;
+    int header = 0;
     char word[8] = "";
     while (from < stop) {
         const uint8_t *end = memchr(from, '\n', (size_t)(stop - from));
@@ -35,7 +43,12 @@ static size_t name_slots(const uint8_t *from, size_t len) {
                     if (n == 0) memset(word, 0, sizeof word);
                     if (n < sizeof word - 1) word[n++] = (char)*p;
                 } else {
-                    if (*p == '=' && slots < FLOESEDGE_SLOTS) memcpy(names[slots++], word, sizeof word);
+                    if (strcmp(word, "PROCED") == 0) header = 1;
+                    if (*p == '=') {
+                        int fresh = !header && slot_of(word, slots) < 0;
+                        if (fresh && slots < FLOESEDGE_SLOTS) memcpy(names[slots++], word, sizeof word);
+                        header = 0;
+                    }
                     n = 0;
                 }
             }
@@ -43,12 +56,6 @@ static size_t name_slots(const uint8_t *from, size_t len) {
         from = end < stop ? end + 1 : stop;
     }
     return slots;
-}
-
-static int slot_of(const char *name, size_t slots) {
-    for (size_t s = 0; s < slots; s++)
-        if (strcmp(names[s], name) == 0) return (int)s;
-    return -1;
 }
 
 static int is_number(const char *word, double *out) {
