@@ -28,15 +28,15 @@ extern "C" {
 /* ---- sizes */
 
 enum {
-    FLOESEDGE_FAULT_ROOM = 2048,    /* bytes to lend for the fault list; fewer is verdict 1 */
+    FLOESEDGE_FAULT_ROOM = 4096,    /* bytes to lend for the fault list; fewer is verdict 1 */
     FLOESEDGE_PROGRAM_ROOM = 65536, /* bytes that hold every program: 4,096 records */
-    FLOESEDGE_SLOTS = 256,          /* places to lend in values and in derivs; fewer is answer 1 */
+    FLOESEDGE_SLOTS = 1024,         /* places to lend in values and in derivs; fewer is answer 1 */
     FLOESEDGE_RECORD_BYTES = 16,
     FLOESEDGE_FAULT_BYTES = 8,
-    FLOESEDGE_MOST_TEXT_BYTES = 16384,
-    FLOESEDGE_MOST_LINES = 512,
-    FLOESEDGE_MOST_STATEMENTS = 256,
-    FLOESEDGE_MOST_DEFINITIONS = 255,
+    FLOESEDGE_MOST_TEXT_BYTES = 32768,
+    FLOESEDGE_MOST_LINES = 1024,
+    FLOESEDGE_MOST_STATEMENTS = 512,
+    FLOESEDGE_MOST_DEFINITIONS = 1023,
     FLOESEDGE_MOST_RECORDS = 4096
 };
 
@@ -44,12 +44,12 @@ enum {
 
 enum {
     FLOESEDGE_TRANSLATED = 0,           /* the program is written, count is its records */
-    FLOESEDGE_FAULT_LIST_SHORT = 1,     /* fewer than 2,048 bytes lent for the fault list */
-    FLOESEDGE_TEXT_TOO_LONG = 2,        /* over 16,384 bytes */
-    FLOESEDGE_TOO_MANY_LINES = 3,       /* over 512 */
-    FLOESEDGE_TOO_MANY_STATEMENTS = 4,  /* over 256 */
+    FLOESEDGE_FAULT_LIST_SHORT = 1,     /* fewer than 4,096 bytes lent for the fault list */
+    FLOESEDGE_TEXT_TOO_LONG = 2,        /* over 32,768 bytes */
+    FLOESEDGE_TOO_MANY_LINES = 3,       /* over 1,024 */
+    FLOESEDGE_TOO_MANY_STATEMENTS = 4,  /* over 512 */
     FLOESEDGE_STATEMENT_FAULTS = 5,     /* the fault list is written (codes 11 to 19), count is its faults */
-    FLOESEDGE_TOO_MANY_DEFINITIONS = 6, /* over 255, doubles counted */
+    FLOESEDGE_TOO_MANY_DEFINITIONS = 6, /* over 1,023, doubles counted */
     FLOESEDGE_MODEL_FAULTS = 7,         /* the fault list is written (codes 21 to 26), count is its faults */
     FLOESEDGE_PROGRAM_TOO_LARGE = 8     /* over 4,096 records, or over the bytes lent divided by 16 */
 };
@@ -123,7 +123,7 @@ enum {
 
 enum {
     FLOESEDGE_DONE = 0,
-    FLOESEDGE_ROOM_SHORT = 1,  /* values or derivs has fewer than 256 places */
+    FLOESEDGE_ROOM_SHORT = 1,  /* values or derivs has fewer than 1,024 places */
     FLOESEDGE_BAD_LENGTH = 2,  /* the program is no multiple of 16 bytes, or over 4,096 records */
     FLOESEDGE_BAD_RECORD = 3,  /* record is the number of the first bad one, from 0 */
     FLOESEDGE_BAD_END = 4      /* a value is left on the stack, or a state has no derivative */
@@ -143,9 +143,9 @@ floesedge_verdict floesedge_translate(const uint8_t *text, size_t text_len,
                                       uint8_t *program, size_t program_len);
 
 /* For the three below: program_len is the length of the program alone, count times 16 of the verdict, and not of the
- * buffer it stands in. An answer other than 0 writes nothing. Every program of a verdict 0 is accepted. Places past 256
- * stay as they were. The order of a program's statements is free as far as each stands after all it uses: what moves
- * whole, and that every value stays the same, is in docs/MANUAL.md, 'Putting a program into another order'. */
+ * buffer it stands in. An answer other than 0 writes nothing. Every program of a verdict 0 is accepted. Places past
+ * 1,024 stay as they were. The order of a program's statements is free as far as each stands after all it uses: what
+ * moves whole, and that every value stays the same, is in docs/MANUAL.md, 'Putting a program into another order'. */
 
 /* Evaluates: reads slot 0 and the states, writes the constants and the assigned names to values, and each state's
  * derivative to derivs. Other places stay. */

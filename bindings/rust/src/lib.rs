@@ -42,19 +42,19 @@ pub const FAULT_ROOM: usize = MOST_STATEMENTS * FAULT_BYTES;
 /// Bytes that hold every program.
 pub const PROGRAM_ROOM: usize = MOST_RECORDS * RECORD_BYTES;
 /// Places to lend in values and in derivatives; fewer is answer 1.
-pub const SLOTS: usize = 256;
+pub const SLOTS: usize = 1024;
 /// Bytes of a record.
 pub const RECORD_BYTES: usize = 16;
 /// Bytes of a fault.
 pub const FAULT_BYTES: usize = 8;
 /// Most bytes of a text.
-pub const MOST_TEXT_BYTES: usize = 16_384;
+pub const MOST_TEXT_BYTES: usize = 32_768;
 /// Most lines of a text.
-pub const MOST_LINES: usize = 512;
+pub const MOST_LINES: usize = 1024;
 /// Most statements of a text.
-pub const MOST_STATEMENTS: usize = 256;
+pub const MOST_STATEMENTS: usize = 512;
 /// Most definitions of a text.
-pub const MOST_DEFINITIONS: usize = 255;
+pub const MOST_DEFINITIONS: usize = 1023;
 /// Most records of a program.
 pub const MOST_RECORDS: usize = 4096;
 
@@ -112,12 +112,12 @@ impl fmt::Display for Verdict {
         write!(f, "verdict {}: ", self.number())?;
         match self {
             Verdict::Translated { records } => write!(f, "translated, {records} records"),
-            Verdict::FaultListShort => f.write_str("the fault list lent has fewer than 2048 bytes"),
-            Verdict::TextTooLong => f.write_str("the text has more than 16384 bytes"),
-            Verdict::TooManyLines => f.write_str("the text has more than 512 lines"),
-            Verdict::TooManyStatements => f.write_str("the text has more than 256 statements"),
+            Verdict::FaultListShort => f.write_str("the fault list lent has fewer than 4096 bytes"),
+            Verdict::TextTooLong => f.write_str("the text has more than 32768 bytes"),
+            Verdict::TooManyLines => f.write_str("the text has more than 1024 lines"),
+            Verdict::TooManyStatements => f.write_str("the text has more than 512 statements"),
             Verdict::StatementFaults { faults } => write!(f, "statement faults, {faults} of them"),
-            Verdict::TooManyDefinitions => f.write_str("the text has more than 255 definitions"),
+            Verdict::TooManyDefinitions => f.write_str("the text has more than 1023 definitions"),
             Verdict::ModelFaults { faults } => write!(f, "model faults, {faults} of them"),
             Verdict::ProgramTooLarge => {
                 f.write_str("the program has more than 4096 records, or more than the bytes lent hold")
@@ -278,7 +278,7 @@ impl fmt::Display for Answer {
         write!(f, "answer {}: ", self.number())?;
         match self {
             Answer::Done => f.write_str("done"),
-            Answer::RoomShort => f.write_str("values or derivatives have fewer than 256 places"),
+            Answer::RoomShort => f.write_str("values or derivatives have fewer than 1024 places"),
             Answer::BadLength => f.write_str("the program is no multiple of 16 bytes, or has more than 4096 records"),
             Answer::BadRecord { record } => write!(f, "record {record} is bad"),
             Answer::BadEnd => f.write_str("the end finds a value on the stack, or a state without derivative"),

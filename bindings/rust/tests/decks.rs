@@ -62,6 +62,6 @@ fn decks_in(folder: &Path) -> usize {
 #[test]
 fn examples() {
     let examples = Path::new(env!("CARGO_MANIFEST_DIR")).join("../../examples");
-    assert!(decks_in(&examples) >= 2);
+    assert!(decks_in(&examples) >= 3);
     assert!(decks_in(&examples.join("refused")) >= 5);
 }

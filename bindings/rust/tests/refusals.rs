@@ -36,28 +36,30 @@ fn repeated(line: &str, times: usize) -> Vec<u8> {
 #[test]
 fn sizes() {
     let ok = |text: &[u8]| translated(text).0.number() == 0;
-    // 2: a comment of 16,384 bytes, and one byte more
-    assert!(ok(&repeated("*", 16_384)));
-    assert_eq!(translated(&repeated("*", 16_385)).0, Verdict::TextTooLong);
+    // 2: a comment of 32,768 bytes, and one byte more
+    assert!(ok(&repeated("*", 32_768)));
+    assert_eq!(translated(&repeated("*", 32_769)).0, Verdict::TextTooLong);
     // 3
-    assert!(ok(&repeated("\n", 512)));
-    assert_eq!(translated(&repeated("\n", 513)).0, Verdict::TooManyLines);
-    // 4 comes before 5: the statements are faulty, each
-    let (verdict, faults) = translated(&repeated("=\n", 256));
-    assert_eq!(verdict, Verdict::StatementFaults { faults: 256 });
+    assert!(ok(&repeated("\n", 1024)));
+    assert_eq!(translated(&repeated("\n", 1025)).0, Verdict::TooManyLines);
+    // 4 comes before 5: the statements are faulty, each, and 512 faults fill the list
+    let (verdict, faults) = translated(&repeated("=\n", 512));
+    assert_eq!(verdict, Verdict::StatementFaults { faults: 512 });
+    assert_eq!(512 * FAULT_BYTES, FAULT_ROOM);
     assert!(faults
         .iter()
         .zip(1..)
         .all(|(fault, line)| *fault == (line, 18, line, 1)));
-    assert_eq!(translated(&repeated("=\n", 257)).0, Verdict::TooManyStatements);
-    // 6 comes before 7: the definitions are doubles
-    let (verdict, faults) = translated(&repeated("A=1\n", 255));
-    assert_eq!(verdict, Verdict::ModelFaults { faults: 254 });
+    assert_eq!(translated(&repeated("=\n", 513)).0, Verdict::TooManyStatements);
+    // 6 comes before 7: the definitions are doubles, in 512 statements one and 511 times two, or 512 times two
+    let twice = |times: usize| repeated("CONST A=1,A=1\n", times);
+    let (verdict, faults) = translated(&[repeated("A=1\n", 1), twice(511)].concat());
+    assert_eq!(verdict, Verdict::ModelFaults { faults: 511 });
     assert!(faults
         .iter()
         .zip(2..)
         .all(|(fault, line)| *fault == (line, 21, line, 1)));
-    assert_eq!(translated(&repeated("A=1\n", 256)).0, Verdict::TooManyDefinitions);
+    assert_eq!(translated(&twice(512)).0, Verdict::TooManyDefinitions);
     // 8: A=1+1+..+1 with 66 ones writes 66 + 65 + 1 = 132 records; 32 such statements are 4,224
     let long = |n: usize| {
         (0..n)
@@ -68,11 +70,33 @@ fn sizes() {
     assert_eq!(translated(&long(32)).0, Verdict::ProgramTooLarge);
 }
 
+/// So many statements, each with two constants, and all names different.
+fn two_each(count: usize) -> String {
+    (0..count).map(|i| format!("CONST A{i}=1,B{i}=2\n")).collect()
+}
+
+#[test]
+fn last_slot() {
+    assert_eq!(translated(two_each(512).as_bytes()).0, Verdict::TooManyDefinitions);
+    // 1,022 constants; two pushes, a sum and the store of C, which has slot 1,023
+    let most = two_each(511) + "C=A0+B510\n";
+    let mut program = vec![LENT; PROGRAM_ROOM];
+    let verdict = translate(most.as_bytes(), &mut [0; FAULT_ROOM], &mut program);
+    assert_eq!(verdict, Verdict::Translated { records: 1022 + 4 });
+    let program = &program[..verdict.count() * RECORD_BYTES];
+    assert_eq!(program[1025 * RECORD_BYTES..][..4], [13, 0, 255, 3]);
+
+    let (mut values, mut derivs) = ([7.0; SLOTS + 1], [7.0; SLOTS + 1]);
+    assert_eq!(evaluate(program, &mut values, &mut derivs), Answer::Done);
+    assert_eq!(values[1021..], [1.0, 2.0, 3.0, 7.0]);
+    assert!(derivs.iter().all(|d| *d == 7.0));
+}
+
 #[test]
 fn fault_list_comes_first() {
-    assert_eq!(FAULT_ROOM, 2048);
+    assert_eq!(FAULT_ROOM, 4096);
     let (mut faults, mut program) = ([LENT; FAULT_ROOM], [LENT; 64]);
-    for text in [&b"A=1\n"[..], b"A=", &repeated("*", 16_385)] {
+    for text in [&b"A=1\n"[..], b"A=", &repeated("*", 32_769)] {
         assert_eq!(translate(text, &mut faults[1..], &mut program), Verdict::FaultListShort);
     }
     assert!(faults.iter().chain(&program).all(|b| *b == LENT));
@@ -166,7 +190,7 @@ fn places() {
 
 #[test]
 fn fault_bytes() {
-    let list = [44, 1, 18, 0, 46, 1, 72, 0, 0, 2, 13, 0, 0, 2, 1, 0];
+    let list = [44, 1, 18, 0, 46, 1, 72, 0, 0, 4, 13, 0, 0, 4, 1, 0];
     let faults: Vec<Fault> = faults_of(Verdict::StatementFaults { faults: 2 }, &list).collect();
     let fault = |line, code, place_line, column| Fault {
         line,
@@ -179,7 +203,7 @@ fn fault_bytes() {
         faults,
         [
             fault(300, Code::Grammar, 302, 72),
-            fault(512, Code::LineTooLong, 512, 1)
+            fault(1024, Code::LineTooLong, 1024, 1)
         ]
     );
     assert_eq!(
@@ -188,15 +212,15 @@ fn fault_bytes() {
     );
     assert_eq!(
         faults[1].to_string(),
-        "512:1: 13, a line of the statement, comments aside, has more than 72 bytes"
+        "1024:1: 13, a line of the statement, comments aside, has more than 72 bytes"
     );
 }
 
 /// A record of a kind and a slot; line and value are 0.
-fn record(kind: u8, slot: u8) -> [u8; RECORD_BYTES] {
+fn record(kind: u8, slot: u16) -> [u8; RECORD_BYTES] {
     let mut record = [0; RECORD_BYTES];
     record[0] = kind;
-    record[2] = slot;
+    record[2..4].copy_from_slice(&slot.to_le_bytes());
     record
 }
 
@@ -216,6 +240,7 @@ fn answered(program: &[u8]) -> Answer {
 fn answers() {
     let program = record(1, 5);
     assert_eq!(answered(&program), Answer::Done);
+    assert_eq!(SLOTS, 1024);
     let (mut values, mut derivs) = ([7.0; SLOTS], [7.0; SLOTS]);
     assert_eq!(evaluate(&program, &mut values[1..], &mut derivs), Answer::RoomShort);
     assert_eq!(evaluate(&program, &mut values, &mut derivs[1..]), Answer::RoomShort);
@@ -232,6 +257,8 @@ fn answers() {
         Answer::BadRecord { record: 67 }
     );
 
+    assert_eq!(answered(&record(1, 1023)), Answer::Done);
+    assert_eq!(answered(&record(1, 1024)), Answer::BadRecord { record: 0 });
     assert_eq!(answered(&record(16, 0)), Answer::BadRecord { record: 0 });
     // kind 15 stores again to a slot that kind 13 set
     let stored = [record(3, 0), record(13, 1)].concat();
@@ -282,9 +309,25 @@ fn words() {
         Verdict::Translated { records: 15 }.to_string(),
         "verdict 0: translated, 15 records"
     );
+    let sizes = [
+        (
+            Verdict::FaultListShort,
+            "1: the fault list lent has fewer than 4096 bytes",
+        ),
+        (Verdict::TextTooLong, "2: the text has more than 32768 bytes"),
+        (Verdict::TooManyLines, "3: the text has more than 1024 lines"),
+        (Verdict::TooManyStatements, "4: the text has more than 512 statements"),
+        (
+            Verdict::TooManyDefinitions,
+            "6: the text has more than 1023 definitions",
+        ),
+    ];
+    for (verdict, words) in sizes {
+        assert_eq!(verdict.to_string(), format!("verdict {words}"));
+    }
     assert_eq!(
-        Verdict::TextTooLong.to_string(),
-        "verdict 2: the text has more than 16384 bytes"
+        Answer::RoomShort.to_string(),
+        "answer 1: values or derivatives have fewer than 1024 places"
     );
     assert_eq!(Answer::BadRecord { record: 3 }.to_string(), "answer 3: record 3 is bad");
     assert_eq!(Code::Undefined.to_string(), "22, a name that nothing defines");
