@@ -7,7 +7,7 @@ use mathlib.Core.Logic.{⊎-elim}
 use native.Mathlib.Numerals.{add-one}
 use native.Mathlib.Omega.{arith}
 use borrow.Author.Tests.{eq-eqb, ne-eqb, not-true, not-false}
-use lib.Dec.{eqb, lit≤}
+use lib.Dec.{eqb, lit≤, lit<}
 use lib.ListN.{length}
 use Rattle.limits.specs.Limits.{slots, recordBytes}
 use Rattle.laws.specs.Counts.{once, count}
@@ -64,7 +64,7 @@ first p e =
 
 -- what is decoded has one of the slots
 pub ready : (p : List ℕ) (i : ℕ) {x : Instr} → i < length p / recordBytes → x ≡ decodedAt p i → operandOf x < slots
-ready p i h e = rw (e, decoded-at p i h) (slot-inside p (i * recordBytes))
+ready p i h e = rw (e, decoded-at p i h) (slot-inside p slots (i * recordBytes) (lit< tt))
 
 module _ {p l : List ℕ} {t : Reached} {i : ℕ} (a : Judging p l t i) where
   module _ {x : Instr} (h : i < length p / recordBytes) (e : x ≡ decodedAt p i) {u : Reached} {k : List ℕ}

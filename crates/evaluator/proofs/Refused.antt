@@ -11,8 +11,8 @@ use Rattle.records.specs.Record.{decoded}
 use Rattle.records.specs.Shape.{zero64}
 use Rattle.evaluator.specs.declared.Answer.{Answer}
 use Rattle.evaluator.specs.Machine.{Machine, begun}
-use Rattle.evaluator.specs.Evaluate.{refusal, runOutcome, unless, ran, evaluated, startAll, started, moveAll}
-use Rattle.evaluator.specs.Evaluate.{advanced, stepped, RefusedUnwritten}
+use Rattle.evaluator.specs.Evaluate.{refusal, runOutcome, unless, ran, evaluated, evaluatedWithin, startAll, started, startedWithin, moveAll}
+use Rattle.evaluator.specs.Evaluate.{advanced, stepped, steppedWithin, RefusedUnwritten}
 
 -- without an answer 0 the buffers stay
 unless-unwritten : (a : Answer) (v d : List Float) (m : Machine) → RefusedUnwritten v d (unless a v d m)
@@ -24,7 +24,7 @@ unless-unwritten a v d m =
 pub unwritten : (p : List ℕ) (h : Float) (v d : List Float)
     → RefusedUnwritten v d (evaluated p v d) × RefusedUnwritten v d (started p v d)
     × RefusedUnwritten v d (stepped p h v d)
-unfolding evaluated started stepped
+unfolding evaluatedWithin startedWithin steppedWithin
 unwritten p h v d =
     let m = ran p v d in
     let moved = advanced h (moveAll h (m .derivs) (m .values) (decoded p)) in

@@ -22,7 +22,7 @@ use Rattle.records.specs.Record.{decodeAt, decoded}
 use Rattle.records.proofs.LeftRecords.{left, left-all, left-next, left-none}
 use Rattle.evaluator.specs.Judge.{ruleOf, takes, gives, phaseOf}
 use Rattle.evaluator.specs.Evaluate.{ifInitial, eachState}
-use Rattle.evaluator.specs.Sound.{Sound}
+use Rattle.evaluator.specs.Sound.{Sound, SoundWithin}
 use Rattle.evaluator.specs.Reached.{Passes}
 use Rattle.evaluator.proofs.AcceptedSound.{sound-next}
 
@@ -80,7 +80,7 @@ module _ (f : List Float → ℕ → Float → List Float) where
 
   -- after phase 2 nothing is done
   late : (q h : ℕ) (v : List Float) (xs : List Instr) → 2 < q → Sound q h xs → v ≡ eachState f v xs
-  unfolding Sound eachState
+  unfolding SoundWithin eachState
   late q h v [] l s = refl
   late q h v (x ∷ xs) l s =
       let m : 2 < phaseOf x = omega (arith, s .0 .phase) in

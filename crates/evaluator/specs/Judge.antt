@@ -130,9 +130,12 @@ judged j x = judgedBy j (ruleOf (shapeOf x))
 
 -- ---- all records
 
--- at the beginning slot 0 is set, and no other
+-- at the beginning, with n slots: slot 0 is set, and no other
+abbrev pub judgeBegun : ℕ → Judge
+judgeBegun n = record { phase = 1; height = 0; marks = set (replicate n unsetMark) 0 givenMark }
+
 abbrev pub judge₀ : Judge
-judge₀ = record { phase = 1; height = 0; marks = set (replicate slots unsetMark) 0 givenMark }
+judge₀ = judgeBegun slots
 
 -- some slot is a state without derivative
 unfoldable pub anyOpen : List ℕ → Bool
@@ -151,5 +154,9 @@ judgeFrom i j (x ∷ xs) =
     let r = judgeFrom (suc i) (judged j x) xs in
     cond (good j x) r (answer 3 i)
 
+-- with n slots, and with those that there are
+abbrev pub judgeWithin : ℕ → List Instr → Answer
+judgeWithin n xs = judgeFrom 0 (judgeBegun n) xs
+
 abbrev pub judge : List Instr → Answer
-judge xs = judgeFrom 0 judge₀ xs
+judge xs = judgeWithin slots xs

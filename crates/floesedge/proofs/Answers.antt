@@ -13,7 +13,7 @@ use Rattle.limits.specs.Limits.{slots, recordBytes, mostRecords}
 use Rattle.laws.proofs.Bools.{or-false}
 use Rattle.laws.proofs.Tests.{cond-ind}
 use Rattle.records.specs.declared.Instr.{Instr}
-use Rattle.records.specs.Record.{decodeFrom, decoded}
+use Rattle.records.specs.Record.{decodeFrom, decodeFromWithin, decoded, decodedWithin}
 use Rattle.translator.specs.declared.Verdict.{Verdict}
 use Rattle.translator.specs.declared.Verdict.the-variants.{Faulty, Translated}
 use Rattle.translator.specs.Contract.{numberIn, countIn, Translates}
@@ -23,7 +23,7 @@ use Rattle.translator.specs.Verdict.{Translation, translation, verdictOf, count
 use Rattle.translator.proofs.Counted.{few, count-few}
 use Rattle.translator.proofs.Verdicts.{by-number}
 use Rattle.evaluator.specs.Judge.{Judge, answer, good, judged, anyOpen, judgeFrom}
-use Rattle.evaluator.specs.Evaluate.{RunOutcome, runOutcome, refusal, evaluated, started, stepped}
+use Rattle.evaluator.specs.Evaluate.{RunOutcome, runOutcome, refusal, refusalWithin, evaluatedWithin, startedWithin, steppedWithin}
 use Rattle.evaluator.specs.Contract.{Evaluated, Started, Stepped}
 use Rattle.evaluator.specs.declared.Answer.{Answer}
 
@@ -53,12 +53,12 @@ judge-small n i j (x ∷ xs) h =
     (λ _. (omega arith, omega arith))
 
 decode-many : (p : List ℕ) (i n : ℕ) → length (decodeFrom p i n) ≡ n
-unfolding decodeFrom
+unfolding decodeFromWithin
 decode-many p i zero = refl
 decode-many p i (suc n) = ap suc (decode-many p (suc i) n)
 
 refusal-small : (p : List ℕ) (v d : List Float) → Small mostRecords (refusal p v d)
-unfolding refusal decoded
+unfolding refusalWithin decodedWithin
 refusal-small p v d =
     cond-ind (Small mostRecords) (ltb (length v) slots || ltb (length d) slots) (answer 1 0) _
     (λ _. (omega arith, omega arith))
@@ -84,17 +84,17 @@ small-by p v d r e =
 
 module _ {p : List ℕ} {v d : List Float} {r : Answer} {v′ d′ : List Float} where
   pub evaluated-small : Evaluated p v d r v′ d′ → (r .number ≤ 4) × (r .place ≤ mostRecords)
-  unfolding evaluated
+  unfolding evaluatedWithin
   evaluated-small w =
       small-by p v d r (ap (λ (o : RunOutcome). o .answer) (w .meets) ∙ answer-kept (refusal p v d) v d _ _)
 
   pub started-small : Started p v d r v′ d′ → (r .number ≤ 4) × (r .place ≤ mostRecords)
-  unfolding started
+  unfolding startedWithin
   started-small w =
       small-by p v d r (ap (λ (o : RunOutcome). o .answer) (w .meets) ∙ answer-kept (refusal p v d) v d _ _)
 
   pub stepped-small : (h : Float) → Stepped p h v d r v′ d′ → (r .number ≤ 4) × (r .place ≤ mostRecords)
-  unfolding stepped
+  unfolding steppedWithin
   stepped-small h w =
       small-by p v d r (ap (λ (o : RunOutcome). o .answer) (w .meets) ∙ answer-kept (refusal p v d) v d _ _)
 

@@ -25,7 +25,7 @@ use Rattle.program.proofs.Counts.{count-of}
 use Rattle.translator.specs.Verdict.{translated, verdictOf}
 use Rattle.records.proofs.ReadBack.{length-program, program-back}
 use Rattle.evaluator.specs.Judge.{answer, judge}
-use Rattle.evaluator.specs.Evaluate.{refusal}
+use Rattle.evaluator.specs.Evaluate.{refusalWithin}
 use Rattle.meaning.specs.Statements.{slotOf}
 use Rattle.meaning.specs.BlockFunction.{BlockFunction}
 use Rattle.meaning.specs.Faithful.{Accepted}
@@ -81,7 +81,7 @@ module _ {text : List ℕ} {room : ℕ} {rs : List Rec} (c : Clear text room rs)
 
     -- they are whole records, and not too many
     pub not-refused : Accepted (programBytes ordered-recs)
-    unfolding refusal
+    unfolding refusalWithin
     not-refused v d roomy =
         let n = length-program ordered-recs in
         let e : length (programBytes ordered-recs) / recordBytes ≡ length ordered-recs = omega arith in

@@ -14,7 +14,7 @@ use Rattle.records.specs.Record.{Rec, programBytes, instrs, decoded}
 use Rattle.program.specs.Program.{program}
 use Rattle.translator.specs.Verdict.{Translation, translation}
 use Rattle.evaluator.specs.Machine.{Machine}
-use Rattle.evaluator.specs.Evaluate.{ran, evaluated, started, moveAll, advanced, stepped}
+use Rattle.evaluator.specs.Evaluate.{ran, evaluated, evaluatedWithin, started, startedWithin, moveAll, advanced, stepped, steppedWithin}
 use Rattle.meaning.specs.Statements.{slotAmong, Resolves, EachAsked, Solution, Stepping}
 use Rattle.meaning.specs.Recorded.{ConstantRecorded, AssignmentRecorded, StateRecorded, BlockRecorded}
 use Rattle.meaning.specs.Recorded.{NothingLost}
@@ -73,12 +73,12 @@ module _ {text : List ℕ} {room : ℕ} {rs : List Rec} (c : Clear text room rs)
 
       -- so evaluating leaves it
       evaluates : Evaluates text v d (evaluated (programBytes recs) v d)
-      unfolding evaluated
+      unfolding evaluatedWithin
       evaluates = rw (not-refused c q g v d roomy) (record { accepted = refl; solved = ran-solves })
 
       -- starting leaves the beginning
       starts : Starts text v d (started (programBytes recs) v d)
-      unfolding started
+      unfolding startedWithin
       starts =
           rw (not-refused c q g v d roomy, read-back c q g)
           (record {
@@ -89,7 +89,7 @@ module _ {text : List ℕ} {room : ℕ} {rs : List Rec} (c : Clear text room rs)
 
       -- a step goes on from the solution
       steps : (h : Float) → Steps text h v d (stepped (programBytes recs) h v d)
-      unfolding stepped
+      unfolding steppedWithin
       steps h =
           let moving : List Instr → List Float = λ (xs : List Instr). advanced h
           (moveAll h (end .derivs) (end .values) xs) in

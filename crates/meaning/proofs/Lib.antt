@@ -35,3 +35,4 @@ pub mod Cut
 pub mod Still
 pub mod ReSorted
 pub mod ReSortedBytes
+pub mod MoreSlots

@@ -25,7 +25,7 @@ use Rattle.evaluator.specs.declared.Answer.{Answer}
 use Rattle.evaluator.specs.Judge.{unsetMark, givenMark, phaseOf, judge₀, answer}
 use Rattle.evaluator.specs.Machine.{Machine, act, run, begun}
 use Rattle.evaluator.specs.Evaluate.{eachState, refusal, ran}
-use Rattle.evaluator.specs.Sound.{Sound}
+use Rattle.evaluator.specs.Sound.{Sound, SoundWithin}
 use Rattle.evaluator.proofs.EntryAnswers.{granted}
 use Rattle.evaluator.proofs.StatePasses.{late-shape}
 use Rattle.meaning.specs.Faithful.{HasSlots, Accepted}
@@ -114,13 +114,13 @@ other-late Bad t = omega arith
 
 -- and so is what stands behind it in a sound program
 late-on : (p k : ℕ) (xs : List Instr) → 2 < p → Sound p k xs → Every Late xs
-unfolding Sound
+unfolding SoundWithin
 late-on p k [] h s = tt
 late-on p k (x ∷ xs) h s =
     let l : Late x = omega (arith, s .0 .phase) in (l, late-on (phaseOf x) _ xs l (s .1))
 
 late-behind : (p k : ℕ) (xs : List Instr) → Sound p k xs → Every Late (laters xs)
-unfolding Sound frontRun
+unfolding SoundWithin frontRun
 late-behind p k [] s = tt
 late-behind p k (x ∷ xs) s =
     cond-ind (λ (l : List Instr). Every Late (drop (length l) (x ∷ xs))) (standsFirst x) (x ∷ firsts xs) []

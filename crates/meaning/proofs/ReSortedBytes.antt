@@ -1,31 +1,27 @@
 -- The records of a program, each with its bytes: what they hold, what a program made of them holds, and a program made
 -- of them in another order.
-use Prim.Native.Nat.{ℕ, zero, suc, _+_, _*_, _/_, _%_, _≤_, _<_}
+use Prim.Native.Nat.{ℕ, zero, suc, _+_, _*_, _/_, _≤_, _<_}
 use mathlib.Core.Path.{_≡_, refl, sym, ap, ap₂, subst, _∙_}
-use mathlib.Core.Bool.{Bool, false, not, _||_}
+use mathlib.Core.Bool.{Bool, false}
 use mathlib.Core.List.{List, [], _∷_, _++_, map, append-assoc}
 use native.Mathlib.Omega.{arith}
-use borrow.Author.Tests.{eqb-true, ltb-false}
-use lib.Dec.{eqb, ltb, lit<}
+use lib.Dec.{lit<}
 use lib.ListN.{length, getD, take, drop, length-append, length-map, length-drop}
 use lib.Seq.{getD-take, getD-drop, take-nil, take-take, drop-drop, take-at, drop-append-seam, length-take-le}
-use lib.Ieee.{Float}
-use Rattle.limits.specs.Limits.{slots, recordBytes, mostRecords}
+use Rattle.limits.specs.Limits.{slots, recordBytes}
 use Rattle.laws.specs.Every.{Every}
 use Rattle.laws.specs.Lists.{concat-map, numbers}
-use Rattle.laws.proofs.Tests.{cond-ind, or-blocked}
 use Rattle.laws.proofs.Every.{every-mapped}
 use Rattle.bits.specs.Low.{lowWord}
 use Rattle.order.specs.Order.{Permutation}
 use Rattle.records.specs.declared.Instr.{Instr}
 use Rattle.records.specs.declared.Instr.the-variants.{Constant, Initial, Value, Slot, Add, Sub, Mul, Div}
 use Rattle.records.specs.declared.Instr.the-variants.{Neg, Insw, Limit, Compar, Store, Deriv, StoreAgain, Bad}
-use Rattle.records.specs.Record.{field, decodeAt, decodeFrom, decoded}
+use Rattle.records.specs.Record.{field, decodeAt, decodeAtWithin, decodeFrom, decodeFromWithin, decoded, decodedWithin}
 use Rattle.records.specs.Shape.{shapeOf}
 use Rattle.evaluator.specs.declared.Answer.{Answer}
 use Rattle.evaluator.specs.Judge.{answer, judge}
-use Rattle.evaluator.specs.Evaluate.{refusal}
-use Rattle.evaluator.proofs.EntryAnswers.{by-judge}
+use Rattle.evaluator.proofs.EntryAnswers.{by-judge, answers-zero}
 use Rattle.meaning.specs.Faithful.{Accepted}
 use Rattle.meaning.specs.ReSorted.{standsFirst, endsStatement, NotAgain, recordsIn, instrIn, cutStatements}
 use Rattle.meaning.specs.ReSorted.{reSorted, NoAgain, ReSorts}
@@ -62,7 +58,7 @@ module _ (p : List ℕ) (o : ℕ) where
 
   -- it holds what the program holds there
   record-cut : decodeAt p o ≡ instrIn cut
-  unfolding decodeAt
+  unfolding decodeAtWithin
   record-cut =
       let e : o ≡ o + 0 = omega arith in
       let kind : getD p o 0 ≡ getD cut 0 0 = ap (λ i. getD p i 0) e ∙ byte-cut 0 (lit< tt) in
@@ -82,12 +78,12 @@ recordsFrom p i k = map (λ (i : ℕ). take recordBytes (drop (i * recordBytes) 
 
 -- they hold its instructions
 instrs-from : (p : List ℕ) (i k : ℕ) → map instrIn (recordsFrom p i k) ≡ decodeFrom p i k
-unfolding numbers decodeFrom
+unfolding numbers decodeFromWithin
 instrs-from p i zero = refl
 instrs-from p i (suc k) = ap₂ _∷_ (sym (record-cut p (i * recordBytes))) (instrs-from p (suc i) k)
 
 instrs-in : (p : List ℕ) → map instrIn (recordsIn p) ≡ decoded p
-unfolding decoded
+unfolding decodedWithin
 instrs-in p = instrs-from p 0 (length p / recordBytes)
 
 -- a record has all its bytes
@@ -118,7 +114,7 @@ joined-length (r ∷ rs) h = omega (arith, length-append r (joined rs), h .0, jo
 -- it holds what they hold: behind i records
 joined-from : (before : List ℕ) (i : ℕ) (rs : List (List ℕ)) → length before ≡ i * recordBytes → Every Whole rs
     → decodeFrom (before ++ joined rs) i (length rs) ≡ map instrIn rs
-unfolding decodeFrom concat-map
+unfolding decodeFromWithin concat-map
 joined-from before i [] e h = refl
 joined-from before i (r ∷ rs) e h =
     let all = before ++ (r ++ joined rs) in
@@ -132,27 +128,12 @@ joined-from before i (r ∷ rs) e h =
 
 -- and from the beginning
 joined-back : (rs : List (List ℕ)) → Every Whole rs → decoded (joined rs) ≡ map instrIn rs
-unfolding decoded
+unfolding decodedWithin
 joined-back rs h =
     let e : length (joined rs) / recordBytes ≡ length rs = omega (arith, joined-length rs h) in
     rw e (joined-from [] 0 rs refl h)
 
 -- ---- a program that is accepted
-
--- is one of whole records, and of not too many
-refusal-size : (p : List ℕ) (v d : List Float) → refusal p v d .number ≡ 0
-    → (length p % recordBytes ≡ 0) × (length p / recordBytes ≤ mostRecords)
-unfolding refusal
-refusal-size p v d =
-    let ragged = eqb (length p % recordBytes) 0 in
-    let P : Answer → Type 0 = λ (a : Answer). a .number ≡ 0
-    → (length p % recordBytes ≡ 0) × (length p / recordBytes ≤ mostRecords) in
-    cond-ind P (ltb (length v) slots || ltb (length d) slots) (answer 1 0) _ (λ _ e. absurd (omega arith))
-    (λ _. cond-ind P (not ragged || ltb mostRecords (length p / recordBytes)) (answer 2 0) (judge (decoded p))
-    (λ _ e. absurd (omega arith))
-    (λ t e.
-    let both = or-blocked ragged (ltb mostRecords (length p / recordBytes)) t in
-    (eqb-true (length p % recordBytes) 0 (both .0), ltb-false mostRecords (length p / recordBytes) (both .1))))
 
 -- what is not of kind 15 does not store again
 not-again : (x : Instr) → NotAgain x → storesAgain (shapeOf x) ≡ false
@@ -229,7 +210,8 @@ module _ (p q : List ℕ) (taken : Accepted p) (kinds : NoAgain p) (once : Permu
   -- and so is accepted
   accepted : Accepted (reSorted q p)
   accepted v d h =
-      let size = refusal-size p v d (ap (λ (a : Answer). a .number) (taken v d h)) in
+      let zero = answers-zero slots p v d (ap (λ (a : Answer). a .number) (taken v d h)) in
+      let few = zero .few in
       let n = as-long in
       sym (by-judge (reSorted q p) v d (answer 0 0) (h .values) (h .derivs) (omega arith) (sym judged) (omega arith))
 

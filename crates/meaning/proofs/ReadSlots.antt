@@ -1,24 +1,22 @@
 -- What evaluating reads and writes: two runs of an accepted program, side by side.
-use Prim.Native.Nat.{ℕ, suc, _/_, _%_, _≤_, _<_}
+use Prim.Native.Nat.{ℕ, suc, _≤_, _<_}
 use mathlib.Core.Path.{_≡_, refl, sym, ap, _∙_}
-use mathlib.Core.Bool.{not, _||_}
 use mathlib.Core.Logic.{_⊎_, inl, inr, ⊎-elim}
 use mathlib.Core.List.{List, [], _∷_, map, List·Memᴰ·head, List·Memᴰ·tail, List·Memᴰ·not-nil}
 use native.Mathlib.Omega.{arith}
-use lib.Dec.{eqb, ltb}
 use lib.ListN.{length, getD, replicate, length-set, length-replicate, getD-replicate, List·getD-eq-default}
 use lib.Ieee.{Float, nan}
-use Rattle.limits.specs.Limits.{slots, recordBytes, mostRecords}
-use Rattle.laws.proofs.Tests.{lt-or-ge, cond-ind}
+use Rattle.limits.specs.Limits.{slots}
+use Rattle.laws.proofs.Tests.{lt-or-ge}
 use Rattle.records.specs.declared.Instr.{Instr}
 use Rattle.records.specs.Record.{decoded}
 use Rattle.records.specs.Shape.{Shape, initial, shapeOf}
 use Rattle.evaluator.specs.declared.Answer.{Answer}
 use Rattle.evaluator.specs.Judge.{unsetMark, givenMark, Judge, judged, judge₀, answer, judgeFrom, judge}
 use Rattle.evaluator.specs.Machine.{Machine, run, begun, act}
-use Rattle.evaluator.specs.Evaluate.{runOutcome, refusal, ran, evaluated}
-use Rattle.evaluator.specs.Sound.{Sound}
-use Rattle.evaluator.proofs.EntryAnswers.{granted}
+use Rattle.evaluator.specs.Evaluate.{runOutcome, refusal, ran, evaluated, evaluatedWithin}
+use Rattle.evaluator.specs.Sound.{Sound, SoundWithin}
+use Rattle.evaluator.proofs.EntryAnswers.{answers-zero, granted}
 use Rattle.meaning.specs.ReadSlots.{shapes, StateSlot, SetSlot, DerivedSlot, Same, SameRead}
 use Rattle.meaning.specs.ReadSlots.{OthersStay, ReadsStates}
 use Rattle.meaning.proofs.Acted.{top, run-next, acted-long, acted-stays, Roomy, acted-roomy, Marked}
@@ -42,7 +40,7 @@ pub alike-run : (xs : List Instr) (i p k : ℕ) (j : Judge) (m n : Machine) → 
     → (q : ℕ)
     → (Same (m .values) (n .values) q ⊎ SetSlot (map shapeOf xs) q → Same (run m xs .values) (run n xs .values) q)
     × (Same (m .derivs) (n .derivs) q ⊎ DerivedSlot (map shapeOf xs) q → Same (run m xs .derivs) (run n xs .derivs) q)
-unfolding run Sound
+unfolding run SoundWithin
 alike-run [] i p k j m n e s r a f q =
     (⊎-elim (λ z. z) (λ z. absurd (set-none q z)), ⊎-elim (λ z. z) (λ z. absurd (List·Memᴰ·not-nil z)))
 alike-run (x ∷ xs) i p k j m n e s r a f q =
@@ -93,13 +91,7 @@ run-stays (x ∷ xs) m q =
 
 -- an accepted program is accepted by the judge
 pub refusal-judge : (p : List ℕ) (v d : List Float) → refusal p v d .number ≡ 0 → judge (decoded p) .number ≡ 0
-unfolding refusal
-refusal-judge p v d =
-    cond-ind (λ (a : Answer). a .number ≡ 0 → judge (decoded p) .number ≡ 0)
-    (ltb (length v) slots || ltb (length d) slots) (answer 1 0) _ (λ _ e. absurd (omega arith))
-    (λ _. cond-ind (λ (a : Answer). a .number ≡ 0 → judge (decoded p) .number ≡ 0)
-    (not (eqb (length p % recordBytes) 0) || ltb mostRecords (length p / recordBytes)) (answer 2 0) (judge (decoded p))
-    (λ _ e. absurd (omega arith)) (λ _ e. e))
+refusal-judge p v d e = answers-zero slots p v d e .judged
 
 -- at the beginning slot 0 alone is marked
 pub begun-marked : (q : ℕ) → Marked (judge₀ .marks) q → q ≡ 0
@@ -114,7 +106,7 @@ begun-marked q u =
 module _ (p : List ℕ) (v d : List Float) (accepted : refusal p v d ≡ answer 0 0) where
   -- evaluating is the run
   pub evaluated-ran : evaluated p v d ≡ runOutcome (answer 0 0) (ran p v d .values) (ran p v d .derivs)
-  unfolding evaluated
+  unfolding evaluatedWithin
   evaluated-ran = rw accepted
 
   -- what is read is not set

@@ -11,11 +11,11 @@ use Rattle.records.specs.Record.{decoded}
 use Rattle.records.specs.Shape.{zero64}
 use Rattle.evaluator.specs.Judge.{answer}
 use Rattle.evaluator.specs.Machine.{Machine, begun}
-use Rattle.evaluator.specs.Evaluate.{RunOutcome, runOutcome, refusal, unless, ran, evaluated, eachState, startAll}
-use Rattle.evaluator.specs.Evaluate.{started, moveAll, advanced, stepped}
+use Rattle.evaluator.specs.Evaluate.{RunOutcome, runOutcome, refusal, unless, ran, evaluated, evaluatedWithin, eachState, startAll}
+use Rattle.evaluator.specs.Evaluate.{started, startedWithin, moveAll, advanced, stepped, steppedWithin}
 use Rattle.evaluator.proofs.EntryAnswers.{short-values, short-derivs}
 use Rattle.meaning.specs.Faithful.{HasSlots, Accepted}
-use Rattle.meaning.specs.RunsAlike.{walked, RunsAlike}
+use Rattle.meaning.specs.RunsAlike.{walked, walkedWithin, RunsAlike}
 use Rattle.meaning.proofs.ReadSlots.{run-long}
 
 -- two machines end with the same in both buffers
@@ -68,18 +68,18 @@ module _ (p r : List ℕ) (taken : Accepted p) (taken-too : Accepted r) where
   module _ (run-same : (v d : List Float) → HasSlots v d → SameEnds (ran p v d) (ran r v d)) (states : SameStates p r)
     where
       evaluate-same : (v d : List Float) → evaluated p v d ≡ evaluated r v d
-      unfolding evaluated
+      unfolding evaluatedWithin
       evaluate-same v d = unless-same v d (ran p v d) (ran r v d) (run-same v d)
 
       start-same : (v d : List Float) → started p v d ≡ started r v d
-      unfolding started
+      unfolding startedWithin
       start-same v d =
           let v₀ = set v 0 zero64 in
           unless-same v d (begun (startAll v₀ (decoded p)) d) (begun (startAll v₀ (decoded r)) d)
           (λ h. record { values = states (λ a s x. x) v₀ (rw length-set (h .values)); derivs = refl })
 
       step-same : (h : Float) (v d : List Float) → stepped p h v d ≡ stepped r h v d
-      unfolding stepped
+      unfolding steppedWithin
       step-same h v d =
           let m = ran p v d in
           let n = ran r v d in
@@ -95,7 +95,7 @@ module _ (p r : List ℕ) (taken : Accepted p) (taken-too : Accepted r) where
           record { values = ap (advanced h) (moved ∙ other); derivs = ends .derivs })
 
       walk-same : (hs : List Float) (o : RunOutcome) → walked p hs o ≡ walked r hs o
-      unfolding walked
+      unfolding walkedWithin
       walk-same [] o = refl
       walk-same (h ∷ hs) o =
           ap (walked p hs) (step-same h (o .values) (o .derivs)) ∙ walk-same hs (stepped r h (o .values) (o .derivs))

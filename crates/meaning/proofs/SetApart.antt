@@ -20,7 +20,7 @@ use Rattle.records.specs.Shape.{Shape, constant, initial, push, fold, store, de
 use Rattle.evaluator.specs.declared.Answer.{Answer}
 use Rattle.evaluator.specs.Judge.{unsetMark, givenMark, stateMark, derivedMark, storedMark}
 use Rattle.evaluator.specs.Judge.{ruleOf, takes, gives, phaseOf, Judge, good, judged, answer, judgeFrom}
-use Rattle.evaluator.specs.Sound.{Sound}
+use Rattle.evaluator.specs.Sound.{Sound, SoundWithin}
 use Rattle.meaning.specs.ReadSlots.{StateSlot, SetSlot, DerivedSlot}
 use Rattle.meaning.proofs.Acted.{Marked}
 
@@ -277,7 +277,7 @@ state-apart (x ∷ xs) i j a q b y z =
 -- the slot of a record of a sound program is one of the slots
 pub slot-below : (xs : List Instr) (p k : ℕ) → Sound p k xs → (h : Shape) → List·Memᴰ h (map shapeOf xs)
     → fieldsOf h .operand < slots
-unfolding Sound
+unfolding SoundWithin
 slot-below [] p k s h z = absurd (List·Memᴰ·not-nil z)
 slot-below (x ∷ xs) p k s h z =
     ⊎-elim (λ (e : h ≡ shapeOf x). rw e (s .0 .slot)) (λ t. slot-below xs _ _ (s .1) h t) (List·Memᴰ·cases-cons z)

@@ -25,7 +25,7 @@ use Rattle.evaluator.specs.declared.Answer.{Answer}
 use Rattle.evaluator.specs.Judge.{givenMark, derivedMark, storedMark, ruleOf, Judge, judged, anyOpen}
 use Rattle.evaluator.specs.Judge.{answer, judgeFrom}
 use Rattle.evaluator.specs.Machine.{Machine, act, run, begun}
-use Rattle.evaluator.specs.Sound.{Sound}
+use Rattle.evaluator.specs.Sound.{Sound, SoundWithin}
 use Rattle.meaning.specs.ReadSlots.{Same}
 use Rattle.meaning.specs.ReSorted.{beforeParts, cutBehind, standsFirst, endsStatement}
 use Rattle.meaning.proofs.Acted.{top, run-next, Marked}
@@ -190,7 +190,7 @@ module _ (v d : List Float) (lv : slots ≤ length v) (ld : slots ≤ length d) 
   -- one record further on
   quiet-next : (i : ℕ) (j : Judge) (m : Machine) (x : Instr) (xs : List Instr) → Quiet i j m (x ∷ xs)
       → Quiet (suc i) (judged j x) (act m (shapeOf x)) xs
-  unfolding Sound
+  unfolding SoundWithin
   quiet-next i j m x xs q =
       let h = shapeOf x in
       let n = act m h in

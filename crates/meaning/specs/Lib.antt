@@ -7,5 +7,6 @@ pub mod Faithful
 pub mod RunsAlike
 pub mod AnyOrder
 pub mod ReSorted
+pub mod MoreSlots
 pub mod ReadSlots
 pub mod Depth

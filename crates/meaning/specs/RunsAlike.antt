@@ -3,12 +3,17 @@ use Prim.Native.Nat.{ℕ}
 use mathlib.Core.Path.{_≡_}
 use mathlib.Core.List.{List, [], _∷_}
 use lib.Ieee.{Float}
-use Rattle.evaluator.specs.Evaluate.{RunOutcome, evaluated, started, stepped}
+use Rattle.limits.specs.Limits.{slots}
+use Rattle.evaluator.specs.Evaluate.{RunOutcome, evaluated, started, stepped, steppedWithin}
 
--- steps of a program one after the other, each of its own h, each from what the one before it left
-unfoldable pub walked : List ℕ → List Float → RunOutcome → RunOutcome
-walked p [] o = o
-walked p (h ∷ hs) o = walked p hs (stepped p h (o .values) (o .derivs))
+-- with n slots, steps of a program one after the other, each of its own h, each from what the one before it left
+unfoldable pub walkedWithin : ℕ → List ℕ → List Float → RunOutcome → RunOutcome
+walkedWithin n p [] o = o
+walkedWithin n p (h ∷ hs) o = walkedWithin n p hs (steppedWithin n p h (o .values) (o .derivs))
+
+-- with the slots that there are
+abbrev pub walked : List ℕ → List Float → RunOutcome → RunOutcome
+walked p hs o = walkedWithin slots p hs o
 
 -- from every lent values and derivatives, whatever their lengths: the same answer, and the same in every place of both
 pub record RunsAlike (p r : List ℕ) : Type 0 where

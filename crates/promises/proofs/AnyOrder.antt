@@ -10,8 +10,8 @@ use Rattle.bits.specs.Low.{lowBytes, lowWord}
 use Rattle.model.specs.Faults.{GoodOrder}
 use Rattle.model.specs.Text.{textUnits}
 use Rattle.order.specs.Order.{Permutation}
-use Rattle.records.specs.Fields.{byKind, instrOf}
-use Rattle.records.specs.Record.{Rec, recBytes, programBytes, decodeAt, decodeFrom, decoded}
+use Rattle.records.specs.Fields.{byKind, instrWithin}
+use Rattle.records.specs.Record.{Rec, recBytes, programBytes, decodeAtWithin, decodeFromWithin, decoded, decodedWithin}
 use Rattle.translator.specs.declared.Verdict.the-variants.{Translated}
 use Rattle.translator.specs.Verdict.{translated, verdictOf}
 use Rattle.translator.specs.Contract.{Translates, inNumbers}
@@ -64,6 +64,6 @@ sorting-needed = record { sorted = computed .5; early = computed .6 }
 -- A BLOCK MUST BE WHOLE: the judge takes one that sets a name again also when it is taken apart, and yet it leaves
 -- another value
 pub block-whole : BlockWhole
-unfolding programBytes recBytes lowBytes lowWord concat-map numbers frontRun cutBehind reSorted decodeAt decodeFrom
-    decoded instrOf byKind judgeFrom good anyOpen run step ofBits toBits add round units size climb span odd
+unfolding programBytes recBytes lowBytes lowWord concat-map numbers frontRun cutBehind reSorted decodeAtWithin decodeFromWithin
+    decodedWithin instrWithin byKind judgeFrom good anyOpen run step ofBits toBits add round units size climb span odd
 block-whole = record { taken = refl; taken-apart = refl; whole = refl; apart = refl }

@@ -7,7 +7,7 @@ use mathlib.Core.Logic.{_⊎_, inr, ⊎-elim}
 use native.Mathlib.Nat.{le-refl}
 use native.Mathlib.Omega.{arith}
 use borrow.Author.Tests.{ne-eqb, lt-ltb, le-ltb, eqb-true, ltb-true, not-true, not-false}
-use lib.Dec.{eqb, ltb, lit<}
+use lib.Dec.{eqb, ltb}
 use lib.ListN.{length, getD, List·getD-eq-default}
 use lib.Ieee.{Float, binary64, ofBits}
 use Rattle.limits.specs.Limits.{slots, recordBytes}
@@ -15,8 +15,8 @@ use Rattle.laws.proofs.Tests.{eq-or-ne, cond-ind, and-true}
 use Rattle.laws.proofs.Every.{every-anywhere}
 use Rattle.records.specs.declared.Instr.{Instr}
 use Rattle.records.specs.declared.Instr.the-variants.{Bad}
-use Rattle.records.specs.Fields.{operandOf, hasSlot, hasValue, kinds, byKind, inOrder, instrOf}
-use Rattle.records.specs.Record.{field, decodeAt}
+use Rattle.records.specs.Fields.{operandOf, hasSlot, hasValue, kinds, byKind, inOrder, instrOf, instrWithin}
+use Rattle.records.specs.Record.{field, decodeAt, decodeAtWithin}
 use Rattle.records.specs.Decode.{decodedAt, readAt, withFields}
 use Rattle.records.proofs.FieldParts.{field-two}
 
@@ -27,10 +27,10 @@ unknown k s x h = ⊎-elim (λ (e : k ≡ 0). rw e) (λ (g : 16 ≤ k). List·ge
 
 -- so its record is refused
 pub unknown-refused : (k s b : ℕ) → (k ≡ 0) ⊎ (16 ≤ k) → Bad ≡ instrOf k 0 s b
-unfolding instrOf
+unfolding instrWithin
 unknown-refused k s b h =
     rw (unknown k s (ofBits binary64 b) h)
-    (cond-ind (λ (i : Instr). Bad ≡ i) (inOrder k 0 s b) Bad Bad (λ _. refl) (λ _. refl))
+    (cond-ind (λ (i : Instr). Bad ≡ i) (inOrder slots k 0 s b) Bad Bad (λ _. refl) (λ _. refl))
 
 -- ---- a kind that uses these fields, or not
 
@@ -57,7 +57,7 @@ module _ (slotted valued : Bool) (k s b : ℕ) where
 -- what a kind that uses these fields holds
 pub uses : (k s b : ℕ) (slotted valued : Bool) → hasSlot k ≡ slotted → hasValue k ≡ valued
     → withFields slotted valued k s b ≡ instrOf k 0 s b
-unfolding instrOf
+unfolding instrWithin
 uses k s b slotted valued p q = rw (p, q)
 
 -- ---- the code reads kind k and byte 1 z as one number, w
@@ -65,16 +65,16 @@ uses k s b slotted valued p q = rw (p, q)
 module _ (k z w s b : ℕ) (e : w ≡ k + 256 * z) where
   -- which is a kind only where byte 1 is 0
   pub joined : instrOf w 0 s b ≡ instrOf k z s b
-  unfolding instrOf
+  unfolding instrWithin
   joined =
       ⊎-elim (λ (d : z ≡ 0). let f : w ≡ k = omega arith in rw (d, f))
       (λ d. sym (unknown-refused w s b (inr (omega arith))) ∙ rw (ne-eqb z 0 d)) (eq-or-ne z 0)
 
   -- a record that is not refused is what its kind says
   unrefused : (instrOf k z s b ≡ Bad → ⊥) → byKind w s (ofBits binary64 b) ≡ instrOf k z s b
-  unfolding instrOf
+  unfolding instrWithin
   unrefused =
-      cond-ind (λ (i : Instr). (i ≡ Bad → ⊥) → byKind w s (ofBits binary64 b) ≡ i) (inOrder k z s b)
+      cond-ind (λ (i : Instr). (i ≡ Bad → ⊥) → byKind w s (ofBits binary64 b) ≡ i) (inOrder slots k z s b)
       (byKind k s (ofBits binary64 b)) Bad
       (λ t _. let f : w ≡ k = omega (arith, eqb-true z 0 (and-true (eqb z 0) _ t .0)) in rw f)
       (λ _ n. absurd (n refl))
@@ -90,24 +90,46 @@ operand k s x =
     every-anywhere (λ (y : Instr). operandOf y ≤ s) Bad o (kinds s x) k
     (o, (i, (i, (o, (i, (o, (o, (o, (o, (o, (o, (o, (o, (i, (i, (i, tt))))))))))))))))
 
--- that of fields in order is one of the slots
-inside : (k z s b : ℕ) → operandOf (instrOf k z s b) < slots
-unfolding instrOf
-inside k z s b =
-    cond-ind (λ (i : Instr). operandOf i < slots) (inOrder k z s b) (byKind k s (ofBits binary64 b)) Bad
+-- that of fields in order is one of the slots, however many there are
+inside : (n k z s b : ℕ) → 0 < n → operandOf (instrWithin n k z s b) < n
+unfolding instrWithin
+inside n k z s b some =
+    cond-ind (λ (i : Instr). operandOf i < n) (inOrder n k z s b) (byKind k s (ofBits binary64 b)) Bad
     (λ t.
     let fields = and-true (hasSlot k || eqb s 0) _ (and-true (eqb z 0) _ t .1) .1 in
-    let small = and-true (hasValue k || eqb b 0) (ltb s slots) fields .1 in
-    omega (arith, operand k s (ofBits binary64 b), ltb-true s slots small))
-    (λ _. lit< tt)
+    let small = and-true (hasValue k || eqb b 0) (ltb s n) fields .1 in
+    omega (arith, operand k s (ofBits binary64 b), ltb-true s n small))
+    (λ _. some)
+
+-- with more slots fields that are in order stay so
+order-more : (n m k z s b : ℕ) → n ≤ m → inOrder n k z s b ≡ true → inOrder m k z s b ≡ true
+order-more n m k z s b h t =
+    let first = and-true (eqb z 0) _ t in
+    let second = and-true (hasSlot k || eqb s 0) _ (first .1) in
+    let third = and-true (hasValue k || eqb b 0) (ltb s n) (second .1) in
+    rw (first .0, second .0, third .0, lt-ltb s m (omega (arith, ltb-true s n (third .1))))
+
+-- and what is not refused is the same instruction
+instr-more : (n m k z s b : ℕ) → n ≤ m → (instrWithin n k z s b ≡ Bad → ⊥)
+    → instrWithin m k z s b ≡ instrWithin n k z s b
+unfolding instrWithin
+instr-more n m k z s b h =
+    cond-ind (λ (i : Instr). (i ≡ Bad → ⊥) → instrWithin m k z s b ≡ i) (inOrder n k z s b)
+    (byKind k s (ofBits binary64 b)) Bad
+    (λ t _. rw (order-more n m k z s b h t)) (λ _ f. absurd (f refl))
 
 -- ---- records of a program
 
 module _ (p : List ℕ) where
   -- the slot of each is one of the slots
-  pub slot-inside : (o : ℕ) → operandOf (decodeAt p o) < slots
-  unfolding decodeAt
-  slot-inside o = inside (getD p o 0) (getD p (o + 1) 0) (field p (o + 2) 2) (field p (o + 8) 8)
+  pub slot-inside : (n o : ℕ) → 0 < n → operandOf (decodeAtWithin n p o) < n
+  unfolding decodeAtWithin
+  slot-inside n o some = inside n (getD p o 0) (getD p (o + 1) 0) (field p (o + 2) 2) (field p (o + 8) 8) some
+
+  -- with more slots one that is not refused is the same
+  pub decode-more : (n m o : ℕ) → n ≤ m → (decodeAtWithin n p o ≡ Bad → ⊥) → decodeAtWithin m p o ≡ decodeAtWithin n p o
+  unfolding decodeAtWithin
+  decode-more n m o h f = instr-more n m (getD p o 0) (getD p (o + 1) 0) (field p (o + 2) 2) (field p (o + 8) 8) h f
 
   -- what `decode` answers for a record of the program
   pub decoded-at : (n : ℕ) → n < length p / recordBytes → decodedAt p n ≡ decodeAt p (n * recordBytes)
@@ -117,7 +139,7 @@ module _ (p : List ℕ) where
   pub checked-at : (n : ℕ) {w s b : ℕ} {r : Instr} → n < length p / recordBytes → w ≡ field p (n * recordBytes) 2
       → s ≡ field p (n * recordBytes + 2) 2 → b ≡ field p (n * recordBytes + 8) 8 → r ≡ instrOf w 0 s b
       → r ≡ decodedAt p n
-  unfolding decodeAt
+  unfolding decodeAtWithin
   checked-at n h k i j e =
       e ∙ rw (k, i, j) (joined _ _ _ _ _ (field-two p (n * recordBytes) (omega arith)) ∙ sym (decoded-at n h))
 
@@ -131,6 +153,6 @@ module _ (p : List ℕ) where
   -- `read` answers the same, where that is no refusal
   pub read-at : (n : ℕ) → n < length p / recordBytes → (decodeAt p (n * recordBytes) ≡ Bad → ⊥)
       → readAt p n ≡ decodeAt p (n * recordBytes)
-  unfolding decodeAt
+  unfolding decodeAtWithin
   read-at n h k =
       rw (lt-ltb n (length p / recordBytes) h) (unrefused _ _ _ _ _ (field-two p (n * recordBytes) (omega arith)) k)

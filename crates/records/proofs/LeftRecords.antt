@@ -7,22 +7,22 @@ use native.Mathlib.Omega.{arith}
 use lib.ListN.{length}
 use Rattle.limits.specs.Limits.{recordBytes}
 use Rattle.records.specs.declared.Instr.{Instr}
-use Rattle.records.specs.Record.{decodeAt, decodeFrom, decoded}
+use Rattle.records.specs.Record.{decodeAt, decodeFrom, decodeFromWithin, decoded, decodedWithin}
 
 abbrev pub left : List ℕ → ℕ → List Instr
 left p i = decodeFrom p i (length p / recordBytes - i)
 
 pub left-all : (p : List ℕ) → left p 0 ≡ decoded p
-unfolding decoded
+unfolding decodedWithin
 left-all p = let e : length p / recordBytes - 0 ≡ length p / recordBytes = omega arith in rw e
 
 pub left-next : (p : List ℕ) (i : ℕ) → i < length p / recordBytes
     → left p i ≡ decodeAt p (i * recordBytes) ∷ left p (i + 1)
-unfolding decodeFrom
+unfolding decodeFromWithin
 left-next p i h =
     let e : length p / recordBytes - i ≡ suc (length p / recordBytes - (i + 1)) = omega arith in
     rw (e, add-one)
 
 pub left-none : (p : List ℕ) (i : ℕ) → length p / recordBytes ≤ i → left p i ≡ []
-unfolding decodeFrom
+unfolding decodeFromWithin
 left-none p i h = let e : length p / recordBytes - i ≡ 0 = omega arith in rw e

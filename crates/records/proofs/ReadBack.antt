@@ -19,8 +19,8 @@ use Rattle.records.specs.declared.Instr.the-variants.{Constant, Initial,
 use Rattle.records.specs.declared.Instr.the-variants.{Neg, Insw, Limit, Compar, Store, Deriv, StoreAgain, Bad}
 use Rattle.records.specs.Shape.{value, slot, Shape, constant, initial, push, fold, store, derivative}
 use Rattle.records.specs.Shape.{store-again, bad, shapeOf}
-use Rattle.records.specs.Fields.{fieldsOf, kindOf, operandOf, bitsOf, byKind, instrOf}
-use Rattle.records.specs.Record.{Rec, recBytes, programBytes, instrs, field, decodeAt, decodeFrom, decoded}
+use Rattle.records.specs.Fields.{fieldsOf, kindOf, operandOf, bitsOf, byKind, instrOf, instrWithin}
+use Rattle.records.specs.Record.{Rec, recBytes, programBytes, instrs, field, decodeAt, decodeAtWithin, decodeFrom, decodeFromWithin, decoded, decodedWithin}
 use Rattle.records.specs.Proper.{ProperAs, Proper}
 
 -- ---- lengths
@@ -40,7 +40,7 @@ length-program (r ∷ rs) = omega (arith, length-program rs)
 
 -- its fields are the instruction again
 fields-back : (x : Instr) → Proper x → instrOf (kindOf x) 0 (operandOf x) (bitsOf x) ≡ x
-unfolding instrOf byKind
+unfolding instrWithin byKind
 fields-back (Constant s x) h = rw (lt-ltb s slots (h .0), ofBits-toBits binary64 x (h .1))
 fields-back (Initial s x) h = rw (lt-ltb s slots (h .0), ofBits-toBits binary64 x (h .1))
 fields-back (Value x) h = rw (ofBits-toBits binary64 x h)
@@ -112,7 +112,7 @@ module _ (front : List ℕ) (r : Rec) (back : List ℕ) where
 
   -- the instruction
   record-back : Proper (r .instr) → decodeAt all (length front) ≡ r .instr
-  unfolding decodeAt
+  unfolding decodeAtWithin
   record-back h =
       let s = shapeOf (r .instr) in
       rw (kind-back, one-back, operand-back (slot-small s h), bits-back (bits-small s h)) (fields-back (r .instr) h)
@@ -122,7 +122,7 @@ module _ (front : List ℕ) (r : Rec) (back : List ℕ) where
 -- record by record
 from-back : (front : List ℕ) (i : ℕ) (rs : List Rec) → length front ≡ i * recordBytes → Every Proper (instrs rs)
     → decodeFrom (front ++ programBytes rs) i (length rs) ≡ instrs rs
-unfolding decodeFrom programBytes concat-map
+unfolding decodeFromWithin programBytes concat-map
 from-back front i [] e h = refl
 from-back front i (r ∷ rs) e h =
     let next : length (front ++ recBytes r) ≡ suc i * recordBytes =
@@ -134,7 +134,7 @@ from-back front i (r ∷ rs) e h =
 
 -- THE PROGRAM is read as it was written
 pub program-back : (rs : List Rec) → Every Proper (instrs rs) → decoded (programBytes rs) ≡ instrs rs
-unfolding decoded
+unfolding decodedWithin
 program-back rs h =
     let e : length (programBytes rs) / recordBytes ≡ length rs = omega (arith, length-program rs) in
     rw e (from-back [] 0 rs refl h)

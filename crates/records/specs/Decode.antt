@@ -5,7 +5,7 @@ use mathlib.Core.List.{List}
 use lib.Dec.{ltb}
 use lib.ListN.{length}
 use lib.Ieee.{binary64, ofBits}
-use Rattle.limits.specs.Limits.{recordBytes}
+use Rattle.limits.specs.Limits.{slots, recordBytes}
 use Rattle.records.specs.declared.Instr.{Instr}
 use Rattle.records.specs.declared.Instr.the-variants.{Bad}
 use Rattle.records.specs.Fields.{byKind, fieldsFine}
@@ -24,4 +24,4 @@ readAt p n = cond (ltb n (length p / recordBytes)) (kindAt p (n * recordBytes)) 
 
 -- the instruction of a kind that uses its slot, or not, and its value, or not
 abbrev pub withFields : Bool → Bool → ℕ → ℕ → ℕ → Instr
-withFields slotted valued k s b = cond (fieldsFine slotted valued s b) (byKind k s (ofBits binary64 b)) Bad
+withFields slotted valued k s b = cond (fieldsFine slots slotted valued s b) (byKind k s (ofBits binary64 b)) Bad

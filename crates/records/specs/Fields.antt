@@ -62,14 +62,18 @@ kinds s x =
 unfoldable pub byKind : ℕ → ℕ → Float → Instr
 byKind k s x = getD (kinds s x) k Bad
 
--- a field that is not used is 0, and the slot is one of the slots
-abbrev pub fieldsFine : Bool → Bool → ℕ → ℕ → Bool
-fieldsFine slotted valued s b = (slotted || eqb s 0) && ((valued || eqb b 0) && ltb s slots)
+-- a field that is not used is 0, and the slot is one of n slots
+abbrev pub fieldsFine : ℕ → Bool → Bool → ℕ → ℕ → Bool
+fieldsFine n slotted valued s b = (slotted || eqb s 0) && ((valued || eqb b 0) && ltb s n)
 
 -- and byte 1 is 0
-abbrev pub inOrder : ℕ → ℕ → ℕ → ℕ → Bool
-inOrder k z s b = eqb z 0 && fieldsFine (hasSlot k) (hasValue k) s b
+abbrev pub inOrder : ℕ → ℕ → ℕ → ℕ → ℕ → Bool
+inOrder n k z s b = eqb z 0 && fieldsFine n (hasSlot k) (hasValue k) s b
 
--- the instruction of the fields kind, byte 1, operand and bits; every NaN pattern reads as NaN
-unfoldable pub instrOf : ℕ → ℕ → ℕ → ℕ → Instr
-instrOf k z s b = cond (inOrder k z s b) (byKind k s (ofBits binary64 b)) Bad
+-- with n slots, the instruction of the fields kind, byte 1, operand and bits; every NaN pattern reads as NaN
+unfoldable pub instrWithin : ℕ → ℕ → ℕ → ℕ → ℕ → Instr
+instrWithin n k z s b = cond (inOrder n k z s b) (byKind k s (ofBits binary64 b)) Bad
+
+-- with the slots that there are
+abbrev pub instrOf : ℕ → ℕ → ℕ → ℕ → Instr
+instrOf k z s b = instrWithin slots k z s b
