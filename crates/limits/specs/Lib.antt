@@ -1,2 +1,3 @@
 -- the paper
 pub mod Limits
+pub mod Before

@@ -19,7 +19,7 @@ use Rattle.model.specs.Text.{modelFaultsIn}
 use Rattle.records.specs.Record.{Rec}
 use Rattle.program.specs.Program.{program}
 use Rattle.translator.specs.Verdict.{Decision, refused, faulty, translated, ifFaults, fitted, programmed, modelled}
-use Rattle.translator.specs.Verdict.{decided, verdictOf}
+use Rattle.translator.specs.Verdict.{decided, decidedWithin, verdictOf, verdictWithin}
 use Rattle.model.proofs.NumbersBelow.{ReportBelow, SaidBelow, FaultBelow, sheet-below, faults-below}
 use Rattle.model.proofs.NumbersBelow.{said-below, all-below}
 
@@ -53,7 +53,7 @@ fair-model room ss p =
 
 -- by the sheet
 fair-sheet : (room : ℕ) (ss : Sheet) → Every (ReportBelow 65536) ss → Fair (decided room ss)
-unfolding decided
+unfolding decidedWithin
 fair-sheet room ss p =
     let next = modelled room (said ss) in
     cond-ind Fair (ltb mostStatements (length ss)) (refused 4) (ifFaults 5 (statementFaults ss) next) (λ _. lit< tt)
@@ -62,7 +62,7 @@ fair-sheet room ss p =
 
 -- EACH VERDICT on a text is fair
 pub fair : (text : List ℕ) (faults room : ℕ) → Fair (verdictOf text faults room)
-unfolding verdictOf
+unfolding verdictWithin
 fair text faults room =
     let next = decided room (sheetOf text) in
     let many = ltb textLines (length (linesOf text)) in

@@ -30,7 +30,7 @@ use Rattle.records.specs.Record.{Rec}
 use Rattle.program.specs.Program.{program}
 use Rattle.translator.specs.declared.Verdict.{Verdict}
 use Rattle.translator.specs.Verdict.{Decision, refused, faulty as faults, translated, ifFaults, fitted, programmed}
-use Rattle.translator.specs.Verdict.{modelled, decided, verdictOf}
+use Rattle.translator.specs.Verdict.{modelled, decided, decidedWithin, verdictOf, verdictWithin}
 use Rattle.translator.specs.Rules.{modelFaultsOf}
 use Rattle.translator.specs.Contract.{Reply, reply, replyOf, Translates}
 use Rattle.meaning.proofs.Rows.{every-of, every-member}
@@ -122,7 +122,7 @@ module _ (text : List ℕ) where
 
   -- that of the text
   verdict-in : (f p : ℕ) → DecidedIn (verdictOf text f p)
-  unfolding verdictOf decided
+  unfolding verdictWithin decidedWithin
   verdict-in f p =
       let us = unitsOf (said (sheetOf text)) in
       let rs = program us (orderOf us) in

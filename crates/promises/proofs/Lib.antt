@@ -9,5 +9,6 @@ pub mod Words
 pub mod Stack
 pub mod WallLoss
 pub mod AnyOrder
+pub mod Before
 pub mod Agreement
 pub mod Theorems

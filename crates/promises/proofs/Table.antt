@@ -33,7 +33,7 @@ use Rattle.blocks.specs.Inside.{setInside, faults26From, blockFaults}
 use Rattle.blocks.specs.Members.{unitsFrom}
 use Rattle.model.specs.Faults.{faults21, meets, modelFaults}
 use Rattle.program.specs.Program.{valueIn, program}
-use Rattle.translator.specs.Verdict.{decided, verdictOf}
+use Rattle.translator.specs.Verdict.{decidedWithin, verdictOf, verdictWithin}
 use Rattle.listing_text.specs.Listing.{figuresIn, listingOf, listing}
 use Rattle.evaluator.specs.Judge.{good, anyOpen, answer, judgeFrom}
 use Rattle.meaning.specs.Depth.{highest, heightOf}
@@ -42,7 +42,7 @@ use Rattle.promises.specs.Table.{Trial, trials, shown, wanted, tank, dec
 
 -- THE TABLE. Each text has the verdict and the listing that stand beside it
 pub tried : map shown trials ≡ map wanted trials
-unfolding trials listing listingOf figuresIn verdictOf decided linesOf trimmed dotted passed cardsOf after ended left
+unfolding trials listing listingOf figuresIn verdictWithin decidedWithin linesOf trimmed dotted passed cardsOf after ended left
     reading linePart joined anyLong sizeFlaw byteSpot lastSpot cardsTold told sheetOf
     concat-map sameBytes numbers frontRun count lowWord decimal digitsFrom exponentFrom tenTo scaled tokenOf numberCut
     nameAt tokenAt cutAt
@@ -65,7 +65,7 @@ pub computed : (heightOf (verdictOf deck faultRoom programRoom) ≡ stackPlaces)
     × (numberFor (bytes tank) ≡ 0) × Plain (bytes tank)
     × (numberFor loop ≡ 7) × Plain loop
     × (tankJudged tankSorted ≡ answer 0 0) × (tankJudged tankEarly ≡ answer 3 6)
-unfolding highest judgeFrom good anyOpen verdictOf decided linesOf trimmed dotted passed cardsOf after ended left
+unfolding highest judgeFrom good anyOpen verdictWithin decidedWithin linesOf trimmed dotted passed cardsOf after ended left
     reading linePart joined
     anyLong sizeFlaw cardsTold told sheetOf concat-map
     sameBytes numbers frontRun count lowWord decimal digitsFrom exponentFrom tenTo scaled tokenOf numberCut

@@ -72,6 +72,7 @@ use Rattle.promises.proofs.Grammar as rows
 use Rattle.promises.proofs.Words as words
 use Rattle.promises.proofs.WallLoss as wall
 use Rattle.promises.proofs.AnyOrder as any
+use Rattle.promises.proofs.Before as before
 use Rattle.promises.proofs.Stack as stack
 use Rattle.promises.proofs.Agreement as agreement
 

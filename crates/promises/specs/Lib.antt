@@ -5,4 +5,5 @@ pub mod Demand3
 pub mod Comments
 pub mod InPlace
 pub mod AnyOrder
+pub mod Before
 pub mod Agreement

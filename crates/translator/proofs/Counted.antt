@@ -38,7 +38,7 @@ use Rattle.model.specs.Text.{modelFaultsIn}
 use Rattle.records.specs.Record.{Rec}
 use Rattle.program.specs.Program.{program}
 use Rattle.program.specs.Written.{recordCount}
-use Rattle.translator.specs.Verdict.{Decision, refused, ifFaults, fitted, modelled, decided, verdictOf, countOf}
+use Rattle.translator.specs.Verdict.{Decision, refused, ifFaults, fitted, modelled, decided, decidedWithin, verdictOf, verdictWithin, countOf}
 use Rattle.translator.specs.Verdict.{faulty as flawed, translated}
 use Rattle.translator.specs.Contract.{linesIn}
 
@@ -235,7 +235,7 @@ few-modelled room ss h =
     (few-fitted room (program us (orderOf us)) _ (omega (arith, order-few us, units-few us, stated-many us))))
 
 few-decided : (room : ℕ) (sheet : Sheet) → Few (decided room sheet)
-unfolding decided
+unfolding decidedWithin
 few-decided room sheet =
     cond-ind Few (ltb mostStatements (length sheet)) (refused 4) _ (λ _. tt)
     (λ e.
@@ -245,7 +245,7 @@ few-decided room sheet =
 
 -- FEW: of every text, with whatever room
 pub few : (text : List ℕ) (faults room : ℕ) → Few (verdictOf text faults room)
-unfolding verdictOf
+unfolding verdictWithin
 few text faults room =
     cond-ind Few (ltb faults faultRoom) (refused 1) _ (λ _. tt)
     (λ _. cond-ind Few (ltb textBytes (length text)) (refused 2) _ (λ _. tt)

@@ -26,7 +26,7 @@ use Rattle.model.proofs.Orders.{no-loops}
 use Rattle.records.specs.Record.{Rec}
 use Rattle.program.specs.Program.{program}
 use Rattle.translator.specs.Verdict.{Decision, refused, faulty, translated, ifFaults, fitted, programmed}
-use Rattle.translator.specs.Verdict.{modelled, decided, verdictOf, numberOf}
+use Rattle.translator.specs.Verdict.{modelled, decided, decidedWithin, verdictOf, verdictWithin, numberOf}
 use Rattle.translator.specs.Refusals.{Admitted, Unrefused}
 
 -- a test that would give another number fails
@@ -39,13 +39,13 @@ module _ (text : List ℕ) (f p : ℕ) (room : faultRoom ≤ f) (ok : Admitted (
   roomy : verdictOf text f p
       ≡ cond (ltb textBytes (length text)) (refused 2)
       (cond (ltb textLines (length (linesOf text))) (refused 3) (decided p (sheetOf text)))
-  unfolding verdictOf
+  unfolding verdictWithin
   roomy = rw (le-ltb f faultRoom room)
 
   -- not 2, 3 or 4: so it is within all three sizes
   pub sizes : (ltb textBytes (length text) ≡ false) × (ltb textLines (length (linesOf text)) ≡ false)
       × (ltb mostStatements (length (sheetOf text)) ≡ false)
-  unfolding decided
+  unfolding decidedWithin
   sizes =
       let bytes = not-given 2 (ltb textBytes (length text)) _ (λ e. ok .not-two (ap numberOf roomy ∙ e)) in
       let a = rw bytes at roomy in
@@ -55,7 +55,7 @@ module _ (text : List ℕ) (f p : ℕ) (room : faultRoom ≤ f) (ok : Admitted (
 
   -- and is 5 where a statement fault stands, else found by the model
   pub by-faults : verdictOf text f p ≡ ifFaults 5 (faultsOf text) (modelled p (said (sheetOf text)))
-  unfolding decided
+  unfolding decidedWithin
   by-faults = roomy ∙ rw (sizes .0, sizes .1, sizes .2)
 
   -- so it is 5 with the list of them all where one stands
@@ -105,7 +105,7 @@ module _ (P : Decision → Type 0) (refuses : (n : ℕ) → 0 < n → P (refused
   -- the sizes and what follows them
   sizes-ind : (text : List ℕ) (f p : ℕ)
       → P (ifFaults 5 (faultsOf text) (modelled p (said (sheetOf text)))) → P (verdictOf text f p)
-  unfolding verdictOf decided
+  unfolding verdictWithin decidedWithin
   sizes-ind text f p h =
       test-ind (ltb f faultRoom) 1 _ (omega arith)
       (test-ind (ltb textBytes (length text)) 2 _ (omega arith)
@@ -254,7 +254,7 @@ no-test n = refl
 
 -- all of them
 pub number-first : (text : List ℕ) (f p : ℕ) → numberOf (verdictOf text f p) ≡ firstFrom 1 (tests text f p)
-unfolding verdictOf decided
+unfolding verdictWithin decidedWithin
 number-first text f p =
     number-test (ltb f faultRoom) 1 _ _
     (number-test (ltb textBytes (length text)) 2 _ _

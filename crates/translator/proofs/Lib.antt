@@ -17,3 +17,4 @@ pub mod Zero
 pub mod Renumbering
 pub mod Agreement
 pub mod Rules
+pub mod Larger

@@ -23,7 +23,7 @@ use Rattle.records.specs.Record.{Rec, renumberRec}
 use Rattle.program.specs.Program.{program}
 use Rattle.program.proofs.Renumbering.{program-renumbered}
 use Rattle.translator.specs.Verdict.{Decision, refused, faulty, translated, ifFaults, fitted, programmed}
-use Rattle.translator.specs.Verdict.{modelled, decided, verdictOf, numberOf, countOf}
+use Rattle.translator.specs.Verdict.{modelled, decided, decidedWithin, verdictOf, verdictWithin, numberOf, countOf}
 use Rattle.translator.specs.Refusals.{Admitted}
 use Rattle.translator.specs.Contract.{linesIn}
 use Rattle.translator.specs.Renumbered.{renumberDecision}
@@ -104,7 +104,7 @@ module _ (g : ℕ → ℕ) where
 -- THE DECISION on a renumbered sheet is renumbered: 4, 5 and the rest
 pub decided-renumbered : (g : ℕ → ℕ) → g 0 ≡ 0 → (room : ℕ) (old new : Sheet) → Renumbered g old new
     → decided room new ≡ renumberDecision g (decided room old)
-unfolding decided
+unfolding decidedWithin
 decided-renumbered g z room old new w =
     let next = ap (modelled room) (w .all-said) ∙ modelled-renumbered g z room (said old) in
     let faults = faulty-renumbered g 5 (statementFaults old) (modelled room (said old)) (w .all-faults) next in
@@ -118,7 +118,7 @@ sized room bytes lines d = cond room (refused 1) (cond bytes (refused 2) (cond l
 pub verdict-renumbered : (g : ℕ → ℕ) → g 0 ≡ 0 → (a b : List ℕ) → Renumbered g (sheetOf a) (sheetOf b)
     → (f p : ℕ) → Admitted (verdictOf a f p) → Admitted (verdictOf b f p)
     → verdictOf b f p ≡ renumberDecision g (verdictOf a f p)
-unfolding verdictOf
+unfolding verdictWithin
 verdict-renumbered g z a b sheet f p ok-a ok-b =
     go (ltb f faultRoom) (ltb textBytes (length a)) (ltb textLines (length (linesOf a))) (ltb textBytes (length b))
     (ltb textLines (length (linesOf b))) (decided p (sheetOf a)) (decided p (sheetOf b))

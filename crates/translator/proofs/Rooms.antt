@@ -19,7 +19,7 @@ use Rattle.translator.specs.declared.SoFar.{SoFar}
 use Rattle.translator.specs.declared.Ordered.{Ordered}
 use Rattle.translator.specs.declared.Verdict.the-variants.{Faulty}
 use Rattle.translator.specs.Contract.{ordered, orderedReply, orderedReplyOf}
-use Rattle.translator.specs.Verdict.{ifFaults, modelled, decided}
+use Rattle.translator.specs.Verdict.{ifFaults, modelled, decidedWithin}
 use Rattle.translator.specs.Working.{ReadThrough, ArraysReady, Concludes, Taken, Room, Decides}
 use Rattle.blocks.proofs.TextHeaded.{text-headed}
 use Rattle.blocks.proofs.SheetFits.{bounds-many, laid-groups}
@@ -33,7 +33,7 @@ module _ {text list₀ kinds₀ args₀ lines₀ bounds₀ : List ℕ} (room : R
 
   -- 5: some fault stands, and the list is written
   pub says-five : (p o : List ℕ) → 0 < n .faults → Decides text list₀ p o (ordered (Faulty 5 (n .faults)) 0) list p o
-  unfolding decided
+  unfolding decidedWithin
   says-five p o h = rw (few, r .faults, r .listed) (go (statementFaults (sheetOf text)) (rw (← r .faults) h))
     where
       go : (fs : List Fault) → 0 < length fs
@@ -118,7 +118,7 @@ module _ {text list₀ kinds₀ args₀ lines₀ bounds₀ : List ℕ} (room : R
       → ((s : ArraysReady (take (n .statements) lines) (take (n .statements + 1) bounds) (take (n .drafts) kinds)
       (take (n .drafts) args) used list) → Concludes (s .statements) list p o v f′ p′ o′)
       → Decides text list₀ p o v f′ p′ o′
-  unfolding decided ready-so
+  unfolding decidedWithin ready-so
   says-model none v p o uses w = rw (few, clean none, ← (listed-none none)) (w (ready-so uses))
 
 -- a room: k places for drafts, and a place for each statement that there may be

@@ -17,7 +17,7 @@ use Rattle.sheet.specs.Sheet.{Fault, said}
 use Rattle.sheet.specs.Reader.{told, sheetOf, faultsOf}
 use Rattle.sheet.specs.Numbers.{statementsOf}
 use Rattle.blocks.specs.Members.{settings}
-use Rattle.translator.specs.Verdict.{Decision, refused, faulty, translated, ifFaults, decided, verdictOf}
+use Rattle.translator.specs.Verdict.{Decision, refused, faulty, translated, ifFaults, decidedWithin, verdictOf, verdictWithin}
 use Rattle.translator.specs.Verdict.{numberOf}
 use Rattle.translator.specs.Verdict.{faultsAfter, programAfter, translation}
 use Rattle.translator.specs.Rules.{recordsOf, modelFaultsOf, Reason, Exactly, Writes, room, bytes, lines}
@@ -191,7 +191,7 @@ module _ (text f p : List ℕ) where
 
   -- so it is with every verdict
   wrote-all : Wrote (verdictOf text (length f) (length p))
-  unfolding verdictOf decided
+  unfolding verdictWithin decidedWithin
   wrote-all =
       let ss = said (sheetOf text) in
       let rs = recordsOf text in

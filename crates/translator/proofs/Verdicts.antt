@@ -18,7 +18,7 @@ use Rattle.translator.specs.declared.Verdict.{Verdict}
 use Rattle.translator.specs.declared.Verdict.the-variants.{Refused}
 use Rattle.translator.specs.Contract.{Reply, reply, replyOf, Translates, ordered, OrderedReply}
 use Rattle.translator.specs.Contract.{TranslatesInOrder, inNumbers, Gives}
-use Rattle.translator.specs.Verdict.{Decision, refused, faulty, translated, decided, verdictOf}
+use Rattle.translator.specs.Verdict.{Decision, refused, faulty, translated, decidedWithin, verdictOf, verdictWithin}
 use Rattle.translator.specs.Verdict.{translationOf, translation}
 use Rattle.translator.specs.Working.{Taken, Decides}
 
@@ -45,7 +45,7 @@ taken-so text f room short sized = record { few = rw (sheet-many text) (sized .1
 
 module _ (text f p o : List ℕ) where
   pub says-one : length f < faultRoom → TranslatesInOrder text f p o (ordered (Refused 1) 0) f p o
-  unfolding verdictOf
+  unfolding verdictWithin
   says-one h = rw (lt-ltb (length f) faultRoom h)
 
   module _ (room : faultRoom ≤ length f) where
@@ -53,7 +53,7 @@ module _ (text f p o : List ℕ) where
     enough = le-ltb (length f) faultRoom room
 
     pub says-two : textBytes < length text → TranslatesInOrder text f p o (ordered (Refused 2) 0) f p o
-    unfolding verdictOf
+    unfolding verdictWithin
     says-two h = rw (enough, lt-ltb textBytes (length text) h)
 
     module _ (short : length text ≤ textBytes) where
@@ -61,7 +61,7 @@ module _ (text f p o : List ℕ) where
       brief = le-ltb textBytes (length text) short
 
       pub says-three : textLines < length (linesOf text) → TranslatesInOrder text f p o (ordered (Refused 3) 0) f p o
-      unfolding verdictOf
+      unfolding verdictWithin
       says-three h = rw (enough, brief, lt-ltb textLines (length (linesOf text)) h)
 
       module _ (lines : length (linesOf text) ≤ textLines) where
@@ -70,7 +70,7 @@ module _ (text f p o : List ℕ) where
 
         pub says-four : mostStatements < length (reading fresh 1 (linesOf text))
             → TranslatesInOrder text f p o (ordered (Refused 4) 0) f p o
-        unfolding verdictOf decided
+        unfolding verdictWithin decidedWithin
         says-four h =
             rw
             (enough, brief, lined, sheet-many text, lt-ltb mostStatements (length (reading fresh 1 (linesOf text))) h)
@@ -78,7 +78,7 @@ module _ (text f p o : List ℕ) where
         -- behind them the sheet's verdict is the text's
         pub says-decided : (r : Ordered) {f′ p′ o′ : List ℕ} → Decides text f p o r f′ p′ o′
             → TranslatesInOrder text f p o r f′ p′ o′
-        unfolding verdictOf
+        unfolding verdictWithin
         says-decided r w = rw (enough, brief, lined) w
 
 -- THE VERDICT ALONE: an answer with the order is the answer without it

@@ -24,7 +24,7 @@ use Rattle.model.proofs.DefinitionsFew.{definitions-few}
 use Rattle.records.specs.Record.{Rec}
 use Rattle.program.specs.Program.{program}
 use Rattle.translator.specs.Verdict.{Decision, refused, faulty, translated, ifFaults, programmed}
-use Rattle.translator.specs.Verdict.{modelled, decided, verdictOf, numberOf}
+use Rattle.translator.specs.Verdict.{modelled, decided, decidedWithin, verdictOf, verdictWithin, numberOf}
 
 -- no statement fault, no model fault, not too many definitions; the program is that of the order, and has room
 pub record Clear (text : List ℕ) (room : ℕ) (rs : List Rec) : Type 0 where
@@ -85,14 +85,14 @@ module _ (text : List ℕ) (room : ℕ) where
 
   -- 4 and 5
   known-decided : Known text room (decided room sheet)
-  unfolding decided
+  unfolding decidedWithin
   known-decided =
       cond-ind (Known text room) (ltb mostStatements (length sheet)) (refused 4) _ (λ _. lit< tt)
       (λ _. known-faults 5 (statementFaults sheet) (modelled room (said sheet)) (lit< tt) known-modelled)
 
 -- 1, 2 and 3
 known : (text : List ℕ) (faults room : ℕ) → Known text room (verdictOf text faults room)
-unfolding verdictOf
+unfolding verdictWithin
 known text faults room =
     let K = Known text room in
     cond-ind K (ltb faults faultRoom) (refused 1) _ (λ _. lit< tt)

@@ -5,8 +5,8 @@ use mathlib.Core.List.{List, [], _∷_, map}
 use lib.Dec.{ltb}
 use lib.ListN.{length}
 use lib.Seq.{sets}
-use Rattle.limits.specs.Limits.{faultRoom, textBytes, textLines, mostStatements, mostDefinitions, mostRecords}
-use Rattle.limits.specs.Limits.{recordBytes}
+use Rattle.limits.specs.Limits.{mostRecords, recordBytes}
+use Rattle.limits.specs.Before.{Sizes, sizes}
 use Rattle.deck.specs.Lines.{linesOf}
 use Rattle.sheet.specs.Sheet.{Sheet, Numbered, Fault, said, statementFaults, faultList}
 use Rattle.sheet.specs.Reader.{sheetOf}
@@ -39,26 +39,36 @@ fitted room rs ls =
 abbrev pub programmed : ℕ → List TextUnit → Decision
 programmed room us = fitted room (program us (orderOf us)) (map (λ (i : ℕ). unitAt us i .line) (orderOf us))
 
--- 6: over mostDefinitions definitions, doubles counted, and every setting inside blocks; 7: a model fault stands
-abbrev pub modelled : ℕ → List Numbered → Decision
-modelled room ss =
+-- by the sizes z. 6: over so many definitions, doubles counted, and every setting inside blocks; 7: a model fault stands
+abbrev pub modelledWithin : Sizes → ℕ → List Numbered → Decision
+modelledWithin z room ss =
     let next = programmed room (unitsOf ss) in
     let faults = ifFaults 7 (modelFaultsIn ss) next in
-    cond (ltb mostDefinitions (length (settings ss))) (refused 6) faults
+    cond (ltb (z .definitions) (length (settings ss))) (refused 6) faults
 
--- 4: over mostStatements statements; 5: a statement fault stands. By the sheet alone, whatever the reader was
-unfoldable pub decided : ℕ → Sheet → Decision
-decided room sheet =
-    let next = modelled room (said sheet) in
+-- 4: over so many statements; 5: a statement fault stands. By the sheet alone, whatever the reader was
+unfoldable pub decidedWithin : Sizes → ℕ → Sheet → Decision
+decidedWithin z room sheet =
+    let next = modelledWithin z room (said sheet) in
     let faults = ifFaults 5 (statementFaults sheet) next in
-    cond (ltb mostStatements (length sheet)) (refused 4) faults
+    cond (ltb (z .statements) (length sheet)) (refused 4) faults
 
--- 1: lent fault list under faultRoom bytes; 2: text over textBytes bytes; 3: over textLines lines
-unfoldable pub verdictOf : List ℕ → ℕ → ℕ → Decision
-verdictOf text faults room =
-    let next = decided room (sheetOf text) in
-    let long = cond (ltb textLines (length (linesOf text))) (refused 3) next in
-    cond (ltb faults faultRoom) (refused 1) (cond (ltb textBytes (length text)) (refused 2) long)
+-- 1: lent fault list under so many bytes; 2: text over so many bytes; 3: over so many lines
+unfoldable pub verdictWithin : Sizes → List ℕ → ℕ → ℕ → Decision
+verdictWithin z text faults room =
+    let next = decidedWithin z room (sheetOf text) in
+    let long = cond (ltb (z .lines) (length (linesOf text))) (refused 3) next in
+    cond (ltb faults (z .faults)) (refused 1) (cond (ltb (z .bytes) (length text)) (refused 2) long)
+
+-- by the sizes that there are: faultRoom, textBytes, textLines, mostStatements, mostDefinitions
+abbrev pub modelled : ℕ → List Numbered → Decision
+modelled room ss = modelledWithin sizes room ss
+
+abbrev pub decided : ℕ → Sheet → Decision
+decided room sheet = decidedWithin sizes room sheet
+
+abbrev pub verdictOf : List ℕ → ℕ → ℕ → Decision
+verdictOf text faults room = verdictWithin sizes text faults room
 
 -- ---- the number, and with it a count: records for 0, faults for 5 and 7, else 0
 
