@@ -11,6 +11,8 @@ use crate::lent::sevens;
 use limits::SLOTS;
 use tally::Tally;
 use tally::number;
+ghost use Prim.Native.Nat.{_<_};
+ghost use Rattle.limits.specs.Limits.{slots};
 
 // Slots 1 and 2 are 10 and 4. Slots 3 to 7 are sum, difference, product, quotient, and the first negated.
 fn arithmetic() -> [u8; 336] {
@@ -133,7 +135,7 @@ fn reads(t0: Tally) -> Tally {
     record(&mut p, 0, 1, 1, 0x7ff0_0000_0000_0001);
     record(&mut p, 1, 1, 2, 0xffff_ffff_ffff_ffff);
     record(&mut p, 2, 1, 3, 0x8000_0000_0000_0000);
-    record(&mut p, 3, 1, 255, 0xfff0_0000_0000_0000);
+    record(&mut p, 3, 1, 1023, 0xfff0_0000_0000_0000);
     bits::put_low(&mut p, 4, 4, 0xffff_ffff);
     let mut v = sevens();
     let mut d = sevens();
@@ -142,23 +144,86 @@ fn reads(t0: Tally) -> Tally {
     t = at(t, &v, 1, 0x7ff8_0000_0000_0000);
     t = at(t, &v, 2, 0x7ff8_0000_0000_0000);
     t = at(t, &v, 3, 0x8000_0000_0000_0000);
-    t = at(t, &v, 255, 0xfff0_0000_0000_0000);
+    t = at(t, &v, 1023, 0xfff0_0000_0000_0000);
     number(t, kept(&v), SLOTS - 4)
 }
 
-// 67 ones are pushed, 66 additions leave their sum, 67. Lent places past 255 stay.
+// 67 ones are pushed, 66 additions leave their sum, 67. 1,024 places are enough, and there is no other store.
 fn piles(t0: Tally) -> Tally {
     let mut p = [0u8; 2144];
     records(&mut p, 0, 67, 3, 0, 0x3ff0_0000_0000_0000);
     records(&mut p, 67, 133, 5, 0, 0);
-    record(&mut p, 133, 13, 255, 0);
-    let mut v = [7.0; 300];
-    let mut d = [7.0; 300];
+    record(&mut p, 133, 13, 1023, 0);
+    let mut v = [7.0; 1024];
+    let mut d = [7.0; 1024];
     let a = evaluator::evaluate(&p, &mut v, &mut d);
     let mut t = number(t0, a.number, 0);
-    t = float(t, v[255], 0x4050_c000_0000_0000);
-    t = number(t, kept_in(&v), 299);
-    number(t, kept_in(&d), 300)
+    t = float(t, v[1023], 0x4050_c000_0000_0000);
+    t = number(t, kept_in(&v), 1023);
+    number(t, kept_in(&d), 1024)
+}
+
+// ---- slots of one byte and of two
+
+// One slot is the constant 5. A state begins as 5, and its derivative is itself negated. Another slot is stored the
+// constant, and then itself and itself.
+fn of_each(constant: u64, state: u64, stored: u64) -> [u8; 176] {
+    let mut p = [0u8; 176];
+    record(&mut p, 0, 1, constant, 0x4014_0000_0000_0000);
+    record(&mut p, 1, 2, state, 0x4014_0000_0000_0000);
+    record(&mut p, 2, 4, constant, 0);
+    record(&mut p, 3, 13, stored, 0);
+    record(&mut p, 4, 4, stored, 0);
+    record(&mut p, 5, 4, stored, 0);
+    record(&mut p, 6, 5, 0, 0);
+    record(&mut p, 7, 15, stored, 0);
+    record(&mut p, 8, 4, state, 0);
+    record(&mut p, 9, 9, 0, 0);
+    record(&mut p, 10, 14, state, 0);
+    p
+}
+
+// A start writes the state and TIME = 0. Of more than 1,024 places that are lent the further ones stay.
+fn starts_at(t0: Tally, constant: usize, state: usize, stored: usize) -> Tally
+    requires { ⌜ state < slots ⌝ }
+{
+    let p = of_each(constant as u64, state as u64, stored as u64);
+    let mut v = [7.0; 1100];
+    let mut d = [7.0; 1100];
+    let a = evaluator::start(&p, &mut v, &mut d);
+    let mut t = number(t0, a.number, 0);
+    t = float(t, v[state], 0x4014_0000_0000_0000);
+    t = float(t, v[0], 0);
+    t = number(t, kept_in(&v), 1098);
+    number(t, kept_in(&d), 1100)
+}
+
+// From 7 and TIME = 7 a step of 0.5 leaves the state 7 + 0.5 * -7 = 3.5, the constant 5, 5 + 5 = 10, and TIME = 7.5.
+fn steps_at(t0: Tally, constant: usize, state: usize, stored: usize) -> Tally
+    requires { ⌜ (constant < slots) × ((state < slots) × (stored < slots)) ⌝ }
+{
+    let p = of_each(constant as u64, state as u64, stored as u64);
+    let mut v = [7.0; 1100];
+    let mut d = [7.0; 1100];
+    let a = evaluator::step(&p, 0.5, &mut v, &mut d);
+    let mut t = number(t0, a.number, 0);
+    t = float(t, d[state], 0xc01c_0000_0000_0000);
+    t = float(t, v[state], 0x400c_0000_0000_0000);
+    t = float(t, v[constant], 0x4014_0000_0000_0000);
+    t = float(t, v[stored], 0x4024_0000_0000_0000);
+    t = float(t, v[0], 0x401e_0000_0000_0000);
+    t = number(t, kept_in(&v), 1096);
+    number(t, kept_in(&d), 1099)
+}
+
+// The last slot of one byte, the first of two, and the last, each for each.
+fn far(t0: Tally) -> Tally {
+    let mut t = starts_at(t0, 256, 255, 1023);
+    t = starts_at(t, 1023, 256, 255);
+    t = starts_at(t, 255, 1023, 256);
+    t = steps_at(t, 256, 255, 1023);
+    t = steps_at(t, 1023, 256, 255);
+    steps_at(t, 255, 1023, 256)
 }
 
 // The empty program is accepted: evaluating writes nothing, and a step moves TIME alone, from 7 to 7.5.
@@ -233,6 +298,7 @@ pub fn all(t0: Tally) -> Tally {
     t = rounds_twice(t);
     t = reads(t);
     t = piles(t);
+    t = far(t);
     t = stores_again(t);
     t = steps_again(t);
     nothing(t)

@@ -4,6 +4,7 @@ use crate::lent::kept_in;
 use crate::lent::record;
 use crate::lent::records;
 use crate::lent::sevens;
+use evaluator::Answer;
 use limits::SLOTS;
 use tally::Tally;
 use tally::number;
@@ -33,6 +34,19 @@ fn initial(slot: u64) -> Rec {
     of(2, slot, 0x3ff0_0000_0000_0000)
 }
 
+// An answer has this number and this record number.
+fn answered(t0: Tally, a: Answer, wanted: usize, place: usize) -> Tally {
+    let t = number(t0, a.number, wanted);
+    number(t, a.place, place)
+}
+
+// All three of them do.
+fn alike(t0: Tally, a: Answer, b: Answer, c: Answer, wanted: usize, place: usize) -> Tally {
+    let mut t = answered(t0, a, wanted, place);
+    t = answered(t, b, wanted, place);
+    answered(t, c, wanted, place)
+}
+
 // Evaluating, starting and stepping refuse a program alike, and write nothing.
 fn refused(t0: Tally, p: &[u8], wanted: usize, place: usize) -> Tally {
     let mut v = sevens();
@@ -40,12 +54,7 @@ fn refused(t0: Tally, p: &[u8], wanted: usize, place: usize) -> Tally {
     let a = evaluator::evaluate(p, &mut v, &mut d);
     let b = evaluator::start(p, &mut v, &mut d);
     let c = evaluator::step(p, 0.5, &mut v, &mut d);
-    let mut t = number(t0, a.number, wanted);
-    t = number(t, a.place, place);
-    t = number(t, b.number, wanted);
-    t = number(t, b.place, place);
-    t = number(t, c.number, wanted);
-    t = number(t, c.place, place);
+    let mut t = alike(t0, a, b, c, wanted, place);
     t = number(t, kept(&v), SLOTS);
     number(t, kept(&d), SLOTS)
 }
@@ -104,13 +113,27 @@ fn kinds(t0: Tally) -> Tally {
     one(t, of(1 + 256 * 128, 1, 0))
 }
 
-// Slots over 255.
+// Slots over 1,023, also where the slot that has their low bits is set, or is a state.
 fn slots(t0: Tally) -> Tally {
-    let mut t = one(t0, constant(256));
-    t = one(t, initial(256));
-    t = one(t, of(4, 256, 0));
-    t = two(t, push(), of(13, 256, 0));
-    three(t, initial(1), push(), of(14, 257, 0))
+    let mut t = one(t0, constant(1024));
+    t = one(t, constant(65535));
+    t = one(t, initial(1024));
+    t = one(t, initial(65535));
+    t = one(t, of(4, 1024, 0));
+    t = two(t, constant(1), of(4, 1025, 0));
+    t = two(t, push(), of(13, 1024, 0));
+    t = two(t, push(), of(13, 65535, 0));
+    t = three(t, initial(1), push(), of(14, 1025, 0));
+    t = three(t, initial(255), push(), of(14, 65535, 0));
+    three(t, initial(1023), push(), of(14, 65535, 0))
+}
+
+// A slot is not that of its low byte alone: one of the two is set, and the other is asked for.
+fn low_bytes(t0: Tally) -> Tally {
+    let mut t = two(t0, constant(1), of(4, 257, 0));
+    t = two(t, constant(257), of(4, 1, 0));
+    t = three(t, initial(255), push(), of(14, 1023, 0));
+    four(t, push(), of(13, 1023, 0), push(), of(15, 255, 0))
 }
 
 // An unused slot or value that is not 0; the bits of -0 are not 0.
@@ -176,10 +199,10 @@ fn stored(t: Tally, a: Rec) -> Tally {
     four(t, push(), of(13, 1, 0), push(), a)
 }
 
-// Kind 15 with byte 1 not 0, a slot over 255, or a value; the bits of -0 are not 0.
+// Kind 15 with byte 1 not 0, a slot over 1,023, or a value; the bits of -0 are not 0.
 fn again_fields(t0: Tally) -> Tally {
     let mut t = stored(t0, of(15 + 256, 1, 0));
-    t = stored(t, of(15, 257, 0));
+    t = stored(t, of(15, 1025, 0));
     t = stored(t, of(15, 1, 1));
     stored(t, of(15, 1, 0x8000_0000_0000_0000))
 }
@@ -232,40 +255,50 @@ fn sizes(t0: Tally) -> Tally {
     refused(t, &more, 2, 0)
 }
 
-// 1: values of one place too few, which comes before a bad size.
+// 1: values of 1,023 places, which comes before a bad size.
 fn short_values(t0: Tally) -> Tally {
     let odd = [0u8; 17];
-    let mut v = [7.0; SLOTS - 1];
+    let mut v = [7.0; 1023];
     let mut d = sevens();
     let a = evaluator::evaluate(&odd, &mut v, &mut d);
     let b = evaluator::start(&odd, &mut v, &mut d);
-    let mut t = number(t0, a.number, 1);
-    t = number(t, a.place, 0);
-    t = number(t, b.number, 1);
-    t = number(t, b.place, 0);
-    t = number(t, kept_in(&v), SLOTS - 1);
+    let c = evaluator::step(&odd, 0.5, &mut v, &mut d);
+    let mut t = alike(t0, a, b, c, 1, 0);
+    t = number(t, kept_in(&v), 1023);
     number(t, kept(&d), SLOTS)
 }
 
-// 1: derivatives of one place too few.
+// 1: derivatives of 1,023 places.
 fn short_derivs(t0: Tally) -> Tally {
     let odd = [0u8; 17];
     let mut v = sevens();
-    let mut d = [7.0; SLOTS - 1];
+    let mut d = [7.0; 1023];
     let a = evaluator::evaluate(&odd, &mut v, &mut d);
-    let b = evaluator::step(&odd, 0.5, &mut v, &mut d);
-    let mut t = number(t0, a.number, 1);
-    t = number(t, a.place, 0);
-    t = number(t, b.number, 1);
-    t = number(t, b.place, 0);
+    let b = evaluator::start(&odd, &mut v, &mut d);
+    let c = evaluator::step(&odd, 0.5, &mut v, &mut d);
+    let mut t = alike(t0, a, b, c, 1, 0);
     t = number(t, kept(&v), SLOTS);
-    number(t, kept_in(&d), SLOTS - 1)
+    number(t, kept_in(&d), 1023)
+}
+
+// 1: 256 places of each, with a program that has none to write.
+fn short_both(t0: Tally) -> Tally {
+    let none = [0u8; 0];
+    let mut v = [7.0; 256];
+    let mut d = [7.0; 256];
+    let a = evaluator::evaluate(&none, &mut v, &mut d);
+    let b = evaluator::start(&none, &mut v, &mut d);
+    let c = evaluator::step(&none, 0.5, &mut v, &mut d);
+    let mut t = alike(t0, a, b, c, 1, 0);
+    t = number(t, kept_in(&v), 256);
+    number(t, kept_in(&d), 256)
 }
 
 // All of these.
 pub fn all(t0: Tally) -> Tally {
     let mut t = kinds(t0);
     t = slots(t);
+    t = low_bytes(t);
     t = unused(t);
     t = late(t);
     t = time(t);
@@ -278,5 +311,6 @@ pub fn all(t0: Tally) -> Tally {
     t = ended(t);
     t = sizes(t);
     t = short_values(t);
-    short_derivs(t)
+    t = short_derivs(t);
+    short_both(t)
 }
