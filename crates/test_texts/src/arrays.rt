@@ -2,6 +2,7 @@
 // room.
 use bits::reads::short_at;
 use bits::reads::word_at;
+use limits::DEFINITIONS;
 use limits::FAULT_BYTES;
 use limits::STATEMENTS;
 use model::answer::Plan;
@@ -44,7 +45,7 @@ fn amid(t0: Tally) -> Tally {
     let mut args = [7u64, 5, 6];
     let mut used = [170u16; 3];
     let mut faults = [170u8; FAULT_BYTES];
-    let mut places = [170u16; STATEMENTS];
+    let mut places = [170u16; DEFINITIONS];
     let mut equated = [170u16; STATEMENTS];
     let mut order = [170u16; STATEMENTS];
     let p = model::plan(
@@ -75,7 +76,7 @@ fn amid_twice(t0: Tally) -> Tally {
     let mut args = [7u64, 5, 5];
     let mut used = [170u16; 3];
     let mut faults = [170u8; FAULT_BYTES];
-    let mut places = [170u16; STATEMENTS];
+    let mut places = [170u16; DEFINITIONS];
     let mut equated = [170u16; STATEMENTS];
     let mut order = [170u16; STATEMENTS];
     let p = model::plan(
@@ -103,7 +104,7 @@ fn unused(t0: Tally) -> Tally {
     let mut args = [6u64, 9, 6];
     let mut used = [170u16; 3];
     let mut faults = [170u8; 2 * FAULT_BYTES];
-    let mut places = [170u16; STATEMENTS];
+    let mut places = [170u16; DEFINITIONS];
     let mut equated = [170u16; STATEMENTS];
     let mut order = [170u16; STATEMENTS];
     let p = model::plan(
@@ -125,6 +126,37 @@ fn unused(t0: Tally) -> Tally {
     t = shorts(t, &places, 2, 170, 170);
     t = shorts(t, &equated, 1, 170, 170);
     shorts(t, &order, 0, 170, 170)
+}
+
+// Room for all definitions but one is too little, and nothing is written.
+fn few_places(t0: Tally) -> Tally {
+    let lines = [1u16; 1];
+    let bounds = [0u16, 3];
+    let kinds = [3u8, 1, 13];
+    let mut args = [7u64, 5, 6];
+    let mut used = [170u16; 3];
+    let mut faults = [170u8; FAULT_BYTES];
+    let mut places = [170u16; 1022];
+    let mut equated = [170u16; STATEMENTS];
+    let mut order = [170u16; STATEMENTS];
+    let p = model::plan(
+        &lines,
+        &bounds,
+        &lines,
+        &bounds,
+        &kinds,
+        &mut args,
+        &mut used,
+        &mut faults,
+        &mut places,
+        &mut equated,
+        &mut order,
+    );
+    let mut t = planned(t0, p, 9, 0, 0, 0);
+    t = words(t, &args, 7, 5, 6);
+    t = shorts(t, &places, 170, 170, 170);
+    t = shorts(t, &equated, 170, 170, 170);
+    shorts(t, &order, 170, 170, 170)
 }
 
 // Of two constants one has room, and four bytes are left.
@@ -164,5 +196,6 @@ pub fn all(t0: Tally) -> Tally {
     let mut t = amid(t0);
     t = amid_twice(t);
     t = unused(t);
+    t = few_places(t);
     little_room(t)
 }

@@ -1,4 +1,6 @@
 // Texts with comment cards inside statements.
+use crate::made::Rule;
+use crate::made::fill;
 use crate::wanted::blank;
 use crate::wanted::faulty;
 use crate::wanted::faulty_front;
@@ -81,24 +83,54 @@ fn long_card() -> [u8; 82] {
     text
 }
 
-// A comment inside may have any length, and a card beside it 72 bytes.
-fn lengths(t0: Tally) -> Tally {
+// The program of that sum.
+fn two_ones() -> [u8; 4096] {
     let one = 0x3ff0_0000_0000_0000;
     let mut w = blank();
     record(&mut w, 0, 3, 0, 1, one);
     record(&mut w, 1, 3, 0, 1, one);
     record(&mut w, 2, 5, 0, 1, 0);
     record(&mut w, 3, 13, 1, 1, 0);
-    let t = translated(t0, &long_comment(), 4, &w);
+    w
+}
+
+// A comment inside may have any length, and a card beside it 72 bytes.
+fn lengths(t0: Tally) -> Tally {
+    let t = translated(t0, &long_comment(), 4, &two_ones());
     faulty(t, &long_card(), 5, b"1 13 1 1")
 }
 
 // A card that continues, and a comment behind it up to the largest size of a text: it counts for that.
 fn largest(t0: Tally) -> Tally {
-    let mut text = [42u8; 16385];
+    let mut text = [42u8; 32769];
     bytes::copy(b"A=1...\n", &mut text);
-    let t = faulty_front(t0, &text, 16384, 5, b"1 11 1 6");
+    let t = faulty_front(t0, &text, 32768, 5, b"1 11 1 6");
     silent(t, &text, 2)
+}
+
+// A card that continues, and 1,024 lines of comments.
+fn many_comments() -> [u8; 2056] {
+    let mut text = [0u8; 2056];
+    fill(&mut text, Rule::Comment, 0, 1);
+    bytes::copy(b"A=1 ...\n", &mut text);
+    text
+}
+
+// The same with 1,022 and a card behind them, which ends with this byte.
+fn far_card(last: u8) -> [u8; 2054] {
+    let mut text = [0u8; 2054];
+    fill(&mut text, Rule::Comment, 0, 1);
+    bytes::copy(b"A=1 ...\n", &mut text);
+    text[2052] = b'+';
+    text[2053] = last;
+    text
+}
+
+// That card is line 1,024. Comments inside count as lines, and one line more is too many.
+fn most_lines(t0: Tally) -> Tally {
+    let mut t = translated(t0, &far_card(b'1'), 4, &two_ones());
+    t = faulty(t, &far_card(b'#'), 5, b"1 14 1024 2");
+    silent(t, &many_comments(), 3)
 }
 
 // A blank line behind a comment ends the statement, and the next line starts another.
@@ -141,6 +173,7 @@ pub fn all(t0: Tally) -> Tally {
     t = cards(t);
     t = lengths(t);
     t = largest(t);
+    t = most_lines(t);
     t = blanks(t);
     numbered(t)
 }

@@ -1,124 +1,24 @@
 // Texts at each limit and one past it.
-ghost use Prim.Native.Nat.{_+_, _≤_, _<_};
+ghost use Prim.Native.Nat.{_≤_, _<_};
+use crate::made::Rule;
+use crate::made::constants_program;
+use crate::made::fill;
+use crate::made::links_program;
+use crate::made::put_each;
+use crate::made::put_sums;
+use crate::made::sums_program;
 use crate::wanted::blank;
 use crate::wanted::exact;
 use crate::wanted::faulty;
+use crate::wanted::faulty_front;
 use crate::wanted::lent;
 use crate::wanted::put_faults;
 use crate::wanted::record;
 use crate::wanted::silent;
 use crate::wanted::translated;
+use limits::FAULT_ROOM;
 use limits::PROGRAM_ROOM;
 use tally::Tally;
-
-// A digit of a number below 1,000: its hundreds, tens or ones.
-fn figure(k: usize, unit: usize) -> u8 {
-    if unit == 0 {
-        return 48;
-    }
-    48 + (k / unit % 10) as u8
-}
-
-// Byte r of the name of statement k: A and three figures.
-fn name_byte(k: usize, r: usize) -> u8 {
-    if r == 0 {
-        return 65;
-    }
-    if r == 1 {
-        return figure(k, 100);
-    }
-    if r == 2 {
-        return figure(k, 10);
-    }
-    figure(k, 1)
-}
-
-// Byte r of statement k, whose line has a width of w: its name, an equals sign, ones with plus signs between, byte 10.
-fn line_byte(k: usize, r: usize, w: usize) -> u8 {
-    if r < 4 {
-        return name_byte(k, r);
-    }
-    if r == 4 {
-        return 61;
-    }
-    if w <= r {
-        return 10;
-    }
-    if r % 2 == 1 {
-        return 49;
-    }
-    43
-}
-
-// Fills bytes with statements of w bytes each, byte 10 aside, no name twice.
-fn fill_lines(out: &mut [u8], w: usize)
-    requires { ⌜ w ≤ 72 ⌝ }
-{
-    let mut i: usize = 0;
-    while i < out.len() {
-        out[i] = line_byte(i / (w + 1), i % (w + 1), w);
-        i += 1;
-    }
-}
-
-// ---- sums of ones, a statement on each line
-
-// Record i of a program, which is record r of the sum with this slot and line, of so many records: ones pushed, each
-// but the first added, the sum stored.
-fn put_sum_record(program: &mut [u8], i: usize, slot: usize, r: usize, size: usize)
-    requires { ⌜ (i < 4096) × (0 < size) ⌝ }
-{
-    let line = slot as u64;
-    if r == size - 1 {
-        record(program, i, 13, line, line, 0);
-        return;
-    }
-    if r == 0 {
-        record(program, i, 3, 0, line, 0x3ff0_0000_0000_0000);
-        return;
-    }
-    if r % 2 == 1 {
-        record(program, i, 3, 0, line, 0x3ff0_0000_0000_0000);
-        return;
-    }
-    record(program, i, 5, 0, line, 0);
-}
-
-// The slot behind another.
-fn next(slot: usize) -> usize {
-    if slot < 256 { slot + 1 } else { 0 }
-}
-
-// So many records from a place on, of sums of this size each, from a slot on.
-fn put_sums(program: &mut [u8], start: usize, count: usize, size: usize, slot: usize)
-    requires { ⌜ (start + count ≤ 4096) × (0 < size) ⌝ }
-{
-    let mut at = slot;
-    let mut j: usize = 0;
-    while j < count {
-        put_sum_record(&mut *program, start + j, at, j % size, size);
-        j += 1;
-        if j % size == 0 {
-            at = next(at);
-        }
-    }
-}
-
-// The program of sums of one size.
-fn program_of(count: usize, size: usize) -> [u8; PROGRAM_ROOM]
-    requires { ⌜ (count ≤ 4096) × (0 < size) ⌝ }
-{
-    let mut program = [170u8; PROGRAM_ROOM];
-    put_sums(&mut program, 0, count, size, 1);
-    program
-}
-
-// 60 sums of 68 records and one of 16.
-fn fullest() -> [u8; PROGRAM_ROOM] {
-    let mut program = program_of(4080, 68);
-    put_sums(&mut program, 4080, 16, 16, 61);
-    program
-}
 
 // The first n bytes of a text have this program; a text that is shorter counts as one that differs.
 fn front(t: Tally, text: &[u8], n: usize, count: usize, wanted: &[u8; PROGRAM_ROOM]) -> Tally {
@@ -138,65 +38,234 @@ fn front_silent(t: Tally, text: &[u8], n: usize, number: usize) -> Tally {
 
 // One number is stored.
 fn stored(t: Tally, text: &[u8]) -> Tally {
-    let w = program_of(2, 2);
+    let w = sums_program(2, 2);
     exact(t, text, 2, &w)
 }
 
-// ---- the limits
+// ---- lines
 
-// 512 and 513 lines; a last line without byte 10 counts.
+// 513, 1,024 and 1,025 lines; a last line without byte 10 counts.
 fn lines(t0: Tally) -> Tally {
-    let mut text = [10u8; 513];
-    let mut t = silent(t0, &text[..512], 0);
+    let mut text = [10u8; 1025];
+    let mut t = silent(t0, &text[..513], 0);
+    t = silent(t, &text[..1024], 0);
     t = silent(t, &text, 3);
-    text[512] = 42;
-    silent(t, &text, 3)
+    text[1024] = 42;
+    t = silent(t, &text, 3);
+    text[1023] = 42;
+    silent(t, &text[..1024], 0)
 }
 
-// 257 statements of one definition each.
-fn names() -> [u8; 1799] {
-    let mut text = [0u8; 1799];
-    fill_lines(&mut text, 6);
+// A statement on line 1,024, without byte 10.
+fn late() -> [u8; 1026] {
+    let mut text = [10u8; 1026];
+    bytes::copy(b"A=1", &mut text[1023..]);
     text
 }
 
-// 256 of them, with a comma for the byte 10 of the 255th.
-fn comma() -> [u8; 1792] {
-    let mut text = [0u8; 1792];
-    fill_lines(&mut text, 6);
-    text[1784] = 44;
+// Both bytes of that line stand in its records.
+fn last_line(t: Tally) -> Tally {
+    let mut w = blank();
+    record(&mut w, 0, 3, 0, 1024, 0x3ff0_0000_0000_0000);
+    record(&mut w, 1, 13, 1, 1024, 0);
+    translated(t, &late(), 2, &w)
+}
+
+// ---- statements
+
+// 513 statements of one definition each.
+fn names() -> [u8; 3591] {
+    let mut text = [0u8; 3591];
+    fill(&mut text, Rule::Sum, 0, 6);
     text
 }
 
-// 255 definitions are translated into 510 records. The 256th is one too many; a statement more is refused first. A
-// fault comes before both.
+// 512 are translated into 1,024 records, and 257 into 514. 513 are refused.
 fn statements(t0: Tally) -> Tally {
     let text = names();
-    let w = program_of(510, 2);
-    let mut t = front(t0, &text, 1785, 510, &w);
-    t = front_silent(t, &text, 1792, 6);
-    t = silent(t, &text, 4);
-    let other = comma();
-    faulty(t, &other, 5, b"255 18 255 7")
+    let mut t = front(t0, &text, 1799, 514, &sums_program(514, 2));
+    t = front(t, &text, 3584, 1024, &sums_program(1024, 2));
+    silent(t, &text, 4)
 }
 
-// 254 statements, and one of 14 bytes.
-fn with_constants(last: &[u8]) -> [u8; 1792] {
-    let mut text = [0u8; 1792];
-    fill_lines(&mut text, 6);
+// The same with a bad byte in the 512th.
+fn bad_names() -> [u8; 3591] {
+    let mut text = names();
+    text[3577] = 35;
+    text
+}
+
+// That is told of 512, and of 513 only that they are too many.
+fn bad_statements(t0: Tally) -> Tally {
+    let text = bad_names();
+    let t = faulty_front(t0, &text, 3584, 5, b"512 14 512 1");
+    silent(t, &text, 4)
+}
+
+// 512 statements, each but the last using the next.
+fn links() -> [u8; 5120] {
+    let mut text = [0u8; 5120];
+    fill(&mut text, Rule::Link, 0, 9);
+    bytes::copy(b"1   ", &mut text[5115..]);
+    text
+}
+
+// They are put the other way round.
+fn chain(t: Tally) -> Tally {
+    exact(t, &links(), 1024, &links_program())
+}
+
+// ---- definitions
+
+// 1,024 constants in 128 statements.
+fn constants() -> [u8; 7936] {
+    let mut text = [0u8; 7936];
+    fill(&mut text, Rule::Constants, 0, 61);
+    text
+}
+
+// The same with another figure at a place.
+fn renamed(place: usize, figure: u8) -> [u8; 7936]
+    requires { ⌜ place < 7936 ⌝ }
+{
+    let mut text = constants();
+    text[place] = figure;
+    text
+}
+
+// 1,023 of them are translated, and so are 256. The last, B023, is one too many, also if it is B022 like the one before
+// it. Of 1,023 the last may not be B021.
+fn definitions(t0: Tally) -> Tally {
+    let text = constants();
+    let mut t = front(t0, &text, 1984, 256, &constants_program(256));
+    t = front(t, &text, 7928, 1023, &constants_program(1023));
+    t = silent(t, &text, 6);
+    t = silent(t, &renamed(7932, b'2'), 6);
+    faulty_front(t, &renamed(7925, b'1'), 7928, 7, b"128 21 128 1")
+}
+
+// 129 such statements, the first with a bad byte.
+fn bad_constants() -> [u8; 7998] {
+    let mut text = [0u8; 7998];
+    fill(&mut text, Rule::Constants, 0, 61);
+    text[0] = 35;
+    text
+}
+
+// That is told, though the others have 1,024 definitions.
+fn bad_definitions(t: Tally) -> Tally {
+    faulty(t, &bad_constants(), 5, b"1 14 1 1")
+}
+
+// 73 statements of eight constants, and 440 of one definition: 513 statements, and 1,024 definitions.
+fn mixture() -> [u8; 7606] {
+    let mut text = [0u8; 7606];
+    fill(&mut text, Rule::Constants, 0, 61);
+    fill(&mut text[4526..], Rule::Sum, 584, 6);
+    text
+}
+
+// The program of all but the last.
+fn mixture_program() -> [u8; PROGRAM_ROOM] {
+    let mut program = constants_program(584);
+    put_sums(&mut program, 584, 878, 2, 585, 74);
+    program
+}
+
+// The mixture with one statement of 14 bytes in the place of its last two.
+fn with_last(last: &[u8]) -> [u8; 7606] {
+    let mut text = mixture();
     if last.len() == 14 {
-        bytes::copy(last, &mut text[1778..]);
+        bytes::copy(last, &mut text[7592..]);
     }
     text
 }
 
-// 256 definitions in 255 statements; doubles count too.
-fn definitions(t0: Tally) -> Tally {
-    let two = with_constants(b"CONST B=1,C=1\n");
-    let t = silent(t0, &two, 6);
-    let double = with_constants(b"CONST B=1,B=1\n");
-    silent(t, &double, 6)
+// 512 statements with 1,023 definitions. A statement more is refused first; 1,024 definitions in 512 statements are too
+// many, and doubles count.
+fn both(t0: Tally) -> Tally {
+    let text = mixture();
+    let mut t = front(t0, &text, 7599, 1462, &mixture_program());
+    t = silent(t, &text, 4);
+    t = silent(t, &with_last(b"CONST B=1,C=1\n"), 6);
+    silent(t, &with_last(b"CONST B=1,B=1\n"), 6)
 }
+
+// ---- slots of two bytes
+
+// 127 statements of eight constants, which have the slots 1 to 1,016.
+fn many_constants() -> [u8; 8000] {
+    let mut text = [10u8; 8000];
+    fill(&mut text[..7874], Rule::Constants, 0, 61);
+    text
+}
+
+// Others stand behind them.
+fn behind_constants(tail: &[u8]) -> [u8; 8000] {
+    let mut text = many_constants();
+    if tail.len() <= 126 {
+        bytes::copy(tail, &mut text[7874..]);
+    }
+    text
+}
+
+// Y is slot 1,022, the state X slot 1,023 and A255 slot 256.
+fn last_slots_program() -> [u8; PROGRAM_ROOM] {
+    let mut w = constants_program(1021);
+    record(&mut w, 1021, 2, 1023, 130, 0x4000_0000_0000_0000);
+    record(&mut w, 1022, 4, 1023, 129, 0);
+    record(&mut w, 1023, 4, 256, 129, 0);
+    record(&mut w, 1024, 5, 0, 129, 0);
+    record(&mut w, 1025, 13, 1022, 129, 0);
+    record(&mut w, 1026, 4, 1022, 130, 0);
+    record(&mut w, 1027, 14, 1023, 130, 0);
+    w
+}
+
+// Five constants more, and these two.
+fn last_slots(t: Tally) -> Tally {
+    let text = behind_constants(b"CONST U=1,V=1,W=1,S=1,T=1\nY=X+A255\nX=INTGRL(2,Y)\n");
+    exact(t, &text, 1028, &last_slots_program())
+}
+
+// P of the block is slot 1,017, R is 1,018 and the state X is 1,019. A254, A255 and A256 are the slots 255 to 257.
+fn block_slots_program() -> [u8; PROGRAM_ROOM] {
+    let mut w = constants_program(1016);
+    record(&mut w, 1016, 2, 1019, 133, 0x3ff0_0000_0000_0000);
+    record(&mut w, 1017, 4, 256, 132, 0);
+    record(&mut w, 1018, 4, 257, 132, 0);
+    record(&mut w, 1019, 7, 0, 132, 0);
+    record(&mut w, 1020, 13, 1018, 132, 0);
+    record(&mut w, 1021, 4, 1018, 129, 0);
+    record(&mut w, 1022, 13, 1017, 129, 0);
+    record(&mut w, 1023, 4, 1017, 130, 0);
+    record(&mut w, 1024, 4, 255, 130, 0);
+    record(&mut w, 1025, 6, 0, 130, 0);
+    record(&mut w, 1026, 15, 1017, 130, 0);
+    record(&mut w, 1027, 4, 1017, 133, 0);
+    record(&mut w, 1028, 14, 1019, 133, 0);
+    w
+}
+
+// The block, which sets P twice, stands behind R and before X.
+fn block_slots(t: Tally) -> Tally {
+    let text = behind_constants(
+        b"PROCED P=Q(R)\nP=R\nP=P-A254\nENDPRO\nR=A255*A256\nX=INTGRL(B015,P)\n",
+    );
+    exact(t, &text, 1029, &block_slots_program())
+}
+
+// Each setting in a block counts: with seven there are 1,023, and with eight one too many.
+fn settings(t0: Tally) -> Tally {
+    let seven = behind_constants(b"PROCED P=Q(B015)\nP=1\nP=1\nP=1\nP=1\nP=1\nP=1\nP=Z\nENDPRO\n");
+    let t = faulty(t0, &seven, 7, b"135 26 135 1");
+    let eight = behind_constants(
+        b"PROCED P=Q(B015)\nP=1\nP=1\nP=1\nP=1\nP=1\nP=1\nP=1\nP=Z\nENDPRO\n",
+    );
+    silent(t, &eight, 6)
+}
+
+// ---- a statement
 
 // 72 and 73 bytes, spaces counted.
 fn bytes(t0: Tally) -> Tally {
@@ -208,7 +277,7 @@ fn bytes(t0: Tally) -> Tally {
 
 // 4 and 5 lines, 6 and 7 letters.
 fn runs_and_names(t0: Tally) -> Tally {
-    let w = program_of(8, 8);
+    let w = sums_program(8, 8);
     let mut t = exact(t0, b"A=1...\n+1...\n+1...\n+1", 8, &w);
     t = faulty(t, b"A=1...\n+1...\n+1...\n+1...\n+1", 5, b"1 12 1 1");
     t = stored(t, b"ABCDEF=1");
@@ -240,72 +309,106 @@ fn levels(t0: Tally) -> Tally {
     )
 }
 
-// 16,384 and 16,385 bytes, of a comment.
+// ---- bytes and records
+
+// 16,385, 32,768 and 32,769 bytes, of a comment.
 fn size(t0: Tally) -> Tally {
-    let text = [42u8; 16385];
-    let t = silent(t0, &text[..16384], 0);
+    let text = [42u8; 32769];
+    let mut t = silent(t0, &text[..16385], 0);
+    t = silent(t, &text[..32768], 0);
     silent(t, &text, 2)
 }
 
-// 60 sums of 34 ones have 68 records each, and one of 8 ones has 16.
-fn sums() -> [u8; 4407] {
-    let mut text = [0u8; 4407];
-    fill_lines(&mut text, 72);
-    bytes::copy(b"B=1+1+1+1+1+1+1+1\nCONST C=1", &mut text[4380..]);
+// 449 sums, the last of which ends with byte 32,768.
+fn crowd() -> [u8; 32769] {
+    let mut text = [0u8; 32769];
+    fill(&mut text, Rule::Sum, 0, 72);
     text
 }
 
-// 4,096 records in all. A constant more is one too many.
+// They have too many records. A byte more is refused first.
+fn crowded(t0: Tally) -> Tally {
+    let text = crowd();
+    let t = front_silent(t0, &text, 32768, 8);
+    silent(t, &text, 2)
+}
+
+// 60 sums of 34 ones have 68 records each. A comment fills the largest text.
+fn sixty() -> [u8; 32768] {
+    let mut text = [42u8; 32768];
+    fill(&mut text[..4380], Rule::Sum, 0, 72);
+    text
+}
+
+// One of 8 ones has 16.
+fn sums() -> [u8; 32768] {
+    let mut text = sixty();
+    bytes::copy(b"B=1+1+1+1+1+1+1+1\n", &mut text[4380..]);
+    text
+}
+
+// A constant has one more.
+fn sums_and_one() -> [u8; 32768] {
+    let mut text = sums();
+    bytes::copy(b"CONST C=1\n", &mut text[4398..]);
+    text
+}
+
+// The program of the sums.
+fn fullest() -> [u8; PROGRAM_ROOM] {
+    let mut program = sums_program(4080, 68);
+    put_sums(&mut program, 4080, 16, 16, 61, 61);
+    program
+}
+
+// 4,096 records are the most.
 fn records(t0: Tally) -> Tally {
-    let text = sums();
-    let w = fullest();
-    let t = front(t0, &text, 4398, 4096, &w);
-    silent(t, &text, 8)
+    let t = exact(t0, &sums(), 4096, &fullest());
+    silent(t, &sums_and_one(), 8)
 }
 
 // ---- lent room
 
-// Writes fault k, from 0, of lines that end early behind five bytes.
-fn put_end(list: &mut [u8], k: usize)
-    requires { ⌜ k < 256 ⌝ }
-{
-    let o = k * 8;
-    let line = k as u64 + 1;
-    bits::put_low(&mut *list, o, 2, line);
-    bits::put_low(&mut *list, o + 2, 2, 18);
-    bits::put_low(&mut *list, o + 4, 2, line);
-    bits::put_low(list, o + 6, 2, 5);
-}
-
-// The faults of 256 such lines.
-fn put_ends(list: &mut [u8]) {
-    let mut k: usize = 0;
-    while k < 256 {
-        put_end(&mut *list, k);
-        k += 1;
-    }
-}
-
-// 256 statements end behind their equals sign, and their faults fill 2,048 bytes.
-fn full_list(t: Tally) -> Tally {
-    let mut text = [0u8; 1536];
-    fill_lines(&mut text, 5);
-    let mut faults = [170u8; 2048];
+// Each of 512 lines has a fault of this code and at this column, and they fill 4,096 bytes.
+fn full_list(t: Tally, text: &[u8], number: usize, code: u64, column: u64) -> Tally {
+    let mut faults = [170u8; 4096];
     let mut program = [170u8; 64];
-    let mut list = [170u8; 2048];
-    put_ends(&mut list);
+    let mut list = [170u8; 4096];
+    put_each(&mut list, code, column);
     let kept = [170u8; 64];
-    lent(t, &text, &mut faults, &mut program, 5, 256, &list, &kept)
+    lent(
+        t,
+        text,
+        &mut faults,
+        &mut program,
+        number,
+        512,
+        &list,
+        &kept,
+    )
+}
+
+// 512 statements end behind their equals sign; 512 headers have no end; 512 statements are a loop.
+fn full_lists(t0: Tally) -> Tally {
+    let mut ends = [0u8; 3072];
+    fill(&mut ends, Rule::Sum, 0, 5);
+    let mut t = full_list(t0, &ends, 5, 18, 5);
+    let mut headers = [0u8; 7168];
+    fill(&mut headers, Rule::Header, 0, 13);
+    t = full_list(t, &headers, 7, 25, 1);
+    let mut links = [0u8; 5120];
+    fill(&mut links, Rule::Link, 0, 9);
+    full_list(t, &links, 7, 24, 1)
 }
 
 // With n bytes lent for faults, a text with one has this number and count, and those bytes then hold what is wanted.
 fn with_room(t: Tally, n: usize, number: usize, count: usize, list: &[u8]) -> Tally
-    requires { ⌜ n ≤ 2056 ⌝ }
+    requires { ⌜ n ≤ 4104 ⌝ }
 {
     if list.len() < n {
         return tally::right(t, false);
     }
-    let mut faults = [170u8; 2056];
+    let mut faults = [170u8; 4104];
     let mut program = [170u8; 64];
     let kept = [170u8; 64];
     lent(
@@ -320,37 +423,37 @@ fn with_room(t: Tally, n: usize, number: usize, count: usize, list: &[u8]) -> Ta
     )
 }
 
-// Fewer than 2,048 bytes are too few, and nothing is written.
+// Fewer than 4,096 bytes are too few, and nothing is written.
 fn fault_room(t: Tally, n: usize) -> Tally
-    requires { ⌜ n ≤ 2056 ⌝ }
+    requires { ⌜ n ≤ 4104 ⌝ }
 {
-    let mut list = [170u8; 2056];
-    if n < 2048 {
+    let mut list = [170u8; 4104];
+    if n < 4096 {
         return with_room(t, n, 1, 0, &list);
     }
     put_faults(b"1 14 1 3", &mut list);
     with_room(t, n, 5, 1, &list)
 }
 
-// Every room from a fault less to a fault more.
+// Half of that, and every room from a fault less to a fault more.
 fn fault_rooms(t0: Tally) -> Tally {
-    let mut t = t0;
-    let mut n: usize = 2040;
-    while n <= 2056 {
+    let mut t = fault_room(t0, 2048);
+    let mut n: usize = 4088;
+    while n <= 4104 {
         t = fault_room(t, n);
         n += 1;
     }
     t
 }
 
-// 2,047 bytes for faults are too few for a text without fault too, and so are 63 for four records.
+// 4,095 bytes for faults are too few for a text without fault too, and so are 63 for four records.
 fn short_rooms(t0: Tally) -> Tally {
-    let mut faults = [170u8; 2047];
+    let mut faults = [170u8; 4095];
     let mut program = [170u8; 63];
-    let mut list = [170u8; 2048];
-    let short = [170u8; 2047];
+    let mut list = [170u8; FAULT_ROOM];
+    let short = [170u8; 4095];
     let kept = [170u8; 63];
-    let whole = [170u8; 2048];
+    let whole = [170u8; FAULT_ROOM];
     let t = lent(
         t0,
         b"A=1\nB=2",
@@ -368,8 +471,8 @@ fn short_rooms(t0: Tally) -> Tally {
 fn rooms(t0: Tally) -> Tally {
     let one = 0x3ff0_0000_0000_0000;
     let two = 0x4000_0000_0000_0000;
-    let mut faults = [170u8; 2048];
-    let whole = [170u8; 2048];
+    let mut faults = [170u8; FAULT_ROOM];
+    let whole = [170u8; FAULT_ROOM];
     let mut program = [170u8; 64];
     let mut wanted = [170u8; 64];
     record(&mut wanted, 0, 3, 0, 1, one);
@@ -403,14 +506,23 @@ fn rooms(t0: Tally) -> Tally {
 // All of these.
 pub fn all(t0: Tally) -> Tally {
     let mut t = lines(t0);
+    t = last_line(t);
     t = statements(t);
+    t = bad_statements(t);
+    t = chain(t);
     t = definitions(t);
+    t = bad_definitions(t);
+    t = both(t);
+    t = last_slots(t);
+    t = block_slots(t);
+    t = settings(t);
     t = bytes(t);
     t = runs_and_names(t);
     t = levels(t);
     t = size(t);
+    t = crowded(t);
     t = records(t);
-    t = full_list(t);
+    t = full_lists(t);
     t = fault_rooms(t);
     t = short_rooms(t);
     rooms(t)

@@ -6,6 +6,7 @@ mod arrays;
 mod block_texts;
 mod comment_texts;
 mod limits_met;
+mod made;
 mod place_texts;
 mod power_texts;
 mod slips;

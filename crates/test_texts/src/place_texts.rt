@@ -216,17 +216,17 @@ fn several(t: Tally) -> Tally {
 }
 
 // A text behind so many blank lines, with blank lines behind it.
-fn amid_blanks(blanks: usize, text: &[u8]) -> [u8; 576]
-    requires { ⌜ (blanks ≤ 512) × (length (now text) ≤ 64) ⌝ }
+fn amid_blanks(blanks: usize, text: &[u8]) -> [u8; 1088]
+    requires { ⌜ (blanks ≤ 1024) × (length (now text) ≤ 64) ⌝ }
 {
-    let mut whole = [10u8; 576];
+    let mut whole = [10u8; 1088];
     bytes::copy(text, &mut whole[blanks..]);
     whole
 }
 
 // A text behind so many blank lines is refused with this number and these faults.
 fn behind(t: Tally, blanks: usize, text: &[u8], number: usize, wanted: &[u8]) -> Tally {
-    if 512 < blanks {
+    if 1024 < blanks {
         return tally::right(t, false);
     }
     if 64 < text.len() {
@@ -242,7 +242,11 @@ fn far_lines(t0: Tally) -> Tally {
     t = behind(t, 255, b"A=1+...\n* C\n  ", 5, b"256 18 258 2");
     t = behind(t, 299, b" A=B", 7, b"300 22 300 1");
     t = behind(t, 509, b" A=1...\n* C\n+2...", 5, b"510 11 512 5");
-    behind(t, 511, b"A=#", 5, b"512 14 512 3")
+    t = behind(t, 511, b"A=1+...\n#", 5, b"512 14 513 1");
+    t = behind(t, 767, b"A=#\nB=#", 5, b"768 14 768 3, 769 14 769 3");
+    t = behind(t, 1021, b" A=1...\n* C\n+2...", 5, b"1022 11 1024 5");
+    t = behind(t, 1022, b"A=1\nA=2", 7, b"1024 21 1024 1");
+    behind(t, 1023, b"A=#", 5, b"1024 14 1024 3")
 }
 
 // A text with spaces behind it, n bytes in all, has this statement fault.
@@ -260,7 +264,20 @@ fn far_columns(t0: Tally) -> Tally {
     let mut t = padded(t0, b"A=1...", 255, b"1 11 1 255");
     t = padded(t, b"A=1...", 256, b"1 11 1 256");
     t = padded(t, b"A=1...\n* C\n+2...", 311, b"1 11 3 300");
-    padded(t, b"A=1...", 16384, b"1 11 1 16384")
+    t = padded(t, b"A=1...", 16385, b"1 11 1 16385");
+    padded(t, b"A=1...", 32768, b"1 11 1 32768")
+}
+
+// Such a card behind 1,023 blank lines.
+fn late() -> [u8; 1029] {
+    let mut text = [10u8; 1029];
+    bytes::copy(b"A=1...", &mut text[1023..]);
+    text
+}
+
+// Its last column in the largest text is 32,768 - 1,023 = 31,745.
+fn far_corner(t: Tally) -> Tally {
+    padded(t, &late(), 32768, b"1024 11 1024 31745")
 }
 
 // An early end on a card of 72 bytes; and 13 on one of 73, which is told at the statement's first byte, space or not.
@@ -289,5 +306,6 @@ pub fn all(t0: Tally) -> Tally {
     t = several(t);
     t = far_lines(t);
     t = far_columns(t);
+    t = far_corner(t);
     widest(t)
 }

@@ -1,23 +1,24 @@
--- Statements one after the other.
+-- Bytes one after the other.
 use Prim.Native.Nat.{_-_}
 use mathlib.Core.Path.{_≡_}
 use borrow.Author.Needs.{needs}
 use lib.ListN.{length}
-use Rattle.test_texts.proofs.limits_met.fill_lines.Statement.{statement}
-use Rattle.test_texts.proofs.limits_met.fill_lines.Tie as tie
+use Rattle.test_texts.proofs.made.fill.Statement.{statement}
+use Rattle.test_texts.proofs.made.fill.Tie as tie
 
 abbrev Inv-loop : tie.InvT-loop
-Inv-loop out₀ w i₀ out i = length out ≡ length out₀
+Inv-loop out₀ rule from w i₀ out i = length out ≡ length out₀
 
 abbrev μ-loop : tie.MeasureT-loop
-μ-loop out₀ w i₀ out i = length out₀ - i
+μ-loop out₀ rule from w i₀ out i = length out₀ - i
 
-pub fill-lines-spec : {M : Type 1} → statement M
-fill-lines-spec =
+pub fill-spec : {M : Type 1} → statement M
+fill-spec =
     tie.close
     (tie.spec
     Inv-loop
     μ-loop
+    (λ c. search needs)
     (λ c. search needs)
     (λ c. search needs)
     (λ c. search needs)

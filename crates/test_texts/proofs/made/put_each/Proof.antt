@@ -3,17 +3,17 @@ use Prim.Native.Nat.{_-_}
 use mathlib.Core.Path.{_≡_}
 use borrow.Author.Needs.{needs}
 use lib.ListN.{length}
-use Rattle.test_texts.proofs.limits_met.put_ends.Statement.{statement}
-use Rattle.test_texts.proofs.limits_met.put_ends.Tie as tie
+use Rattle.test_texts.proofs.made.put_each.Statement.{statement}
+use Rattle.test_texts.proofs.made.put_each.Tie as tie
 
 abbrev Inv-loop : tie.InvT-loop
-Inv-loop list₀ k₀ list k = length list ≡ length list₀
+Inv-loop list₀ code column k₀ list k = length list ≡ length list₀
 
 abbrev μ-loop : tie.MeasureT-loop
-μ-loop list₀ k₀ list k = 256 - k
+μ-loop list₀ code column k₀ list k = 512 - k
 
-pub put-ends-spec : {M : Type 1} → statement M
-put-ends-spec =
+pub put-each-spec : {M : Type 1} → statement M
+put-each-spec =
     tie.close
     (tie.spec
     Inv-loop
