@@ -355,8 +355,7 @@ parted-long : (n : ℕ) (f g v d : List Float) (k : Machine) → Parted n f g v 
     → (length (k .values) ≡ length v) × (length (k .derivs) ≡ length d)
 parted-long n f g v d k x hv hd =
     let values = ap length (x .values) ∙ length-append f (drop n v) in
-    let derivs = ap length (x .derivs) ∙ length-append g (drop n d) in
-    (
+    let derivs = ap length (x .derivs) ∙ length-append g (drop n d) in (
       omega (arith, values, x .values-long, length-drop n v),
       omega (arith, derivs, x .derivs-long, length-drop n d),
     )
