@@ -15,7 +15,8 @@ use Rattle.records.specs.Shape.{zero64}
 use Rattle.records.specs.Record.{decoded, decodedWithin}
 use Rattle.evaluator.specs.Machine.{Machine, begun}
 use Rattle.evaluator.specs.Judge.{answer, judgeWithin, judge}
-use Rattle.evaluator.specs.Evaluate.{runOutcome, refusal, refusalWithin, unless, ran, evaluatedWithin, startAll, startedWithin}
+use Rattle.evaluator.specs.Evaluate.{runOutcome, refusal, refusalWithin, unless, ran, evaluatedWithin, startAll}
+use Rattle.evaluator.specs.Evaluate.{startedWithin}
 use Rattle.evaluator.specs.Evaluate.{moveAll, advanced, steppedWithin}
 use Rattle.evaluator.specs.Contract.{Evaluated, Started, Stepped}
 use Rattle.evaluator.specs.Sound.{Granted}

@@ -11,7 +11,8 @@ use Rattle.records.specs.Record.{decoded}
 use Rattle.records.specs.Shape.{zero64}
 use Rattle.evaluator.specs.declared.Answer.{Answer}
 use Rattle.evaluator.specs.Machine.{Machine, begun}
-use Rattle.evaluator.specs.Evaluate.{refusal, runOutcome, unless, ran, evaluated, evaluatedWithin, startAll, started, startedWithin, moveAll}
+use Rattle.evaluator.specs.Evaluate.{refusal, runOutcome, unless, ran, evaluated, evaluatedWithin, startAll}
+use Rattle.evaluator.specs.Evaluate.{started, startedWithin, moveAll}
 use Rattle.evaluator.specs.Evaluate.{advanced, stepped, steppedWithin, RefusedUnwritten}
 
 -- without an answer 0 the buffers stay

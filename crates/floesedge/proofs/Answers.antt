@@ -23,7 +23,8 @@ use Rattle.translator.specs.Verdict.{Translation, translation, verdictOf, count
 use Rattle.translator.proofs.Counted.{few, count-few}
 use Rattle.translator.proofs.Verdicts.{by-number}
 use Rattle.evaluator.specs.Judge.{Judge, answer, good, judged, anyOpen, judgeFrom}
-use Rattle.evaluator.specs.Evaluate.{RunOutcome, runOutcome, refusal, refusalWithin, evaluatedWithin, startedWithin, steppedWithin}
+use Rattle.evaluator.specs.Evaluate.{RunOutcome, runOutcome, refusal, refusalWithin, evaluatedWithin, startedWithin}
+use Rattle.evaluator.specs.Evaluate.{steppedWithin}
 use Rattle.evaluator.specs.Contract.{Evaluated, Started, Stepped}
 use Rattle.evaluator.specs.declared.Answer.{Answer}
 

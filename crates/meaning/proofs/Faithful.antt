@@ -14,7 +14,8 @@ use Rattle.records.specs.Record.{Rec, programBytes, instrs, decoded}
 use Rattle.program.specs.Program.{program}
 use Rattle.translator.specs.Verdict.{Translation, translation}
 use Rattle.evaluator.specs.Machine.{Machine}
-use Rattle.evaluator.specs.Evaluate.{ran, evaluated, evaluatedWithin, started, startedWithin, moveAll, advanced, stepped, steppedWithin}
+use Rattle.evaluator.specs.Evaluate.{ran, evaluated, evaluatedWithin, started, startedWithin, moveAll, advanced}
+use Rattle.evaluator.specs.Evaluate.{stepped, steppedWithin}
 use Rattle.meaning.specs.Statements.{slotAmong, Resolves, EachAsked, Solution, Stepping}
 use Rattle.meaning.specs.Recorded.{ConstantRecorded, AssignmentRecorded, StateRecorded, BlockRecorded}
 use Rattle.meaning.specs.Recorded.{NothingLost}

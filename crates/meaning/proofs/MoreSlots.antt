@@ -7,7 +7,7 @@ use mathlib.Core.List.{List, [], _∷_, _++_}
 use native.Mathlib.Omega.{arith}
 use borrow.Author.Tests.{eq-eqb}
 use lib.Dec.{eqb}
-use lib.ListN.{length, getD, set, take, drop, replicate, length-set, length-replicate, length-append, take-append-drop}
+use lib.ListN.{length, set, take, drop, replicate, length-set, length-replicate, length-append, take-append-drop}
 use lib.ListN.{List·getD-append, replicate-append-replicate, length-drop}
 use lib.Seq.{set-append-left, take-at, drop-at, length-take-le}
 use lib.Ieee.{Float, nan, binary64, add, mul}
@@ -20,10 +20,11 @@ use Rattle.records.specs.Shape.{zero64, value, slot}
 use Rattle.records.specs.Shape.{Shape, constant, initial, push, fold, store, derivative, store-again, bad, shapeOf}
 use Rattle.records.proofs.Decoding.{decode-more}
 use Rattle.evaluator.specs.declared.Answer.{Answer}
-use Rattle.evaluator.specs.Judge.{unsetMark, givenMark, stateMark, derivedMark, storedMark, ruleOf, takes, gives, phaseOf}
+use Rattle.evaluator.specs.Judge.{unsetMark, givenMark, stateMark, derivedMark, storedMark, ruleOf, takes, gives}
+use Rattle.evaluator.specs.Judge.{phaseOf}
 use Rattle.evaluator.specs.Judge.{Judge, good, judged, judgeBegun, anyOpen, answer, judgeFrom, judgeWithin}
 use Rattle.evaluator.specs.Machine.{Machine, act, run, begun}
-use Rattle.evaluator.specs.Evaluate.{RunOutcome, runOutcome, refusalWithin, unless, ranWithin, evaluatedWithin}
+use Rattle.evaluator.specs.Evaluate.{RunOutcome, runOutcome, refusalWithin, unless, evaluatedWithin}
 use Rattle.evaluator.specs.Evaluate.{ifInitial, eachState, startAll, startedWithin, moved, moveAll, advanced}
 use Rattle.evaluator.specs.Evaluate.{steppedWithin}
 use Rattle.evaluator.specs.Sound.{SoundWithin}
@@ -147,7 +148,8 @@ zero-answer [] i j =
     cond-ind (λ (a : Answer). a .number ≡ 0 → a ≡ answer 0 0) (eqb (j .height) 0 && not (anyOpen (j .marks)))
     (answer 0 0) (answer 4 0) (λ _ _. refl) (λ _ e. absurd (omega arith))
 zero-answer (x ∷ xs) i j =
-    cond-ind (λ (a : Answer). a .number ≡ 0 → a ≡ answer 0 0) (good j x) (judgeFrom (suc i) (judged j x) xs) (answer 3 i)
+    cond-ind (λ (a : Answer). a .number ≡ 0 → a ≡ answer 0 0) (good j x) (judgeFrom (suc i) (judged j x) xs)
+    (answer 3 i)
     (λ _. zero-answer xs (suc i) (judged j x)) (λ _ e. absurd (omega arith))
 
 -- ---- the run, with the places a and c behind those of the slots that records name
@@ -314,9 +316,11 @@ module _ (n : ℕ) (some : 0 < n) (xs : List Instr) (sound : SoundWithin n 1 0 x
         let states-long : length states ≡ n =
         each-long n (moved h (k .derivs ++ c)) (moved h (k .derivs)) a one keeps xs (k .values) ∙ r .values-long in
         let all : moveAll h (k .derivs ++ c) (k .values ++ a) xs ≡ states ++ a =
-        each-more n (moved h (k .derivs ++ c)) (moved h (k .derivs)) a one keeps xs (k .values) 1 0 (r .values-long) sound in
+        each-more n (moved h (k .derivs ++ c)) (moved h (k .derivs)) a one keeps xs (k .values) 1 0 (r .values-long)
+        sound in
         let time : advanced h (states ++ a) ≡ advanced h states ++ a =
-        ap (λ (y : Float). set (states ++ a) 0 (add binary64 y h)) (List·getD-append states a nan 0 (rw states-long some))
+        ap (λ (y : Float). set (states ++ a) 0 (add binary64 y h))
+        (List·getD-append states a nan 0 (rw states-long some))
         ∙ set-append-left states a 0 _ (rw states-long some) in
         record {
           values =
@@ -336,16 +340,14 @@ unless-done a v d k z = rw (eq-eqb (a .number) 0 z)
 
 -- two machines that are made of the same first places
 module _ (n : ℕ) (f g v d w e : List Float) (k l : Machine) (x : Parted n f g v d k) (y : Parted n f g w e l) where
-  front : (h t : List Float) → length h ≡ n → take n (h ++ t) ≡ h
-  front h t r = take-at h t n r
-
-  parted-same : (a : Answer) → SameFront n w e (runOutcome a (k .values) (k .derivs)) (runOutcome a (l .values) (l .derivs))
+  parted-same : (a : Answer)
+      → SameFront n w e (runOutcome a (k .values) (k .derivs)) (runOutcome a (l .values) (l .derivs))
   parted-same a =
       rw (x .values, x .derivs, y .values, y .derivs)
       (record {
         answer = refl;
-        values = front f (drop n w) (x .values-long) ∙ sym (front f (drop n v) (x .values-long));
-        derivs = front g (drop n e) (x .derivs-long) ∙ sym (front g (drop n d) (x .derivs-long));
+        values = take-at f (drop n w) n (x .values-long) ∙ sym (take-at f (drop n v) n (x .values-long));
+        derivs = take-at g (drop n e) n (x .derivs-long) ∙ sym (take-at g (drop n d) n (x .derivs-long));
         values-stay = drop-at f (drop n w) n (x .values-long);
         derivs-stay = drop-at g (drop n e) n (x .derivs-long);
       })

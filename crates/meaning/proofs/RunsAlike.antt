@@ -11,7 +11,8 @@ use Rattle.records.specs.Record.{decoded}
 use Rattle.records.specs.Shape.{zero64}
 use Rattle.evaluator.specs.Judge.{answer}
 use Rattle.evaluator.specs.Machine.{Machine, begun}
-use Rattle.evaluator.specs.Evaluate.{RunOutcome, runOutcome, refusal, unless, ran, evaluated, evaluatedWithin, eachState, startAll}
+use Rattle.evaluator.specs.Evaluate.{RunOutcome, runOutcome, refusal, unless, ran, evaluated, evaluatedWithin}
+use Rattle.evaluator.specs.Evaluate.{eachState, startAll}
 use Rattle.evaluator.specs.Evaluate.{started, startedWithin, moveAll, advanced, stepped, steppedWithin}
 use Rattle.evaluator.proofs.EntryAnswers.{short-values, short-derivs}
 use Rattle.meaning.specs.Faithful.{HasSlots, Accepted}

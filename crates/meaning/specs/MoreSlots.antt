@@ -5,7 +5,8 @@ use mathlib.Core.List.{List}
 use lib.ListN.{length, take, drop}
 use lib.Ieee.{Float}
 use Rattle.evaluator.specs.Judge.{answer}
-use Rattle.evaluator.specs.Evaluate.{RunOutcome, runOutcome, refusalWithin, evaluatedWithin, startedWithin, steppedWithin}
+use Rattle.evaluator.specs.Evaluate.{RunOutcome, runOutcome, refusalWithin, evaluatedWithin, startedWithin}
+use Rattle.evaluator.specs.Evaluate.{steppedWithin}
 use Rattle.meaning.specs.RunsAlike.{walkedWithin}
 
 -- v and d are lent with n slots, w and e with m: program p is not refused with n; w and e have a place for each of m

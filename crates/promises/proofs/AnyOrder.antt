@@ -64,6 +64,6 @@ sorting-needed = record { sorted = computed .5; early = computed .6 }
 -- A BLOCK MUST BE WHOLE: the judge takes one that sets a name again also when it is taken apart, and yet it leaves
 -- another value
 pub block-whole : BlockWhole
-unfolding programBytes recBytes lowBytes lowWord concat-map numbers frontRun cutBehind reSorted decodeAtWithin decodeFromWithin
-    decodedWithin instrWithin byKind judgeFrom good anyOpen run step ofBits toBits add round units size climb span odd
+unfolding programBytes recBytes lowBytes lowWord concat-map numbers frontRun cutBehind reSorted decodeAtWithin
+    decodeFromWithin decodedWithin instrWithin byKind judgeFrom good anyOpen run step ofBits toBits add round units size climb span odd
 block-whole = record { taken = refl; taken-apart = refl; whole = refl; apart = refl }

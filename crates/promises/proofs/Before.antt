@@ -14,7 +14,6 @@ use Rattle.translator.specs.Verdict.{Decision, translated, verdictWithin, verdi
 use Rattle.translator.specs.Larger.{Larger, NotForSize}
 use Rattle.translator.specs.Contract.{reply, replyOf, Translates}
 use Rattle.translator.proofs.Larger.{larger-same}
-use Rattle.evaluator.specs.Evaluate.{RunOutcome, evaluatedWithin, startedWithin, steppedWithin}
 use Rattle.meaning.specs.MoreSlots.{LentAlike, SameFront, MoreSlots}
 use Rattle.meaning.proofs.MoreSlots.{more-slots}
 use Rattle.promises.specs.Before.{AsBefore, LinkedAsBefore}

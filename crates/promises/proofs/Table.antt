@@ -42,8 +42,8 @@ use Rattle.promises.specs.Table.{Trial, trials, shown, wanted, tank, dec
 
 -- THE TABLE. Each text has the verdict and the listing that stand beside it
 pub tried : map shown trials ≡ map wanted trials
-unfolding trials listing listingOf figuresIn verdictWithin decidedWithin linesOf trimmed dotted passed cardsOf after ended left
-    reading linePart joined anyLong sizeFlaw byteSpot lastSpot cardsTold told sheetOf
+unfolding trials listing listingOf figuresIn verdictWithin decidedWithin linesOf trimmed dotted passed cardsOf after
+    ended left reading linePart joined anyLong sizeFlaw byteSpot lastSpot cardsTold told sheetOf
     concat-map sameBytes numbers frontRun count lowWord decimal digitsFrom exponentFrom tenTo scaled tokenOf numberCut
     nameAt tokenAt cutAt
     lookUp symbolNamed rowFrom rowOf
@@ -65,8 +65,8 @@ pub computed : (heightOf (verdictOf deck faultRoom programRoom) ≡ stackPlaces)
     × (numberFor (bytes tank) ≡ 0) × Plain (bytes tank)
     × (numberFor loop ≡ 7) × Plain loop
     × (tankJudged tankSorted ≡ answer 0 0) × (tankJudged tankEarly ≡ answer 3 6)
-unfolding highest judgeFrom good anyOpen verdictWithin decidedWithin linesOf trimmed dotted passed cardsOf after ended left
-    reading linePart joined
+unfolding highest judgeFrom good anyOpen verdictWithin decidedWithin linesOf trimmed dotted passed cardsOf after ended
+    left reading linePart joined
     anyLong sizeFlaw cardsTold told sheetOf concat-map
     sameBytes numbers frontRun count lowWord decimal digitsFrom exponentFrom tenTo scaled tokenOf numberCut
     nameAt tokenAt cutAt

@@ -7,7 +7,8 @@ use mathlib.Core.Logic.{_↔_}
 use mathlib.Core.List.{List, [], _∷_, _++_, map, List·Memᴰ}
 use lib.ListN.{length}
 use lib.Ieee.{Float, nan, lt, le}
-use Rattle.limits.specs.Limits.{levels, stackPlaces, faultRoom, programRoom, nameBytes}
+use Rattle.limits.specs.Limits.{levels, stackPlaces, faultRoom, programRoom, nameBytes, slots as slotCount}
+use Rattle.limits.specs.Before.{sizesBefore, slotsBefore}
 use Rattle.laws.specs.Every.{Every}
 use Rattle.laws.specs.Text.{bytes}
 use Rattle.deck.specs.Lines.{Line, linesOf}
@@ -33,10 +34,11 @@ use Rattle.records.specs.Record.{Rec, programBytes, decoded}
 use Rattle.program.specs.Program.{instrItem}
 use Rattle.translator.specs.declared.Verdict.{Verdict}
 use Rattle.translator.specs.declared.Verdict.the-variants.{Translated}
-use Rattle.translator.specs.Verdict.{translated, verdictOf, numberOf, translation}
+use Rattle.translator.specs.Verdict.{translated, verdictWithin, verdictOf, numberOf, translation}
+use Rattle.translator.specs.Larger.{NotForSize}
 use Rattle.translator.specs.Refusals.{Admitted, Unrefused}
 use Rattle.translator.specs.Rules.{Exactly, Writes}
-use Rattle.translator.specs.Contract.{Translates}
+use Rattle.translator.specs.Contract.{reply, replyOf, Translates}
 use Rattle.translator.specs.Replies.{Answered, Unprogrammed, NoProgram, Convicts}
 use Rattle.translator.proofs.Given as given
 use Rattle.translator.proofs.Replies as replies
@@ -49,6 +51,7 @@ use Rattle.meaning.specs.BlockFunction.{BlockFunction}
 use Rattle.meaning.specs.Faithful.{handedOn, HasSlots, Accepted, Faithful}
 use Rattle.meaning.specs.AnyOrder.{AnyOrder}
 use Rattle.meaning.specs.ReSorted.{cutStatements, reSorted, NoAgain, ReSorts}
+use Rattle.meaning.specs.MoreSlots.{LentAlike, MoreSlots}
 use Rattle.meaning.specs.ReadSlots.{shapes, SameRead, SameWritten, ReadsStates}
 use Rattle.meaning.specs.Depth.{highest, heightOf}
 use Rattle.meaning.proofs.Acceptance as acceptance
@@ -61,6 +64,7 @@ use Rattle.promises.specs.Demand3.{Change, Local, LocalFor}
 use Rattle.promises.specs.Comments.{Commented, Unchanged, UnchangedFor}
 use Rattle.promises.specs.InPlace.{InPlace, PlacedBy}
 use Rattle.promises.specs.AnyOrder.{tankSorted, tankEarly, tankJudged, SortingNeeded, BlockWhole}
+use Rattle.promises.specs.Before.{AsBefore, LinkedAsBefore}
 use Rattle.promises.specs.Agreement as agree
 use Rattle.promises.proofs.Table as table
 use Rattle.promises.proofs.Demand1 as demand-one
@@ -300,6 +304,33 @@ sorting-needed = any.sorting-needed
 
 pub block-whole : BlockWhole
 block-whole = any.block-whole
+
+-- ---- programs and texts from before
+
+pub old-programs : (p : List ℕ) → MoreSlots slotsBefore slotCount p
+old-programs = before.old-programs
+
+pub old-programs-for : (p : List ℕ) (v d w e : List Float) → LentAlike slotsBefore slotCount p v d w e
+    → AsBefore p v d w e
+old-programs-for = before.old-programs-for
+
+pub old-programs-linked : (p : List ℕ) (v d w e : List Float) → LentAlike slotsBefore slotCount p v d w e
+    → LinkedAsBefore p v d w e
+old-programs-linked = before.old-programs-linked
+
+pub old-texts : (text : List ℕ) (f g room : ℕ) → NotForSize (verdictWithin sizesBefore text f room) → faultRoom ≤ g
+    → verdictOf text g room ≡ verdictWithin sizesBefore text f room
+old-texts = before.old-texts
+
+pub old-program-kept : (text : List ℕ) (f g room : ℕ) (rs : List Rec) (ls : List ℕ)
+    → verdictWithin sizesBefore text f room ≡ translated rs ls → faultRoom ≤ g
+    → verdictOf text g room ≡ translated rs ls
+old-program-kept = before.old-program-kept
+
+pub old-texts-for : (text g p : List ℕ) (f : ℕ) (r : Verdict) (g′ p′ : List ℕ)
+    → NotForSize (verdictWithin sizesBefore text f (length p)) → faultRoom ≤ length g → Translates text g p r g′ p′
+    → reply r g′ p′ ≡ replyOf (verdictWithin sizesBefore text f (length p)) g p
+old-texts-for = before.old-texts-for
 
 -- ---- acceptance
 

@@ -20,7 +20,8 @@ use Rattle.records.specs.declared.Instr.the-variants.{Neg, Insw, Limit, 
 use Rattle.records.specs.Shape.{value, slot, Shape, constant, initial, push, fold, store, derivative}
 use Rattle.records.specs.Shape.{store-again, bad, shapeOf}
 use Rattle.records.specs.Fields.{fieldsOf, kindOf, operandOf, bitsOf, byKind, instrOf, instrWithin}
-use Rattle.records.specs.Record.{Rec, recBytes, programBytes, instrs, field, decodeAt, decodeAtWithin, decodeFrom, decodeFromWithin, decoded, decodedWithin}
+use Rattle.records.specs.Record.{Rec, recBytes, programBytes, instrs, field, decodeAt, decodeAtWithin, decodeFrom}
+use Rattle.records.specs.Record.{decodeFromWithin, decoded, decodedWithin}
 use Rattle.records.specs.Proper.{ProperAs, Proper}
 
 -- ---- lengths

@@ -38,7 +38,8 @@ use Rattle.model.specs.Text.{modelFaultsIn}
 use Rattle.records.specs.Record.{Rec}
 use Rattle.program.specs.Program.{program}
 use Rattle.program.specs.Written.{recordCount}
-use Rattle.translator.specs.Verdict.{Decision, refused, ifFaults, fitted, modelled, decided, decidedWithin, verdictOf, verdictWithin, countOf}
+use Rattle.translator.specs.Verdict.{Decision, refused, ifFaults, fitted, modelled, decided, decidedWithin}
+use Rattle.translator.specs.Verdict.{verdictOf, verdictWithin, countOf}
 use Rattle.translator.specs.Verdict.{faulty as flawed, translated}
 use Rattle.translator.specs.Contract.{linesIn}
 

@@ -23,7 +23,8 @@ use Rattle.records.specs.Record.{Rec, renumberRec}
 use Rattle.program.specs.Program.{program}
 use Rattle.program.proofs.Renumbering.{program-renumbered}
 use Rattle.translator.specs.Verdict.{Decision, refused, faulty, translated, ifFaults, fitted, programmed}
-use Rattle.translator.specs.Verdict.{modelled, decided, decidedWithin, verdictOf, verdictWithin, numberOf, countOf}
+use Rattle.translator.specs.Verdict.{modelled, decided, decidedWithin, verdictOf, verdictWithin, numberOf}
+use Rattle.translator.specs.Verdict.{countOf}
 use Rattle.translator.specs.Refusals.{Admitted}
 use Rattle.translator.specs.Contract.{linesIn}
 use Rattle.translator.specs.Renumbered.{renumberDecision}

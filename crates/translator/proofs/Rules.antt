@@ -17,7 +17,8 @@ use Rattle.sheet.specs.Sheet.{Fault, said}
 use Rattle.sheet.specs.Reader.{told, sheetOf, faultsOf}
 use Rattle.sheet.specs.Numbers.{statementsOf}
 use Rattle.blocks.specs.Members.{settings}
-use Rattle.translator.specs.Verdict.{Decision, refused, faulty, translated, ifFaults, decidedWithin, verdictOf, verdictWithin}
+use Rattle.translator.specs.Verdict.{Decision, refused, faulty, translated, ifFaults, decidedWithin, verdictOf}
+use Rattle.translator.specs.Verdict.{verdictWithin}
 use Rattle.translator.specs.Verdict.{numberOf}
 use Rattle.translator.specs.Verdict.{faultsAfter, programAfter, translation}
 use Rattle.translator.specs.Rules.{recordsOf, modelFaultsOf, Reason, Exactly, Writes, room, bytes, lines}

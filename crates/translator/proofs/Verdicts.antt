@@ -18,7 +18,8 @@ use Rattle.translator.specs.declared.Verdict.{Verdict}
 use Rattle.translator.specs.declared.Verdict.the-variants.{Refused}
 use Rattle.translator.specs.Contract.{Reply, reply, replyOf, Translates, ordered, OrderedReply}
 use Rattle.translator.specs.Contract.{TranslatesInOrder, inNumbers, Gives}
-use Rattle.translator.specs.Verdict.{Decision, refused, faulty, translated, decidedWithin, verdictOf, verdictWithin}
+use Rattle.translator.specs.Verdict.{Decision, refused, faulty, translated, decidedWithin, verdictOf}
+use Rattle.translator.specs.Verdict.{verdictWithin}
 use Rattle.translator.specs.Verdict.{translationOf, translation}
 use Rattle.translator.specs.Working.{Taken, Decides}
 

@@ -1,5 +1,5 @@
 -- Larger sizes, and the verdicts that do not go by them.
-use Prim.Native.Nat.{ℕ, _≤_}
+use Prim.Native.Nat.{_≤_}
 use mathlib.Core.Path.{_≡_}
 use Rattle.limits.specs.Before.{Sizes}
 use Rattle.translator.specs.Verdict.{Decision, numberOf}

@@ -39,7 +39,8 @@ fitted room rs ls =
 abbrev pub programmed : ℕ → List TextUnit → Decision
 programmed room us = fitted room (program us (orderOf us)) (map (λ (i : ℕ). unitAt us i .line) (orderOf us))
 
--- by the sizes z. 6: over so many definitions, doubles counted, and every setting inside blocks; 7: a model fault stands
+-- by the sizes z. 6: over so many definitions, doubles counted, and every setting inside blocks; 7: a model fault
+-- stands
 abbrev pub modelledWithin : Sizes → ℕ → List Numbered → Decision
 modelledWithin z room ss =
     let next = programmed room (unitsOf ss) in
