@@ -5,7 +5,6 @@ use mathlib.Core.Path.{_≡_, refl, sym, ap, ap₂, _∙_}
 use mathlib.Core.Bool.{Bool, false, not, _&&_, _||_}
 use mathlib.Core.List.{List, [], _∷_, _++_}
 use native.Mathlib.Omega.{arith}
-use borrow.Author.Tests.{eq-eqb}
 use lib.Dec.{eqb}
 use lib.ListN.{length, set, take, drop, replicate, length-set, length-replicate, length-append, take-append-drop}
 use lib.ListN.{List·getD-append, replicate-append-replicate, length-drop}
@@ -332,11 +331,6 @@ module _ (n : ℕ) (some : 0 < n) (xs : List Instr) (sound : SoundWithin n 1 0 x
         }
 
 -- ---- both outcomes
-
--- without a refusal an outcome is what was done
-unless-done : (a : Answer) (v d : List Float) (k : Machine) → a .number ≡ 0
-    → unless a v d k ≡ runOutcome a (k .values) (k .derivs)
-unless-done a v d k z = rw (eq-eqb (a .number) 0 z)
 
 -- two machines that are made of the same first places
 module _ (n : ℕ) (f g v d w e : List Float) (k l : Machine) (x : Parted n f g v d k) (y : Parted n f g w e l) where

@@ -65,5 +65,6 @@ sorting-needed = record { sorted = computed .5; early = computed .6 }
 -- another value
 pub block-whole : BlockWhole
 unfolding programBytes recBytes lowBytes lowWord concat-map numbers frontRun cutBehind reSorted decodeAtWithin
-    decodeFromWithin decodedWithin instrWithin byKind judgeFrom good anyOpen run step ofBits toBits add round units size climb span odd
+    decodeFromWithin decodedWithin instrWithin byKind judgeFrom good anyOpen run step ofBits toBits add round units
+    size climb span odd
 block-whole = record { taken = refl; taken-apart = refl; whole = refl; apart = refl }
