@@ -33,27 +33,33 @@ joined-spread l [] = omega (arith, part-le l)
 joined-spread l (m ∷ ls) =
     omega (arith, part-le l, length-append (linePart l) (32 ∷ joined (m ∷ ls)), joined-spread m ls)
 
--- SPAN: the bytes from the start s of a statement to the next cursor are no fewer than its joined text has; and both
--- stand behind the cursor, at the place at, and within the text
+-- SPAN: the bytes from the start s of a statement to one before the next cursor are no fewer than its joined text has;
+-- and both stand behind the cursor, at the place at, and within the text
 pub record Span (t : List ℕ) (at s m nx : ℕ) : Type 0 where
   pub from : at ≤ s
   pub joins : s + length (joined (cardsAt t s m)) ≤ nx
-  pub within : at + length (joined (cardsAt t s m)) ≤ length t
+  pub fewer : length (joined (cardsAt t s m)) ≤ nx - 1 - s
+  pub within : at + (nx - 1 - s) ≤ length t
 
 pub span : (t : List ℕ) (c : Cursor) {f s m k : ℕ} {d g : Bool} {nx : Cursor} → Walk t c f s m k d g nx
     → Span t (c .at) s m (nx .at)
 unfolding joined
 span t c {f} {s} {m} {k} {d} {g} {nx} w =
     let both = go (cardsAt t s m) refl in
-    record { from = w .from; joins = both .0; within = both .1 }
+    record {
+      from = w .from;
+      joins = both .0;
+      fewer = both .1;
+      within = omega (arith, w .from, w .upto, w .bytes, few);
+    }
   where
     few : spread (linesAt t s m) ≤ length t - s + 1
     few = omega (arith, spread-take m (linesOf (drop s t)), lines-spread (drop s t), length-drop s t)
 
     go : (cs : List Line) → cardsAt t s m ≡ cs
-        → (s + length (joined cs) ≤ nx .at) × (c .at + length (joined cs) ≤ length t)
-    go [] q = (omega (arith, w .upto), omega (arith, w .bytes))
+        → (s + length (joined cs) ≤ nx .at) × (length (joined cs) ≤ nx .at - 1 - s)
+    go [] q = (omega (arith, w .upto), omega arith)
     go (l ∷ ls) q =
         let n : spread (cardsAt t s m) ≡ spread (l ∷ ls) = ap spread q in
         let all = cards-spread (linesAt t s m) in
-        (omega (arith, w .upto, all, joined-spread l ls), omega (arith, w .from, all, few, joined-spread l ls))
+        (omega (arith, w .upto, all, joined-spread l ls), omega (arith, w .upto, all, joined-spread l ls))

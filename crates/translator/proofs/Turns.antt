@@ -19,7 +19,7 @@ use Rattle.sheet.specs.Sheet.{Told, says, faulty}
 use Rattle.sheet.specs.Reader.{told, sheetOf}
 use Rattle.sheet.proofs.StatementMeans.{told-says}
 use Rattle.translator.specs.declared.SoFar.{SoFar}
-use Rattle.translator.specs.Working.{Able, AddsOf, Adds, Progress, Room, ReadThrough}
+use Rattle.translator.specs.Working.{Able, AddsOf, Adds, Progress, Room, ReadThrough, PartRead}
 use Rattle.translator.proofs.Counted.{counts}
 use Rattle.deck.specs.declared.Spot.{Spot}
 use Rattle.translator.proofs.Parsing.{drafts-few}
@@ -88,13 +88,28 @@ module _ {text kinds₀ args₀ lines₀ bounds₀ list₀ kinds args lines boun
         let many = length-append (p .done) (report told one ∷ map (report told) (statementsFrom text nx)) in
         omega (arith, ap length all, many, counts (p .done), p .statements, p .faults)
 
-    -- what reading it asks, with two rows that have room for its tokens
-    pub going-able : {ks us : List ℕ} → joinedRoom ≤ length ks → joinedRoom ≤ length us
+    -- its drafts have no room: a part is read, and the text has more bytes than there are places
+    pub going-full : length kinds < n .drafts + (nx .at - 1 - s)
+        → (length kinds < length text) × PartRead text list₀ list
+    going-full h =
+        let p = g .progress in (
+          omega (arith, p .short, near .within),
+          record {
+            done = p .done;
+            rest = map (report told) (statementsFrom text c);
+            split = p .split;
+            listed = p .listed;
+          },
+        )
+
+    -- what reading it asks, with room for its drafts and two rows that have room for its tokens
+    pub going-able : {ks us : List ℕ} → n .drafts + (nx .at - 1 - s) ≤ length kinds → joinedRoom ≤ length ks
+        → joinedRoom ≤ length us
         → Able text f s m k d long (nx .at) n ks us kinds args lines bounds
-    going-able hk hu =
+    going-able fits hk hu =
         let p = g .progress in
         let places : n .drafts + length (joined (cardsAt text s m)) ≤ length text =
-        omega (arith, p .short, near .within) in
+        omega (arith, p .short, near .fewer, near .within) in
         record {
           size = step .size;
           before =
@@ -103,8 +118,8 @@ module _ {text kinds₀ args₀ lines₀ bounds₀ list₀ kinds args lines boun
                 alone = λ z one. step .alone one (closed k d long z);
                 row-kinds = λ z. omega (arith, hk, step .short z);
                 row-args = λ z. omega (arith, hu, step .short z);
-                room-kinds = omega (arith, places, room .kinds-room, g .long-kinds);
-                room-args = omega (arith, places, room .args-room, g .long-args);
+                room-kinds = omega (arith, near .fewer);
+                room-args = omega (arith, near .fewer, room .args-room, g .long-kinds, g .long-args);
               };
           first-fits = omega (arith, step .near, room .taken .brief);
           brief = room .taken .brief;
@@ -116,9 +131,10 @@ module _ {text kinds₀ args₀ lines₀ bounds₀ list₀ kinds args lines boun
 
     -- behind it
     pub going-next : {kinds′ args′ lines′ bounds′ list′ : List ℕ} {n′ : SoFar}
+        → n .drafts + (nx .at - 1 - s) ≤ length kinds
         → Adds (told (linesAt text s m) d) f n kinds args lines bounds list n′ kinds′ args′ lines′ bounds′ list′
         → Going text kinds₀ args₀ lines₀ bounds₀ list₀ kinds′ args′ lines′ bounds′ list′ n′ nx
-    going-next {kinds′} {args′} {lines′} {bounds′} {list′} {n′} w =
+    going-next {kinds′} {args′} {lines′} {bounds′} {list′} {n′} fits w =
         let both = go (told (linesAt text s m) d) refl (w .by-told) in
         record {
           progress = both .0;
@@ -136,10 +152,10 @@ module _ {text kinds₀ args₀ lines₀ bounds₀ list₀ kinds args lines boun
             let few = drafts-few (cardsAt text s m) d x (told-says (linesAt text s m) d x q) in
             let p = g .progress in
             let row : List ℕ = replicate joinedRoom 0 in
-            let a = going-able {ks = row} {us = row} (omega arith) (omega arith) in
+            let a = going-able {ks = row} {us = row} fits (omega arith) (omega arith) in
             let more : Progress text list₀ nx _ _ _ _ _ list =
             progress-said p step x q (omega (arith, p .short, near .from, near .joins))
-            (omega (arith, p .short, near .within))
+            (omega (arith, p .short, near .fewer, near .within))
             (omega (arith, a .before .room-kinds)) (omega (arith, a .before .room-args)) (a .lines-room)
             (a .bounds-room) in
             (rw (en, ek, ea, el, eb, ef) more, ap length el ∙ simp length-set, ap length eb ∙ simp length-set)

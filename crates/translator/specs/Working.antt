@@ -1,7 +1,7 @@
 -- What the parts of `translate` meet.
-use Prim.Native.Nat.{ℕ, suc, _+_, _*_, _/_, _≤_, _<_}
+use Prim.Native.Nat.{ℕ, suc, _+_, _-_, _*_, _/_, _≤_, _<_}
 use mathlib.Core.Path.{_≡_}
-use mathlib.Core.Bool.{Bool, true}
+use mathlib.Core.Bool.{Bool, true, false}
 use mathlib.Core.List.{List, [], _∷_, _++_, map}
 use lib.ListN.{length, getD, take, set, replicate}
 use lib.Seq.{sets}
@@ -37,6 +37,8 @@ use Rattle.translator.specs.Verdict.{ifFaults, programmed, modelled, dec
 use Rattle.translator.specs.declared.Told.{Told as Answer}
 use Rattle.translator.specs.declared.Told.the-variants.{Says, Faulty}
 use Rattle.translator.specs.declared.SoFar.{SoFar}
+use Rattle.translator.specs.declared.HowFar.{HowFar}
+use Rattle.translator.specs.declared.room.Tried.{Tried}
 
 -- ---- one statement
 
@@ -151,11 +153,10 @@ pub record Taken (text list : List ℕ) : Type 0 where
   pub brief : length text ≤ textBytes
   pub list-room : faultRoom ≤ length list
 
--- the room that all of it needs: a place for a draft for each byte, and for each statement
+-- the room in which it is read: as many arguments as kinds, and a place for each statement
 pub record Room (text list kinds args lines bounds : List ℕ) : Type 0 where
   pub taken : Taken text list
-  pub kinds-room : length text ≤ length kinds
-  pub args-room : length text ≤ length args
+  pub args-room : length kinds ≤ length args
   pub lines-room : mostStatements ≤ length lines
   pub bounds-room : mostStatements < length bounds
   pub bounds-first : take 1 bounds ≡ 0 ∷ []
@@ -169,6 +170,24 @@ pub record ReadThrough (text list₀ : List ℕ) (n : SoFar) (kinds args lines b
       (take (suc (n .statements)) bounds)
   pub listed : list ≡ sets list₀ 0 (faultList (statementFaults (sheetOf text)))
   pub within : n .drafts ≤ length text
+
+-- among so many places, of which d are taken, there are none for the drafts of a statement that stands from a start to
+-- one byte before the next: it has no more drafts than bytes
+pub record LacksRoom (places d start next : ℕ) (r : Bool) : Type 0 where
+  pub lacks : r ≡ true → places < d + (next - 1 - start)
+  pub has : r ≡ false → d + (next - 1 - start) ≤ places
+
+-- a part of the sheet is read, and its faults are listed
+pub record PartRead (text list₀ list : List ℕ) : Type 0 where
+  pub done : Sheet
+  pub rest : Sheet
+  pub split : sheetOf text ≡ done ++ rest
+  pub listed : list ≡ sets list₀ 0 (faultList (statementFaults done))
+
+-- how far it came: through, or, with fewer places than the text has bytes, to a statement that had no room
+pub record ReadFar (text list₀ : List ℕ) (r : HowFar) (kinds args lines bounds list : List ℕ) : Type 0 where
+  pub through : r .through ≡ true → ReadThrough text list₀ (r .n) kinds args lines bounds list
+  pub full : r .through ≡ false → (length kinds < length text) × PartRead text list₀ list
 
 -- ---- from the sheet to the verdict
 
@@ -237,7 +256,13 @@ Concludes ss f p o r f′ p′ o′ = orderedReply r f′ p′ o′ ≡ orderedR
 abbrev pub Decides : List ℕ → List ℕ → List ℕ → List ℕ → Ordered → List ℕ → List ℕ → List ℕ → Type 0
 Decides text f p o r f′ p′ o′ = orderedReply r f′ p′ o′ ≡ orderedReplyOf (decided (length p) (sheetOf text)) f p o
 
--- the most bytes of a text in the smallest room, and in the next
+-- the same with so many places for drafts, unless these were too few: then the text has more bytes, and only faults
+-- are listed
+pub record Tries (text : List ℕ) (places : ℕ) (f p o : List ℕ) (r : Tried) (f′ p′ o′ : List ℕ) : Type 0 where
+  pub decides : r .full ≡ false → Decides text f p o (r .answer) f′ p′ o′
+  pub full : r .full ≡ true → (places < length text) × PartRead text f f′ × (p′ ≡ p) × (o′ ≡ o)
+
+-- the places for drafts in the smallest room, and in the next
 abbrev pub small : ℕ
 small = mostStatements
 

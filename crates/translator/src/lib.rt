@@ -12,7 +12,7 @@ ghost use Rattle.deck.specs.declared.Place.the-variants.{AtStart, AtToken, AtEn
 ghost use Rattle.deck.specs.Next.{linesAt, cardsAt};
 ghost use Rattle.sheet.specs.Reader.{parsed, tokened, cardsTold, told};
 ghost use Rattle.translator.specs.Working.{Tells, RowRoom, JoinedRoom, CardsRoom, Size, Before};
-ghost use Rattle.translator.specs.Working.{Able, Adds, Room, ReadThrough};
+ghost use Rattle.translator.specs.Working.{Able, Adds, Room, LacksRoom, ReadFar};
 ghost use Rattle.translator.specs.Contract.{Translates, TranslatesInOrder};
 
 mod finish;
@@ -53,6 +53,13 @@ struct SoFar {
     statements: usize,
     drafts: usize,
     faults: usize,
+}
+
+// What reading a text gives: how far it came, and whether that is through it; else there was no room for the drafts of
+// the next statement.
+struct HowFar {
+    n: SoFar,
+    through: bool,
 }
 
 // ---- one statement
@@ -240,7 +247,21 @@ fn read_one(
     }
 }
 
-// Reads all statements of a text; the tokens of one stand in two rows.
+// Whether among so many places, of which d are taken, there are none for the drafts of a statement that stands from a
+// start to one byte before the next.
+fn lacks_room(places: usize, d: usize, start: usize, next: usize) -> bool
+    ensures { λ r. ⌜ LacksRoom places d start next r ⌝ }
+{
+    if places < d {
+        return true;
+    }
+    if next <= start {
+        return false;
+    }
+    places - d < next - 1 - start
+}
+
+// Reads the statements of a text, as long as there is room for their drafts; the tokens of one stand in two rows.
 fn read_all(
     text: &[u8],
     kinds: &mut [u8],
@@ -248,9 +269,9 @@ fn read_all(
     lines: &mut [u16],
     bounds: &mut [u16],
     list: &mut [u8],
-) -> SoFar
+) -> HowFar
     requires { ⌜ Room (now text) (now list) (now kinds) (now args) (now lines) (now bounds) ⌝ }
-    ensures { λ r. ⌜ ReadThrough (now (text .entry)) (now (list .entry)) r
+    ensures { λ r. ⌜ ReadFar (now (text .entry)) (now (list .entry)) r
         (now (kinds .exit)) (now (args .exit)) (now (lines .exit)) (now (bounds .exit)) (now (list .exit)) ⌝ }
 {
     let mut row_kinds = [0u8; deck::JOINED_BYTES];
@@ -273,8 +294,11 @@ fn read_all(
             next,
         } = found
         else {
-            return n;
+            return HowFar { n, through: true };
         };
+        if lacks_room(kinds.len(), n.drafts, start, next.at) {
+            return HowFar { n, through: false };
+        }
         n = read_one(
             text,
             first,

@@ -1,8 +1,11 @@
 // The working room of a translation: arrays in which what is read of the text stands. They are zeroed for each text,
-// so there are rooms of three sizes. The text's length alone tells the room: a text has no more drafts than bytes.
+// so there are rooms of three sizes. A text has no more drafts than bytes, and most have far fewer: one that is longer
+// than the smallest room is read in the next, and once more in the largest where its drafts do not fit.
+ghost use mathlib.Core.Path.{_≡_};
+ghost use mathlib.Core.Bool.{true, false};
 ghost use Prim.Native.Nat.{_≤_};
 ghost use lib.ListN.{length};
-ghost use Rattle.translator.specs.Working.{Taken, Room, Decides, small, quarter};
+ghost use Rattle.translator.specs.Working.{Taken, Room, Decides, Tries, small, quarter};
 use super::Ordered;
 use super::Verdict;
 use super::finish::conclude;
@@ -13,10 +16,40 @@ use limits::TEXT_BYTES;
 // The most bytes of a text that is read in the smallest room: it has no more statements than there may be.
 pub(crate) const SMALL: usize = STATEMENTS;
 
-// The most bytes of one that is read in the next.
+// The places for drafts in the next.
 const QUARTER: usize = TEXT_BYTES / 4;
 
-// The verdict on a text that is not too large: 5 with the faults listed, or the verdict on its model.
+// What deciding in a room gives: whether its places were too few for the drafts, and else the answer.
+pub(crate) struct Tried {
+    pub full: bool,
+    pub answer: Ordered,
+}
+
+// A room that was too small.
+fn full() -> Tried
+    ensures { λ r. ⌜ r .full ≡ true ⌝ }
+{
+    Tried {
+        full: true,
+        answer: Ordered {
+            verdict: Verdict::Refused(0),
+            units: 0,
+        },
+    }
+}
+
+// One that was not, and the answer.
+fn told(answer: Ordered) -> Tried
+    ensures { λ r. ⌜ (r .full ≡ false) × (r .answer ≡ answer) ⌝ }
+{
+    Tried {
+        full: false,
+        answer,
+    }
+}
+
+// The verdict on a text that is not too large, if its drafts have room: 5 with the faults listed, or the verdict on its
+// model.
 fn decide(
     text: &[u8],
     faults: &mut [u8],
@@ -27,13 +60,14 @@ fn decide(
     lines: &mut [u16],
     bounds: &mut [u16],
     ordered: &mut [u16],
-) -> Ordered
+) -> Tried
     requires { ⌜ (Room (now text) (now faults) (now kinds) (now args) (now lines) (now bounds))
-        × (length (now text) ≤ length (now used)) ⌝ }
-    ensures { λ r. ⌜ Decides (now (text .entry)) (now (faults .entry)) (now (program .entry)) (now (ordered .entry))
-        r (now (faults .exit)) (now (program .exit)) (now (ordered .exit)) ⌝ }
+        × (length (now kinds) ≤ length (now used)) ⌝ }
+    ensures { λ r. ⌜ Tries (now (text .entry)) (length (now (kinds .entry))) (now (faults .entry))
+        (now (program .entry)) (now (ordered .entry)) r (now (faults .exit)) (now (program .exit))
+        (now (ordered .exit)) ⌝ }
 {
-    let n = read_all(
+    let far = read_all(
         text,
         &mut *kinds,
         &mut *args,
@@ -41,15 +75,19 @@ fn decide(
         &mut *bounds,
         &mut *faults,
     );
+    if !far.through {
+        return full();
+    }
+    let n = far.n;
     if 0 < n.faults {
-        return Ordered {
+        return told(Ordered {
             verdict: Verdict::Faulty(5, n.faults),
             units: 0,
-        };
+        });
     }
     let s = n.statements;
     let d = n.drafts;
-    conclude(
+    let answer = conclude(
         &lines[..s],
         &bounds[..s + 1],
         &mut kinds[..d],
@@ -58,7 +96,8 @@ fn decide(
         faults,
         program,
         ordered,
-    )
+    );
+    told(answer)
 }
 
 // ---- the rooms
@@ -79,7 +118,7 @@ pub(crate) fn in_small_room(
     let mut used = [0u16; SMALL];
     let mut lines = [0u16; STATEMENTS];
     let mut bounds = [0u16; STATEMENTS + 1];
-    decide(
+    let tried = decide(
         text,
         faults,
         program,
@@ -89,19 +128,15 @@ pub(crate) fn in_small_room(
         &mut lines,
         &mut bounds,
         ordered,
-    )
+    );
+    tried.answer
 }
 
-// A text of some length.
-fn in_quarter_room(
-    text: &[u8],
-    faults: &mut [u8],
-    program: &mut [u8],
-    ordered: &mut [u16],
-) -> Ordered
-    requires { ⌜ (Taken (now text) (now faults)) × (length (now text) ≤ quarter) ⌝ }
-    ensures { λ r. ⌜ Decides (now (text .entry)) (now (faults .entry)) (now (program .entry)) (now (ordered .entry))
-        r (now (faults .exit)) (now (program .exit)) (now (ordered .exit)) ⌝ }
+// A text of some length, if its drafts have room.
+fn in_quarter_room(text: &[u8], faults: &mut [u8], program: &mut [u8], ordered: &mut [u16]) -> Tried
+    requires { ⌜ Taken (now text) (now faults) ⌝ }
+    ensures { λ r. ⌜ Tries (now (text .entry)) quarter (now (faults .entry)) (now (program .entry))
+        (now (ordered .entry)) r (now (faults .exit)) (now (program .exit)) (now (ordered .exit)) ⌝ }
 {
     let mut kinds = [0u8; QUARTER];
     let mut args = [0u64; QUARTER];
@@ -132,7 +167,7 @@ fn in_whole_room(text: &[u8], faults: &mut [u8], program: &mut [u8], ordered: &m
     let mut used = [0u16; TEXT_BYTES];
     let mut lines = [0u16; STATEMENTS];
     let mut bounds = [0u16; STATEMENTS + 1];
-    decide(
+    let tried = decide(
         text,
         faults,
         program,
@@ -142,11 +177,12 @@ fn in_whole_room(text: &[u8], faults: &mut [u8], program: &mut [u8], ordered: &m
         &mut lines,
         &mut bounds,
         ordered,
-    )
+    );
+    tried.answer
 }
 
-// A longer text, in the smaller of two rooms that has a place for each of its bytes. Called from two places, it keeps a
-// frame of its own, so that a small text touches no page of these rooms.
+// A longer text, in the smaller of two rooms that has places for its drafts. Called from two places, it keeps a frame
+// of its own, so that a small text touches no page of these rooms.
 pub(crate) fn in_large_room(
     text: &[u8],
     faults: &mut [u8],
@@ -157,8 +193,9 @@ pub(crate) fn in_large_room(
     ensures { λ r. ⌜ Decides (now (text .entry)) (now (faults .entry)) (now (program .entry)) (now (ordered .entry))
         r (now (faults .exit)) (now (program .exit)) (now (ordered .exit)) ⌝ }
 {
-    if text.len() <= QUARTER {
-        return in_quarter_room(text, faults, program, ordered);
+    let tried = in_quarter_room(text, &mut *faults, &mut *program, &mut *ordered);
+    if tried.full {
+        return in_whole_room(text, faults, program, ordered);
     }
-    in_whole_room(text, faults, program, ordered)
+    tried.answer
 }

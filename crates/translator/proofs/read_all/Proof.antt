@@ -7,8 +7,9 @@ use lib.ListN.{length}
 use Rattle.deck.specs.Codes.{joinedRoom}
 use Rattle.deck.specs.Next.{foundFrom}
 use Rattle.deck.specs.declared.Found.{Found}
-use Rattle.translator.proofs.Turns.{Going, going-first, going-list, going-last, going-less, going-able}
-use Rattle.translator.proofs.Turns.{going-next}
+use Rattle.laws.proofs.Tests.{not-both}
+use Rattle.translator.proofs.Turns.{Going, going-first, going-list, going-last, going-less, going-full}
+use Rattle.translator.proofs.Turns.{going-able, going-next}
 use Rattle.translator.proofs.read_all.Statement.{statement}
 use Rattle.translator.proofs.read_all.Tie as tie
 
@@ -34,6 +35,10 @@ turn f = f .before .before .before
 abbrev last-turn : tie.After-enum-told Inv-loop μ-loop → tie.At-loop Inv-loop μ-loop
 last-turn c = c .before .before .before
 
+-- the turn whose statement has no room
+abbrev full-turn : tie.Then1 Inv-loop μ-loop → tie.At-loop Inv-loop μ-loop
+full-turn c = turn (c .before .before .before)
+
 -- what was found at the cursor
 found : {r : Found} (x : tie.After-next-statement Inv-loop μ-loop) → x .next-statement .result ≡ r
     → foundFrom (start (x .before) .args .text .now) (x .before .loop .c) ≡ r
@@ -45,29 +50,53 @@ loop-holds c = (going-first (c .before .before .before .before .before .before .
 returns : tie.Need-returns Inv-loop μ-loop
 returns c =
     let l = last-turn c in
-    going-last (start l .pre) (l .loop .inv .0) (found (c .before .before) (c .enum-told .given .1))
+    record {
+      through = λ _. going-last (start l .pre) (l .loop .inv .0) (found (c .before .before) (c .enum-told .given .1));
+      full = λ e. absurd (not-both refl e);
+    }
+
+-- no room for the statement that was found
+returns-2 : tie.Need-returns-2 Inv-loop μ-loop
+returns-2 c =
+    let t = c .before in
+    let f = t .before .before in
+    let l = full-turn c in
+    let lacks = t .lacks-room .ensures .lacks (c .if1 .taken) in
+    record {
+      through = λ e. absurd (not-both e refl);
+      full = λ _. going-full (start l .pre) (l .loop .inv .0) (found (f .before .before) (f .found .given .1)) lacks;
+    }
 
 read-one-requires : tie.Need-read-one-requires Inv-loop μ-loop
 read-one-requires c κs =
-    let f = c .before .before .before .before .before .before .before .before in
+    let i = c .before .before .before .before .before .before .before in
+    let t = i .before in
+    let f = t .before .before in
     let l = turn f in
     going-able (start l .pre) (l .loop .inv .0) (found (f .before .before) (f .found .given .1))
-    (omega (arith, l .loop .inv .1)) (omega (arith, l .loop .inv .2))
+    (t .lacks-room .ensures .has (i .if1 .left)) (omega (arith, l .loop .inv .1)) (omega (arith, l .loop .inv .2))
+
+-- where it was known that there is room for it
+abbrev asked : tie.After-read-one Inv-loop μ-loop → tie.Else1 Inv-loop μ-loop
+asked read = read .before .before .before .before .before .before .before .before
 
 loop-less : tie.Need-loop-less Inv-loop μ-loop
 loop-less c =
     let read = c .before .before .before .before .before .before .before .before .before .before .before .before in
-    let f = read .before .before .before .before .before .before .before .before .before in
+    let f = asked read .before .before .before in
     let l = turn f in
     going-less (start l .pre) (l .loop .inv .0) (found (f .before .before) (f .found .given .1))
 
 loop-again : tie.Need-loop-again Inv-loop μ-loop
 loop-again c =
     let read = c .before .before .before .before .before .before .before .before .before .before .before .before in
-    let f = read .before .before .before .before .before .before .before .before .before in
+    let i = asked read in
+    let t = i .before in
+    let f = t .before .before in
     let l = turn f in
-    let e = found (f .before .before) (f .found .given .1) in (
-      going-next (start l .pre) (l .loop .inv .0) e (read .read-one .ensures),
+    let e = found (f .before .before) (f .found .given .1) in
+    let fits = t .lacks-room .ensures .has (i .if1 .left) in (
+      going-next (start l .pre) (l .loop .inv .0) e fits (read .read-one .ensures),
       omega (arith, l .loop .inv .1, read .read-one .kept),
       omega (arith, l .loop .inv .2, read .read-one .kept),
     )
@@ -88,6 +117,13 @@ read-all-spec =
     (λ c. last-turn c .loop .inv .0 .long-bounds)
     (λ c. going-list (start (last-turn c) .pre) (last-turn c .loop .inv .0))
     returns
+    (λ c κs. search needs)
+    (λ c. full-turn c .loop .inv .0 .long-kinds)
+    (λ c. full-turn c .loop .inv .0 .long-args)
+    (λ c. full-turn c .loop .inv .0 .long-lines)
+    (λ c. full-turn c .loop .inv .0 .long-bounds)
+    (λ c. going-list (start (full-turn c) .pre) (full-turn c .loop .inv .0))
+    returns-2
     (λ c. search needs)
     (λ c. search needs)
     read-one-requires

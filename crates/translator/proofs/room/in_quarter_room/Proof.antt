@@ -1,4 +1,5 @@
 -- A quarter of the largest room.
+use native.Mathlib.Omega.{arith}
 use borrow.Author.Needs.{needs}
 use Rattle.translator.specs.Working.{quarter}
 use Rattle.translator.proofs.Rooms.{room-of}
@@ -8,7 +9,7 @@ use Rattle.translator.proofs.room.in_quarter_room.Tie as tie
 decide-requires : tie.Need-decide-requires
 decide-requires c κs =
     let start = c .before .before .before .before .before .before .before .before .before .before .before .before in
-    (room-of quarter (start .pre .0) (start .pre .1), start .pre .1)
+    (room-of quarter (start .pre), omega arith)
 
 pub in-quarter-room-spec : {M : Type 1} → statement M
 in-quarter-room-spec =

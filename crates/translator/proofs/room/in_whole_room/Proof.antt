@@ -1,14 +1,21 @@
 -- Any text that is taken.
+use native.Mathlib.Omega.{arith}
 use borrow.Author.Needs.{needs}
 use Rattle.limits.specs.Limits.{textBytes}
-use Rattle.translator.proofs.Rooms.{room-of}
+use Rattle.translator.proofs.Rooms.{room-of, never-full}
 use Rattle.translator.proofs.room.in_whole_room.Statement.{statement}
 use Rattle.translator.proofs.room.in_whole_room.Tie as tie
 
 decide-requires : tie.Need-decide-requires
 decide-requires c κs =
     let start = c .before .before .before .before .before .before .before .before .before .before .before .before in
-    (room-of textBytes (start .pre) (start .pre .brief), start .pre .brief)
+    (room-of textBytes (start .pre), omega arith)
+
+returns : tie.Need-returns
+returns c =
+    let t = c .before .before .before .before .before .before .before .before .before .before .before .before in
+    let lent = t .before .before .before .before .before .before .before .before in
+    never-full (t .decide .ensures) (lent .before .before .before .before .before .pre .brief)
 
 pub in-whole-room-spec : {M : Type 1} → statement M
 in-whole-room-spec =
@@ -23,4 +30,4 @@ in-whole-room-spec =
     (λ c. search needs)
     (λ c. search needs)
     (λ c. search needs)
-    (λ c. search needs))
+    returns)
