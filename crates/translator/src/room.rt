@@ -26,7 +26,7 @@ pub(crate) struct Tried {
 }
 
 // A room that was too small.
-fn full() -> Tried
+fn too_small() -> Tried
     ensures { λ r. ⌜ r .full ≡ true ⌝ }
 {
     Tried {
@@ -39,7 +39,7 @@ fn full() -> Tried
 }
 
 // One that was not, and the answer.
-fn told(answer: Ordered) -> Tried
+fn with_answer(answer: Ordered) -> Tried
     ensures { λ r. ⌜ (r .full ≡ false) × (r .answer ≡ answer) ⌝ }
 {
     Tried {
@@ -76,11 +76,11 @@ fn decide(
         &mut *faults,
     );
     if !far.through {
-        return full();
+        return too_small();
     }
     let n = far.n;
     if 0 < n.faults {
-        return told(Ordered {
+        return with_answer(Ordered {
             verdict: Verdict::Faulty(5, n.faults),
             units: 0,
         });
@@ -97,7 +97,7 @@ fn decide(
         program,
         ordered,
     );
-    told(answer)
+    with_answer(answer)
 }
 
 // ---- the rooms

@@ -36,7 +36,7 @@ returns c =
     let r = t .before .before .before .before .before .before .before .before .before .before .before .before in
     let part = r .read-all .ensures .full (not-true _ (t .if1 .taken)) in
     record {
-      decides = λ e. absurd (not-both (c .full .ensures) e);
+      decides = λ e. absurd (not-both (c .too-small .ensures) e);
       full = λ _. (omega (arith, part .0, r .read-all .kept), part .1, refl, refl);
     }
 
@@ -49,10 +49,10 @@ returns-2 c =
     let all = r .read-all .ensures .through (came e) in
     record {
       decides =
-          λ _. rw (c .told .ensures .1)
+          λ _. rw (c .with-answer .ensures .1)
           (says-five (start r .pre .0) all (start r .args .program .now) (start r .args .ordered .now)
           (faulty .if2 .taken));
-      full = λ e. absurd (not-both e (c .told .ensures .0));
+      full = λ e. absurd (not-both e (c .with-answer .ensures .0));
     }
 
 slice-reshare-prefix-conclude : tie.Need-slice-reshare-prefix-conclude
@@ -119,11 +119,11 @@ conclude-requires c κs =
     ready-so room all (omega (arith, kinds-enough room all, r .read-all .kept, start r .pre .1))
 
 -- the arrays keep their lengths
-abbrev concluded : tie.After-told2 → tie.After-conclude
+abbrev concluded : tie.After-with-answer2 → tie.After-conclude
 concluded c = c .before .before .before .before .before .before .before .before .before .before .before .before .before
 
 -- where all was read before that
-abbrev unlent : tie.After-told2 → tie.After-read-all
+abbrev unlent : tie.After-with-answer2 → tie.After-read-all
 unlent c = read (through (concluded c .before .before .before .before .before .before .before .before .before))
 
 same-length-13 : tie.Need-same-length-13
@@ -160,11 +160,11 @@ returns-3 c =
     let uses = kinds-enough room all in
     record {
       decides =
-          λ _. rw (c .told2 .ensures .1)
+          λ _. rw (c .with-answer2 .ensures .1)
           (says-model room all (clean .if2 .left) (done .conclude .result) (start r .args .program .now)
           (start r .args .ordered .now) (omega (arith, uses, r .read-all .kept, start r .pre .1))
           (done .conclude .ensures));
-      full = λ e. absurd (not-both e (c .told2 .ensures .0));
+      full = λ e. absurd (not-both e (c .with-answer2 .ensures .0));
     }
 
 pub decide-spec : {M : Type 1} → statement M
