@@ -5,7 +5,7 @@ use mathlib.Core.List.{List}
 use lib.Ieee.{Float}
 use Rattle.laws.specs.Agree.{Agree}
 use Rattle.bits.specs.Contract.{Widens, Indexes, ReadsByte, ReadsShort, ReadsWord, TakesLeast, LeavesRoom}
-use Rattle.bits.specs.Contract.{GetsLow, PutsLow, PutsEight, GivesFloat, GivesBits}
+use Rattle.bits.specs.Contract.{GetsLow, PutsBytes, PutsLow, PutsEight, GivesFloat, GivesBits}
 
 -- ---- numbers of lists
 pub wide : (byte : ℕ) → Agree (Widens byte)
@@ -32,6 +32,9 @@ room end at n r s p q = p ∙ sym q
 
 pub get-low : (part : List ℕ) (n : ℕ) → Agree (GetsLow part n)
 get-low part n r s p q = p .0 ∙ sym (q .0)
+
+pub put-bytes : (buf : List ℕ) (at : ℕ) (from : List ℕ) → Agree (PutsBytes buf at from)
+put-bytes buf at from a b p q = p ∙ sym q
 
 pub put-low : (buf : List ℕ) (at n v : ℕ) → Agree (PutsLow buf at n v)
 put-low buf at n v a b p q = p ∙ sym q

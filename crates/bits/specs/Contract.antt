@@ -43,6 +43,10 @@ LeavesRoom end at n r = r ≡ min (end - at) n
 abbrev pub GetsLow : List ℕ → ℕ → ℕ → Type 0
 GetsLow part n r = (r ≡ lowWord (take (min n 8) part)) × (r < 256 ^ min n 8)
 
+-- `put_bytes`: these bytes stand from a place on, as far as there are places; the others are as lent
+abbrev pub PutsBytes : List ℕ → ℕ → List ℕ → List ℕ → Type 0
+PutsBytes buf at from b = b ≡ sets buf at from
+
 -- `put_low`: the n lowest bytes of v stand from a place on, as far as there are places; the others are as lent
 abbrev pub PutsLow : List ℕ → ℕ → ℕ → ℕ → List ℕ → Type 0
 PutsLow buf at n v b = b ≡ sets buf at (lowBytes n v)

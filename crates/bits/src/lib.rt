@@ -4,7 +4,8 @@ ghost use Prim.Native.Nat.{_+_};
 ghost use lib.Dec.{leb};
 ghost use lib.Seq.{sets};
 ghost use Rattle.bits.specs.Low.{lowBytes};
-ghost use Rattle.bits.specs.Contract.{TakesLeast, LeavesRoom, GetsLow, PutsLow, PutsEight, GivesFloat, GivesBits};
+ghost use Rattle.bits.specs.Contract.{TakesLeast, LeavesRoom, GetsLow, PutsBytes, PutsLow, PutsEight};
+ghost use Rattle.bits.specs.Contract.{GivesFloat, GivesBits};
 
 pub mod reads;
 
@@ -40,6 +41,18 @@ pub fn get_low(part: &[u8], n: usize) -> u64
         word = wide(part[i]) + 256 * word;
     }
     word
+}
+
+// Writes bytes from a place on, those for which there is a place.
+pub fn put_bytes(buf: &mut [u8], at: usize, from: &[u8])
+    ensures { λ _. ⌜ PutsBytes (now (buf .entry)) at (now (from .entry)) (now (buf .exit)) ⌝ }
+{
+    let n = room(buf.len(), at, from.len());
+    let mut i: usize = 0;
+    while i < n {
+        buf[at + i] = from[i];
+        i += 1;
+    }
 }
 
 // Writes the n lowest bytes of a number from a place on, those for which there is a place.

@@ -1,7 +1,7 @@
 // The parts of a statement's cards, one behind the other.
 use super::lines::dots_at;
 use super::lines::trim;
-use bits::room;
+use bits::put_bytes;
 ghost use mathlib.Core.Path.{_≡_};
 ghost use mathlib.Core.List.{_∷_};
 ghost use Prim.Native.Nat.{_+_, _<_, _^_};
@@ -22,18 +22,6 @@ pub fn part_len(line: &[u8]) -> usize
     line.len()
 }
 
-// Writes bytes from a place on, those for which there is a place.
-fn copy(from: &[u8], out: &mut [u8], at: usize)
-    ensures { λ _. ⌜ now (out .exit) ≡ sets (now (out .entry)) at (now (from .entry)) ⌝ }
-{
-    let n = room(out.len(), at, from.len());
-    let mut i: usize = 0;
-    while i < n {
-        out[at + i] = from[i];
-        i += 1;
-    }
-}
-
 // Writes a line's part from a place on; the place behind it.
 fn put_part(line: &[u8], out: &mut [u8], at: usize) -> usize
     requires { ⌜ at + length (now line) < 2 ^ 64 ⌝ }
@@ -41,7 +29,7 @@ fn put_part(line: &[u8], out: &mut [u8], at: usize) -> usize
     ensures written { λ _. ⌜ now (out .exit) ≡ sets (now (out .entry)) at (linePart (now (line .entry))) ⌝ }
 {
     let n = part_len(line);
-    copy(&line[..n], &mut *out, at);
+    put_bytes(&mut *out, at, &line[..n]);
     at + n
 }
 
@@ -51,7 +39,7 @@ fn put_spaced(line: &[u8], out: &mut [u8], at: usize) -> usize
     ensures value { λ r. ⌜ r ≡ at + 1 + length (linePart (now (line .entry))) ⌝ }
     ensures written { λ _. ⌜ now (out .exit) ≡ sets (now (out .entry)) at (32 ∷ linePart (now (line .entry))) ⌝ }
 {
-    copy(b" ", &mut *out, at);
+    put_bytes(&mut *out, at, b" ");
     put_part(line, out, at + 1)
 }
 

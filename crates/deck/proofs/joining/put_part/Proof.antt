@@ -19,11 +19,11 @@ whole : (c : tie.After-part-len) → let line = c .before .before .before .args 
     take (c .part-len .result) line ≡ linePart line
 whole c = rw (c .part-len .ensures) (part-take (c .before .before .before .args .line .now))
 
-slice-aggregate-copy : tie.Need-slice-aggregate-copy
-slice-aggregate-copy c =
+slice-aggregate-put-bytes : tie.Need-slice-aggregate-put-bytes
+slice-aggregate-put-bytes c =
     sym
-    (length-take-le (c .before .part-len .result) (c .before .before .before .before .args .line .now)
-    (within (c .before)))
+    (length-take-le (c .before .before .part-len .result) (c .before .before .before .before .before .args .line .now)
+    (within (c .before .before)))
 
 add-result : tie.Need-add-result
 add-result c = omega (arith, within (c .before .before .before .before .before))
@@ -32,9 +32,9 @@ returns : tie.Need-returns
 returns c =
     let p = c .before .before .before .before .before in
     let a = p .before .before .before .args in
-    (omega (arith, p .part-len .ensures), c .before .before .copy .ensures ∙ ap (sets (a .out .now) (a .at)) (whole p))
+    (omega (arith, p .part-len .ensures), c .before .before .put-bytes .ensures ∙ ap (sets (a .out .now) (a .at)) (whole p))
 
 pub put-part-spec : {M : Type 1} → statement M
 put-part-spec =
     tie.close
-    (tie.spec (λ c κs. search needs) slice-aggregate-copy (λ c κs. search needs) add-result (λ c. search needs) returns)
+    (tie.spec (λ c κs. search needs) slice-aggregate-put-bytes (λ c κs. search needs) add-result (λ c. search needs) returns)

@@ -5,19 +5,19 @@ use native.Mathlib.Omega.{arith}
 use borrow.Author.Needs.{needs}
 use lib.ListN.{length}
 use Rattle.laws.proofs.Copies.{Copied, copied-first, copied-next, copied-last}
-use Rattle.deck.proofs.joining.copy.Statement.{statement}
-use Rattle.deck.proofs.joining.copy.Tie as tie
+use Rattle.bits.proofs.put_bytes.Statement.{statement}
+use Rattle.bits.proofs.put_bytes.Tie as tie
 
 abbrev Inv-loop : tie.InvT-loop
-Inv-loop from out₀ at n i₀ out i = (n ≡ min (length out₀ - at) (length from)) × (i ≤ n) × Copied from out₀ out at i
+Inv-loop buf₀ at from n i₀ buf i = (n ≡ min (length buf₀ - at) (length from)) × (i ≤ n) × Copied from buf₀ buf at i
 
 abbrev μ-loop : tie.MeasureT-loop
-μ-loop from out₀ at n i₀ out i = n - i
+μ-loop buf₀ at from n i₀ buf i = n - i
 
 loop-holds : tie.Need-loop-holds Inv-loop μ-loop
 loop-holds c =
     let a = c .before .before .before .args in
-    (c .room .ensures, search needs, copied-first (a .from .now) (a .out .now) (a .at))
+    (c .room .ensures, search needs, copied-first (a .from .now) (a .buf .now) (a .at))
 
 loop-again : tie.Need-loop-again Inv-loop μ-loop
 loop-again c =
@@ -25,7 +25,7 @@ loop-again c =
     let a = b .before .before .before .before .args in (
       b .loop .inv .0,
       search needs,
-      copied-next (a .from .now) (a .out .now) (a .at) (b .loop .out) (b .loop .i)
+      copied-next (a .from .now) (a .buf .now) (a .at) (b .loop .buf) (b .loop .i)
           (omega arith) (b .loop .inv .2),
     )
 
@@ -36,10 +36,10 @@ returns : tie.Need-returns Inv-loop μ-loop
 returns c =
     let b = c .before in
     let a = b .before .before .before .before .args in
-    copied-last (a .from .now) (a .out .now) (a .at) (b .loop .out) (b .loop .i) (omega arith) (b .loop .inv .2)
+    copied-last (a .from .now) (a .buf .now) (a .at) (b .loop .buf) (b .loop .i) (omega arith) (b .loop .inv .2)
 
-pub copy-spec : {M : Type 1} → statement M
-copy-spec =
+pub put-bytes-spec : {M : Type 1} → statement M
+put-bytes-spec =
     tie.close
     (tie.spec
     Inv-loop
