@@ -1,5 +1,5 @@
 -- The constants and the states collected, draft by draft, and a name sought among them.
-use Prim.Native.Nat.{ℕ, zero, suc, _+_, _-_, _≤_, _<_}
+use Prim.Native.Nat.{ℕ, zero, suc, _+_, _≤_, _<_}
 use mathlib.Core.Path.{_≡_, refl, ap, _∙_}
 use mathlib.Core.Bool.{Bool, true, false, _||_}
 use mathlib.Core.List.{List}
@@ -22,6 +22,7 @@ use Rattle.blocks.specs.Places.{definingIn}
 use Rattle.blocks.specs.InsidePlaces.{isFree, freeArgs, faults26In}
 use Rattle.blocks.specs.Working.{Reported}
 use Rattle.blocks.specs.InsideWorking.{faults26With}
+use Rattle.blocks.proofs.DefiningCounted.{only-length}
 
 -- ---- one value written, or none
 pub put-one : (b : Bool) (x d : ℕ) {l l′ : List ℕ} → b ≡ true → l′ ≡ set l d x → Put (onlyIf b x) d (d + 1) l l′
@@ -31,10 +32,6 @@ put-one false x d t e = absurd (not-both t refl)
 pub put-unless : (b : Bool) (x d : ℕ) (l : List ℕ) → b ≡ false → Put (onlyIf b x) d d l l
 put-unless true x d l t = absurd (not-both refl t)
 put-unless false x d l t = record { behind = omega arith; written = refl }
-
-only-length : {A : Type 0} (b : Bool) (x : A) → length (onlyIf b x) ≤ 1
-only-length true x = omega arith
-only-length false x = omega arith
 
 -- ---- the loop: it stands at draft i, with f of them
 abbrev pub freeAt : List ℕ → List ℕ → ℕ → List ℕ

@@ -1,10 +1,9 @@
 -- The settings of a sheet that is laid out: the drafts that define a name.
-use Prim.Native.Nat.{ℕ, zero, suc, _+_}
+use Prim.Native.Nat.{ℕ}
 use mathlib.Core.Path.{_≡_, refl, sym, ap, ap₂, _∙_}
 use mathlib.Core.Bool.{Bool, false}
 use mathlib.Core.List.{List, [], _∷_, _++_, map, append-nil}
-use native.Mathlib.Omega.{arith}
-use lib.ListN.{length, getD, length-map, length-append}
+use lib.ListN.{length, getD, length-map}
 use Rattle.laws.specs.Lists.{concat-map}
 use Rattle.laws.specs.Places.{gather, onlyIf}
 use Rattle.laws.proofs.Concats.{concat-concat, concat-same}
@@ -19,7 +18,7 @@ use Rattle.sheet.specs.Layout.{draftsIn, draftKinds, draftArgs, Laid}
 use Rattle.blocks.specs.Members.{settingsBy, settings}
 use Rattle.blocks.specs.Places.{definingIn}
 use Rattle.blocks.proofs.DraftsWalk.{noDraft, kind-at, arg-at}
-use Rattle.blocks.proofs.DefiningCounted.{only-once}
+use Rattle.blocks.proofs.DefiningCounted.{as-many}
 
 -- the key that a draft defines
 abbrev pub keyDefined : Draft → List ℕ
@@ -65,27 +64,13 @@ settings-drafts (header os is) =
     ∙ ap (concat-map keyDefined) (sym (append-nil (map (draft kindInput) is))) ∙ names-none kindInput refl is []
 settings-drafts ending = refl
 
--- as many are gathered, whatever is taken at each place
-as-many : (t : ℕ → Bool) (f g : ℕ → ℕ) (k i : ℕ)
-    → length (gather (λ j. onlyIf (t j) (f j)) k i) ≡ length (gather (λ j. onlyIf (t j) (g j)) k i)
-unfolding gather
-as-many t f g zero i = refl
-as-many t f g (suc k) i =
-    omega (
-      arith,
-      length-append (onlyIf (t i) (f i)) (gather (λ j. onlyIf (t j) (f j)) k (suc i)),
-      length-append (onlyIf (t i) (g i)) (gather (λ j. onlyIf (t j) (g j)) k (suc i)),
-      only-once (t i) (f i),
-      only-once (t i) (g i),
-      as-many t f g k (suc i),
-    )
-
 -- THE COUNT of verdict 6
 pub settings-counted : {ss : List Numbered} {kinds args lines bounds : List ℕ} → Laid ss kinds args lines bounds
     → length (definingIn kinds) ≡ length (settings ss)
 unfolding definingIn
 settings-counted {ss} {kinds} {args} v =
-    as-many (λ j. defines (getD kinds j 0)) (λ j. j) (λ j. getD args j 0) (length kinds) 0 ∙ ap length keys
+    let test : ℕ → Bool = λ j. defines (getD kinds j 0) in
+    as-many test test (λ j. j) (λ j. getD args j 0) (length kinds) 0 0 (λ m h. refl) ∙ ap length keys
   where
     keys : gather (λ j. onlyIf (defines (getD kinds j 0)) (getD args j 0)) (length kinds) 0 ≡ settings ss
     keys =

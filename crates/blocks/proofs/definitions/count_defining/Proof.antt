@@ -1,33 +1,29 @@
--- How many of the drafts before i define a name, and how many of the others do.
+-- The invariant: what is counted and what is left to count are all.
 use Prim.Native.Nat.{_-_}
 use native.Mathlib.Omega.{arith}
 use borrow.Author.Needs.{needs}
 use lib.ListN.{length}
-use Rattle.blocks.proofs.DefiningCounted.{Counting, counting-first, counting-next, counting-last}
+use Rattle.blocks.proofs.DefiningCounted.{Counting, counting-first, counting-part, counting-rest}
 use Rattle.blocks.proofs.definitions.count_defining.Statement.{statement}
 use Rattle.blocks.proofs.definitions.count_defining.Tie as tie
 
 abbrev Inv-loop : tie.InvT-loop
-Inv-loop kinds n₀ i₀ n i = Counting kinds i n
+Inv-loop kinds n₀ i₀ n i = Counting kinds n i
 
 abbrev μ-loop : tie.MeasureT-loop
 μ-loop kinds n₀ i₀ n i = length kinds - i
 
 loop-holds : tie.Need-loop-holds Inv-loop μ-loop
-loop-holds c = counting-first (c .before .args .kinds .now)
-
-counting-requires : tie.Need-counting-requires Inv-loop μ-loop
-counting-requires c κs =
-    let at = c .before .before in
-    omega (arith, at .loop .inv .few, at .loop .inv .inside, at .before .before .pre)
+loop-holds c = counting-first _
 
 loop-again : tie.Need-loop-again Inv-loop μ-loop
 loop-again c =
-    let test = c .before .before in
-    counting-next (test .before .loop .inv) (test .loop-test .taken) (c .counting .ensures)
+    let at-test = c .before .before in
+    let i = at-test .before .loop .inv in
+    counting-part i _ (omega (arith, at-test .loop-test .taken, i .inside)) (c .defining-in .ensures)
 
 returns : tie.Need-returns Inv-loop μ-loop
-returns c = counting-last (c .before .loop .inv) (c .loop-test .left)
+returns c = counting-rest (c .before .before .before .loop .inv) (c .defining-in2 .ensures)
 
 pub count-defining-spec : {M : Type 1} → statement M
 count-defining-spec =
@@ -37,8 +33,19 @@ count-defining-spec =
     μ-loop
     loop-holds
     (λ c. search needs)
-    counting-requires
+    (λ c. search needs)
+    (λ c. search needs)
+    (λ c. search needs)
+    (λ c. search needs)
+    (λ c κs. search needs)
+    (λ c. search needs)
     (λ c. search needs)
     (λ c. search needs)
     loop-again
+    (λ c. search needs)
+    (λ c. search needs)
+    (λ c. search needs)
+    (λ c κs. search needs)
+    (λ c. search needs)
+    (λ c. search needs)
     returns)

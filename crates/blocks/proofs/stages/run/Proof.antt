@@ -18,9 +18,6 @@ counting e = e .before
 abbrev start : tie.After-count-defining → tie.Start
 start k = k .before .before .before .before .before .before .before .before .before .before
 
-count-defining-requires : tie.Need-count-defining-requires
-count-defining-requires c κs = c .before .before .before .before .before .before .before .before .before .pre .small
-
 -- ---- 6
 returns : tie.Need-returns
 returns c =
@@ -76,7 +73,7 @@ pub run-spec : {M : Type 1} → statement M
 run-spec =
     tie.close
     (tie.spec
-    count-defining-requires
+    (λ c κs. search needs)
     (λ c κs. search needs)
     (λ c. search needs)
     returns
