@@ -9,8 +9,9 @@ ghost use Rattle.laws.specs.Counts.{has};
 use super::lists::put_short;
 use bits::reads::short_at;
 
-// A prime: the keys of two names seldom have the same remainder. The table is zeroed for each text, so it is short.
-pub const BUCKETS: usize = 1009;
+// A prime, near twice as large as there may be names: the keys of two seldom have the same remainder. The table is
+// zeroed for each text, so it is no larger.
+pub const BUCKETS: usize = 2039;
 
 // Notes the place of each key; where two have the same remainder, the last one's stays.
 pub(crate) fn note_places(keys: &[u64], hints: &mut [u16])

@@ -1,5 +1,5 @@
 -- The stages of a plan: how what the passes leave makes up the outcome.
-use Prim.Native.Nat.{ℕ, _+_, _*_, _≤_, _<_}
+use Prim.Native.Nat.{ℕ, _+_, _*_, _≤_, _<_, min}
 use mathlib.Core.Path.{_≡_, refl, sym, ap, ap₂, _∙_, _≡⟨_⟩_, _∎}
 use mathlib.Core.Bool.{Bool, true, false, cond}
 use mathlib.Core.List.{List, [], _∷_}
@@ -8,7 +8,7 @@ use borrow.Author.Tests.{ltb-false, leb-true, eqb-true, not-true, lt-ltb, le-ltb
 use lib.Dec.{eqb, leb}
 use lib.ListN.{length, getD, take, drop, replicate, length-replicate}
 use lib.Seq.{sets, sets-eq, length-sets, length-take-le, take-append-seam}
-use Rattle.limits.specs.Limits.{mostStatements, mostDefinitions, textBytes, faultBytes, slots as slotCount}
+use Rattle.limits.specs.Limits.{mostStatements, mostDefinitions, textBytes, faultBytes}
 use Rattle.laws.specs.Lists.{concat-map}
 use Rattle.laws.specs.Places.{anyIn, onlyIf}
 use Rattle.laws.proofs.Tests.{and-true, or-left, or-right}
@@ -25,7 +25,7 @@ use Rattle.order.proofs.Tables.{fits-iff}
 use Rattle.drafts.specs.Kinds.{defines, isUse, asks, isNamed}
 use Rattle.drafts.specs.Places.{begins, ends, anyOf}
 use Rattle.laws.specs.Put.{Put}
-use Rattle.model.specs.Places.{keysIn, placesIn, doubles, resolved, undefinedAt, unfitAt, namesAt}
+use Rattle.model.specs.Places.{definedAt, keysIn, placesIn, doubles, resolved, undefinedAt, unfitAt, namesAt}
 use Rattle.model.specs.Places.{nameless}
 use Rattle.model.specs.Places.{isOrdered, orderedIn, assignedSlots, usedIn, startsFrom, loops}
 use Rattle.blocks.specs.Grouped.{some, falls}
@@ -36,7 +36,7 @@ use Rattle.model.specs.Plan.{orderedPlan, weighed, tested, ownSlots, own
 use Rattle.model.specs.Plan.{planned}
 use Rattle.blocks.specs.Working.{Reported}
 use Rattle.model.specs.Working.{Collected, Keyed, flawedAt, Follows, Holds, Wide, Slotted, Owned}
-use Rattle.model.specs.Working.{Linkable, Linked, Links, Searched, Weighs}
+use Rattle.model.specs.Working.{Unowned, Room, Linkable, Linked, Links, Searched, Weighs}
 use Rattle.model.specs.Working.{repeated}
 use Rattle.model.specs.declared.names.Usage.{Usage}
 use Rattle.model.specs.declared.stages.Link.{Link}
@@ -250,12 +250,12 @@ module _ {lines bounds kinds slots starts used equated : List ℕ} {m w : ℕ}
           (lent places equated placed)
       same = rw (v .starts-held, v .used-held, v .equated-held .front, v .equated-held .long)
 
--- ---- a name that is used has a slot
-slotted : (keys kinds args : List ℕ) → length keys ≤ mostDefinitions → length kinds ≤ length args
-    → Slotted kinds (resolved keys kinds args)
-slotted keys kinds args h l = record { slot = λ i k. small i k }
+-- ---- a name that is used has one of the slots of the definitions, or the one behind
+slotted : (keys kinds args : List ℕ) (n : ℕ) → length keys + 1 < n → length kinds ≤ length args
+    → Slotted n kinds (resolved keys kinds args)
+slotted keys kinds args n h l = record { slot = λ i k. small i k }
   where
-    small : (i : ℕ) → isUse (getD kinds i 0) ≡ true → getD (resolved keys kinds args) i 0 < slotCount + 1
+    small : (i : ℕ) → isUse (getD kinds i 0) ≡ true → getD (resolved keys kinds args) i 0 < n
     small i k =
         let inside : i < length kinds = within isUse kinds i refl k in
         let asked = or-left (isUse (getD kinds i 0)) _ k in
@@ -263,6 +263,12 @@ slotted keys kinds args h l = record { slot = λ i k. small i k }
         or-right (defines (getD kinds i 0)) _ (or-left (asks (getD kinds i 0)) _ asked) in
         let value = slot-named keys (getD kinds i 0) (getD args i 0) named refl in
         omega (arith, resolved-at keys kinds args i inside l, value, place-le (getD args i 0) keys)
+
+-- no more keys than drafts
+keys-few : (kinds args : List ℕ) → length (keysIn kinds args) ≤ length kinds
+unfolding keysIn
+keys-few kinds args =
+    gather-short (definedAt kinds args) (λ i. only-length (defines (getD kinds i 0)) (getD args i 0)) (length kinds) 0
 
 -- as many keys as places
 as-many-keys : (kinds args : List ℕ) → length (keysIn kinds args) ≡ length (placesIn kinds)
@@ -332,14 +338,14 @@ module _ {lines bounds ulines ubounds kinds args used keys places : List ℕ} (s
 module _ {lines bounds kinds args used keys places : List ℕ} (k : Keyed lines bounds kinds args used keys places) where
   -- the owners of the slots at hand, the names can be resolved
   pub linkable : {owners : List ℕ} → Owned (ownSlots (length lines) bounds kinds (resolved keys kinds args)) owners
-      → Linkable lines bounds kinds keys owners args used
-  linkable o =
+      → length keys + 1 < length owners → Linkable lines bounds kinds keys owners args used
+  linkable {owners} o room =
       record {
         sound = k .sound;
         few = k .few;
         wide = k .wide;
         owned = o;
-        slotted = slotted keys kinds args (k .few) (k .wide);
+        slotted = slotted keys kinds args (length owners) room (k .wide);
       }
 
   -- with the units of the order written, the names resolved, and what is used tabled
@@ -425,40 +431,51 @@ module _ {lines bounds kinds args used keys places : List ℕ} (k : Keyed lines 
           count (f .0) in
           linked-by faults places₀ placed (rw (f .1) (e ∙ same))
 
+-- ---- the room for n definitions is room for fewer
+pub room-of : (n : ℕ) {m : ℕ} → m ≤ n → Room m (replicate n 0) (replicate n 0) (replicate (n + 2) 0)
+room-of n {m} h =
+    let long = length-replicate {A = ℕ} n 0 in
+    let longer = length-replicate {A = ℕ} (n + 2) 0 in
+    record {
+      keys-room = omega (arith, long);
+      links-room = omega (arith, long);
+      owners-room = record { room = omega (arith, longer); none = rw longer };
+    }
+
 -- ---- the definitions
-module _ {kinds args keys places places′ : List ℕ} {n : ℕ}
-    (v : Collected kinds args n (replicate mostDefinitions 0) keys places places′) where
+module _ {kinds args keys₀ keys places places′ : List ℕ} {n : ℕ}
+    (v : Collected kinds args n keys₀ keys places places′) where
   counted : n ≡ length (keysIn kinds args)
   counted = omega (arith, v .keys-so .behind)
 
-  keys-room : n ≤ mostDefinitions → n ≤ length keys
-  keys-room h = omega (arith, ap length (v .keys-so .written), front-length mostDefinitions (keysIn kinds args))
+  -- there is room for them, where there are no more than there may be
+  module _ {links owners : List ℕ} (r : Room (min (length kinds) mostDefinitions) keys₀ links owners)
+      (h : n ≤ mostDefinitions) where
+    within-room : n ≤ min (length kinds) mostDefinitions
+    within-room = omega (arith, counted, keys-few kinds args)
 
-  pub keys-front : n ≤ mostDefinitions → n ≡ length (take n keys)
-  keys-front h = prefix-length n keys (keys-room h)
+    pub keys-held : Holds keys n (keysIn kinds args)
+    keys-held = holds-put (v .keys-so) (omega (arith, within-room, counted, r .keys-room))
 
-  keys-row : n ≤ mostDefinitions → take n keys ≡ keysIn kinds args
-  keys-row h =
-      let l = length-replicate {A = ℕ} mostDefinitions 0 in
-      rw (v .keys-so .written, counted)
-      (front-row (replicate mostDefinitions 0) (keysIn kinds args) (omega (arith, counted)))
+    pub links-wide : n ≤ length links
+    links-wide = omega (arith, within-room, r .links-room)
+
+    pub owners-wide : Unowned n owners
+    owners-wide = record { room = omega (arith, within-room, r .owners-room .room); none = r .owners-room .none }
 
   pub places-held : n ≤ mostDefinitions → mostDefinitions ≤ length places → Holds places′ n (placesIn kinds)
   places-held h w = holds-put (v .placed) (omega (arith, counted, as-many-keys kinds args))
 
-  pub places-front : n ≤ mostDefinitions → mostDefinitions ≤ length places → n ≡ length (take n places′)
-  places-front h w = holds-front (places-held h w) .long
-
-  pub keyed : {lines bounds used : List ℕ} → Follows lines bounds kinds used → length kinds ≤ length args
-      → mostDefinitions ≤ length places
+  pub keyed : {lines bounds used links owners : List ℕ} → Follows lines bounds kinds used → length kinds ≤ length args
+      → mostDefinitions ≤ length places → Room (min (length kinds) mostDefinitions) keys₀ links owners
       → n ≤ mostDefinitions → Keyed lines bounds kinds args used (take n keys) (take n places′)
-  keyed s w r h =
+  keyed s w p r h =
       record {
         sound = s;
         wide = w;
-        few = omega (arith, ap length (keys-row h), counted);
-        keys-so = keys-row h;
-        placed = places-held h r .front;
+        few = omega (arith, holds-front (keys-held r h) .long);
+        keys-so = keys-held r h .front;
+        placed = places-held h p .front;
       }
 
   -- the places are written

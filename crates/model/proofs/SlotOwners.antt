@@ -7,10 +7,9 @@ use mathlib.Core.List.{List, [], _∷_, _++_}
 use native.Mathlib.Omega.{arith}
 use borrow.Author.Tests.{eq-eqb, ne-eqb, lt-ltb}
 use lib.Dec.{ltb, leb·suc-suc}
-use lib.ListN.{length, getD, set, drop, replicate, length-set, length-map, length-replicate, getD-replicate}
+use lib.ListN.{length, getD, set, drop, replicate, length-set, length-map, getD-replicate}
 use lib.ListN.{drop-of-length-le}
 use lib.Seq.{drop-cons, getD-set-same, getD-set-other}
-use Rattle.limits.specs.Limits.{slots}
 use Rattle.laws.specs.Places.{onlyIf}
 use Rattle.laws.specs.Counts.{count, has}
 use Rattle.laws.proofs.Tests.{eq-or-ne, cond-ind, bool-cases}
@@ -77,33 +76,32 @@ owner-step r ss l s =
     later = omega arith
 
 -- the owners of the assigned slots from the last unit down to place r are noted
-pub record Owning (assigned : List (List ℕ)) (r : ℕ) (owners : List ℕ) : Type 0 where
+pub record Owning (assigned : List (List ℕ)) (owners₀ : List ℕ) (r : ℕ) (owners : List ℕ) : Type 0 where
   pub within : r ≤ length assigned
-  pub long : length owners ≡ slots + 1
+  pub long : length owners ≡ length owners₀
   pub owner : (s : ℕ) → s < length owners → getD owners s 0 ≡ ownerFrom r (drop r assigned) s
 
-owning-first : (assigned : List (List ℕ)) {owners : List ℕ} → owners ≡ replicate (slots + 1) 0
-    → Owning assigned (length assigned) owners
+owning-first : (assigned : List (List ℕ)) {owners : List ℕ} → owners ≡ replicate (length owners) 0
+    → Owning assigned owners (length assigned) owners
 owning-first assigned {owners} e =
-    let long : length owners ≡ slots + 1 = ap length e ∙ length-replicate {A = ℕ} (slots + 1) 0 in
     record {
       within = omega arith;
-      long = long;
+      long = refl;
       owner = λ s h.
-          ap (λ (l : List ℕ). getD l s 0) e ∙ getD-replicate {A = ℕ} (slots + 1) s 0 0 (omega arith)
+          ap (λ (l : List ℕ). getD l s 0) e ∙ getD-replicate {A = ℕ} (length owners) s 0 0 h
           ∙ sym (owner-none (length assigned) assigned s (omega arith));
     }
 
 -- before the last unit
-pub owning-start : (equated bounds kinds args : List ℕ) {owners : List ℕ} → owners ≡ replicate (slots + 1) 0
-    → Owning (assignedSlots equated bounds kinds args) (length equated) owners
+pub owning-start : (equated bounds kinds args : List ℕ) {owners : List ℕ} → owners ≡ replicate (length owners) 0
+    → Owning (assignedSlots equated bounds kinds args) owners (length equated) owners
 owning-start equated bounds kinds args {owners} e =
     let assigned = assignedSlots equated bounds kinds args in
     rw (length-map equated (assignedBy bounds kinds args)) at (owning-first assigned {owners = owners} e)
 
-module _ {assigned : List (List ℕ)} {owners : List ℕ} {r : ℕ} (v : Owning assigned r owners) where
+module _ {assigned : List (List ℕ)} {owners₀ owners : List ℕ} {r : ℕ} (v : Owning assigned owners₀ r owners) where
   pub owning-next : {ss owners′ : List ℕ} → 0 < r → ss ≡ getD assigned (r - 1) [] → owners′ ≡ noted ss r owners
-      → Owning assigned (r - 1) owners′
+      → Owning assigned owners₀ (r - 1) owners′
   owning-next {ss} {owners′} h p e =
       record { within = omega (arith, v .within); long = same ∙ v .long; owner = at }
     where
@@ -127,7 +125,7 @@ module _ {assigned : List (List ℕ)} {owners : List ℕ} {r : ℕ} (v : Owning 
           ∙ ap (λ (x : ℕ). cond (has s ss) r x) (v .owner s inside))
 
   pub owning-last : r ≤ 0 → Owned assigned owners
-  owning-last h = record { long = v .long; owner = λ s l. v .owner s l ∙ whole s }
+  owning-last h = record { owner = λ s l. v .owner s l ∙ whole s }
     where
       whole : (s : ℕ) → ownerFrom r (drop r assigned) s ≡ ownerIn assigned s
       whole s =
@@ -149,12 +147,12 @@ owner-used assigned owners s e = rw e (go (ltb (placeAmong s assigned) (length a
     go false = refl
 
 -- what a draft uses, by the owners that are noted
-pub used-same : {assigned : List (List ℕ)} {owners kinds args : List ℕ} → Owned assigned owners → Slotted kinds args
-    → (i : ℕ) → usedFrom owners kinds args i ≡ usedAt assigned kinds args i
+pub used-same : {assigned : List (List ℕ)} {owners kinds args : List ℕ} → Owned assigned owners
+    → Slotted (length owners) kinds args → (i : ℕ) → usedFrom owners kinds args i ≡ usedAt assigned kinds args i
 used-same {assigned} {owners} {kinds} {args} o s i =
     ⊎-elim (λ (t : isUse (getD kinds i 0) ≡ true). rw t (used t)) (λ (f : isUse (getD kinds i 0) ≡ false). rw f)
     (bool-cases (isUse (getD kinds i 0)))
   where
     used : isUse (getD kinds i 0) ≡ true → usedOwner owners (getD args i 0) ≡ usedBy assigned (getD args i 0)
     used t =
-        owner-used assigned owners (getD args i 0) (o .owner (getD args i 0) (omega (arith, o .long, s .slot i t)))
+        owner-used assigned owners (getD args i 0) (o .owner (getD args i 0) (s .slot i t))

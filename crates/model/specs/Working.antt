@@ -7,7 +7,7 @@ use mathlib.Core.List.{List, [], _∷_, _++_}
 use lib.Dec.{eqb, ltb}
 use lib.ListN.{length, getD, set, take, drop, replicate}
 use lib.Seq.{sets, slice}
-use Rattle.limits.specs.Limits.{mostStatements, mostDefinitions, textBytes, slots}
+use Rattle.limits.specs.Limits.{mostStatements, mostDefinitions, textBytes}
 use Rattle.laws.specs.Places.{gather, anyIn, onlyIf}
 use Rattle.laws.specs.Counts.{has}
 use Rattle.laws.specs.Put.{Put}
@@ -77,7 +77,7 @@ placeAt kinds i = onlyIf (defines (getD kinds i 0)) i
 -- to the next that
 -- has the same
 abbrev pub buckets : ℕ
-buckets = 1009
+buckets = 2039
 
 -- the first of n places from i on whose key has remainder b, and one more; 0 where none has it
 unfoldable pub nextIn : List ℕ → ℕ → ℕ → ℕ → ℕ
@@ -132,8 +132,13 @@ abbrev pub ownerIn : List (List ℕ) → ℕ → ℕ
 ownerIn assigned s = cond (ltb (placeAmong s assigned) (length assigned)) (placeAmong s assigned + 1) 0
 
 pub record Owned (assigned : List (List ℕ)) (owners : List ℕ) : Type 0 where
-  pub long : length owners ≡ slots + 1
   pub owner : (s : ℕ) → s < length owners → getD owners s 0 ≡ ownerIn assigned s
+
+-- none is noted yet, and there is room for the slots of n definitions and for the one behind, which a name without a
+-- definition has
+pub record Unowned (n : ℕ) (owners : List ℕ) : Type 0 where
+  pub room : n + 1 < length owners
+  pub none : owners ≡ replicate (length owners) 0
 
 -- v is noted as the owner of each of these slots
 unfoldable pub noted : List ℕ → ℕ → List ℕ → List ℕ
@@ -150,9 +155,19 @@ usedHere owners kind s = cond (isUse kind) (usedOwner owners s) []
 abbrev pub usedFrom : List ℕ → List ℕ → List ℕ → ℕ → List ℕ
 usedFrom owners kinds slots i = usedHere owners (getD kinds i 0) (getD slots i 0)
 
--- a name that is used has a slot
-pub record Slotted (kinds args : List ℕ) : Type 0 where
-  pub slot : (i : ℕ) → isUse (getD kinds i 0) ≡ true → getD args i 0 < slots + 1
+-- a name that is used has one of n slots
+pub record Slotted (n : ℕ) (kinds args : List ℕ) : Type 0 where
+  pub slot : (i : ℕ) → isUse (getD kinds i 0) ≡ true → getD args i 0 < n
+
+-- ---- the room for what is known of n definitions: their keys, the links of these, and the owners of their slots
+pub record Room (n : ℕ) (keys links owners : List ℕ) : Type 0 where
+  pub keys-room : n ≤ length keys
+  pub links-room : n ≤ length links
+  pub owners-room : Unowned n owners
+
+-- the most drafts of a model that is planned in the smaller room
+abbrev pub fewDrafts : ℕ
+fewDrafts = 128
 
 -- ---- names resolved and uses listed, draft by draft
 
@@ -189,7 +204,7 @@ pub record Linkable (lines bounds kinds keys owners args used : List ℕ) : Type
   pub few : length keys ≤ mostDefinitions
   pub wide : length kinds ≤ length args
   pub owned : Owned (ownSlots (length lines) bounds kinds (resolved keys kinds args)) owners
-  pub slotted : Slotted kinds (resolved keys kinds args)
+  pub slotted : Slotted (length owners) kinds (resolved keys kinds args)
 
 -- the table of uses is written; r is how much is used
 pub record Tabled (equated bounds kinds slots : List ℕ) (r : ℕ) (starts starts′ used used′ : List ℕ) : Type 0 where

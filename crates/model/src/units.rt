@@ -2,7 +2,7 @@
 ghost use mathlib.Core.Path.{_≡_};
 ghost use Prim.Native.Nat.{_+_, _-_, _≤_, _<_};
 ghost use lib.ListN.{length, replicate};
-ghost use Rattle.limits.specs.Limits.{mostStatements, mostDefinitions, slots};
+ghost use Rattle.limits.specs.Limits.{mostStatements, mostDefinitions};
 ghost use Rattle.laws.specs.Places.{onlyIf};
 ghost use Rattle.drafts.specs.Places.{ends};
 ghost use Rattle.laws.specs.Put.{Put};
@@ -138,7 +138,7 @@ pub(crate) fn note_owners(
     args: &[u64],
     owners: &mut [u16],
 )
-    requires { ⌜ (length (now equated) ≤ mostStatements) × (now owners ≡ replicate (slots + 1) 0)
+    requires { ⌜ (length (now equated) ≤ mostStatements) × (now owners ≡ replicate (length (now owners)) 0)
         × Hinted (now keys) (now hints) (now links) ×
         (length (now keys) ≤ mostDefinitions) × (length (now kinds) ≤ length (now args)) ⌝ }
     ensures { λ _. ⌜ Owned (assignedSlots (now (equated .entry)) (now (bounds .entry)) (now (kinds .entry))

@@ -1,5 +1,4 @@
 -- The units of the order are held in an array, the owners of their slots noted, and the names resolved.
-use mathlib.Core.Path.{refl}
 use native.Mathlib.Omega.{arith}
 use borrow.Author.Needs.{needs}
 use lib.ListN.{length}
@@ -13,7 +12,7 @@ use Rattle.model.proofs.stages.connect.Tie as tie
 abbrev S : tie.After-collect-ordered → tie.Start
 S k =
     let near = k .before .before .before .before .before .before .before in
-    near .before .before .before .before .before .before
+    near .before .before .before .before .before .before .before
 
 -- they are held
 held : (k : tie.After-collect-ordered) → Holds (k .collect-ordered .last .1 .1 .1 .0) (k .collect-ordered .result)
@@ -35,7 +34,7 @@ note-owners-requires c κs =
     let s = S k in
     let few = equated-few (length (s .args .lines .now)) (s .args .bounds .now) (s .args .kinds .now) in (
       omega (arith, holds-front (held k) .long, held k .long, few, s .pre .0 .sound .few),
-      refl,
+      s .pre .4 .none,
       s .pre .1,
       s .pre .0 .few,
       s .pre .0 .wide,
@@ -43,15 +42,17 @@ note-owners-requires c κs =
 
 resolve-requires : tie.Need-resolve-requires
 resolve-requires c κs =
-    let owned = c .before .before .before .before .before in
+    let owned = c .before .before .before .before .before .before in
     let k = owned .before .before .before .before .before .before in
     let s = S k .pre in
-    (s .1, linkable (s .0) (rw (held k .front) at (owned .note-owners .ensures)))
+    let noted = rw (held k .front) at (owned .note-owners .ensures) in
+    (s .1, linkable (s .0) noted (omega (arith, s .4 .room, owned .note-owners .kept .1 .1 .1 .1 .1 .1 .1 .0)))
 
 returns : tie.Need-returns
 returns c =
     let done = c .before .before .before .before .before .before in
-    let k = done .before .before .before .before .before .before .before .before .before .before .before .before in
+    let owned = done .before .before .before .before .before .before .before in
+    let k = owned .before .before .before .before .before .before in
     record {
       units-put = k .collect-ordered .ensures;
       linked = rw (S k .pre .3) at (done .resolve .ensures);
@@ -64,10 +65,9 @@ connect-spec =
     (λ c κs. search needs)
     slice-reshare-prefix-note-owners
     slice-aggregate-note-owners
-    (λ c. search needs)
     note-owners-requires
-    (λ c. search needs)
     resolve-requires
+    (λ c. search needs)
     (λ c. search needs)
     (λ c. search needs)
     (λ c. search needs)

@@ -10,7 +10,7 @@ use Rattle.model.proofs.units.note_owners.Tie as tie
 
 abbrev Inv-loop : tie.InvT-loop
 Inv-loop equated bounds kinds keys hints links args owners₀ r₀ owners r =
-    Owning (assignedSlots equated bounds kinds (resolved keys kinds args)) r owners
+    Owning (assignedSlots equated bounds kinds (resolved keys kinds args)) owners₀ r owners
 
 abbrev μ-loop : tie.MeasureT-loop
 μ-loop equated bounds kinds keys hints links args owners₀ r₀ owners r = r
