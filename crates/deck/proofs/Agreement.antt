@@ -6,16 +6,13 @@ use mathlib.Core.List.{List}
 use Rattle.laws.specs.Agree.{Agree, Agree2}
 use Rattle.deck.specs.declared.Cursor.{Cursor}
 use Rattle.deck.specs.declared.Place.{Place}
-use Rattle.deck.specs.Contract.{FindsNext, CountsLines, CountsStatements, CodesSize, Joins, FindsSpot}
+use Rattle.deck.specs.Contract.{FindsNext, CountsLines, CodesSize, Joins, FindsSpot}
 
 pub next-statement : (text : List ℕ) (c : Cursor) → Agree (FindsNext text c)
 next-statement text c r s p q = p .0 ∙ sym (q .0)
 
 pub line-count : (text : List ℕ) → Agree (CountsLines text)
 line-count text r s p q = p ∙ sym q
-
-pub statement-count : (text : List ℕ) → Agree (CountsStatements text)
-statement-count text r s p q = p ∙ sym q
 
 pub size-code : (cards : ℕ) (closed long : Bool) → Agree (CodesSize cards closed long)
 size-code cards closed long r s p q = p ∙ sym q

@@ -7,7 +7,6 @@ use lib.ListN.{length}
 use lib.Seq.{sets}
 use Rattle.deck.specs.Lines.{linesOf}
 use Rattle.deck.specs.Joined.{joined}
-use Rattle.deck.specs.Reading.{fresh, reading}
 use Rattle.deck.specs.Next.{foundFrom, Further, linesAt, cardsAt}
 use Rattle.deck.specs.Spots.{spotOf}
 use Rattle.deck.specs.Codes.{sizeCode}
@@ -23,10 +22,6 @@ FindsNext text c r = (r ≡ foundFrom text c) × Further (length text) c r
 -- `line_count`: how many lines the text has
 abbrev pub CountsLines : List ℕ → ℕ → Type 0
 CountsLines text r = r ≡ length (linesOf text)
-
--- `statement_count`: how many statements it has
-abbrev pub CountsStatements : List ℕ → ℕ → Type 0
-CountsStatements text r = r ≡ length (reading fresh 1 (linesOf text))
 
 -- `size_code`: 11, 12, 13 or 0, by what is known of a statement
 abbrev pub CodesSize : ℕ → Bool → Bool → ℕ → Type 0

@@ -13,7 +13,7 @@ use lines::line_end;
 use spots::byte_spot;
 use spots::last_spot;
 use statements::run;
-ghost use Rattle.deck.specs.Contract.{FindsNext, CountsLines, CountsStatements, CodesSize, Joins, FindsSpot};
+ghost use Rattle.deck.specs.Contract.{FindsNext, CountsLines, CodesSize, Joins, FindsSpot};
 
 // Where the next line begins, and its number.
 pub struct Cursor {
@@ -75,31 +75,6 @@ pub fn line_count(text: &[u8]) -> usize
         return n;
     }
     n + 1
-}
-
-// How many statements a text has: one is found after the other.
-pub fn statement_count(text: &[u8]) -> usize
-    ensures { λ r. ⌜ CountsStatements (now (text .entry)) r ⌝ }
-{
-    let mut n: usize = 0;
-    let mut c = Cursor { at: 0, line: 1 };
-    loop {
-        let found = next_statement(text, c);
-        let Found::Statement {
-            first: _,
-            start: _,
-            lines: _,
-            cards: _,
-            closed: _,
-            long: _,
-            next,
-        } = found
-        else {
-            return n;
-        };
-        n += 1;
-        c = next;
-    }
 }
 
 // The code of a statement's fault, or 0: still open, too many cards, a card too long; in this order.

@@ -30,6 +30,7 @@ bits =
       least = of-bits.least;
       room = of-bits.room;
       get-low = of-bits.get-low;
+      put-bytes = of-bits.put-bytes;
       put-low = of-bits.put-low;
       put-eight = of-bits.put-eight;
       float-of = of-bits.float-of;
@@ -41,7 +42,6 @@ deck =
     record {
       next-statement = of-deck.next-statement;
       line-count = of-deck.line-count;
-      statement-count = of-deck.statement-count;
       size-code = of-deck.size-code;
       join = of-deck.join;
       find-spot = of-deck.find-spot;

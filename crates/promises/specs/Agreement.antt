@@ -6,10 +6,10 @@ use mathlib.Core.List.{List}
 use lib.Ieee.{Float}
 use Rattle.laws.specs.Agree.{Agree, Agree2, Agree3, Agree4, Agree5}
 use Rattle.bits.specs.Contract.{Widens, Indexes, ReadsByte, ReadsShort, ReadsWord, TakesLeast, LeavesRoom, GetsLow}
-use Rattle.bits.specs.Contract.{PutsLow, PutsEight, GivesFloat, GivesBits}
+use Rattle.bits.specs.Contract.{PutsBytes, PutsLow, PutsEight, GivesFloat, GivesBits}
 use Rattle.deck.specs.declared.Cursor.{Cursor}
 use Rattle.deck.specs.declared.Place.{Place}
-use Rattle.deck.specs.Contract.{FindsNext, CountsLines, CountsStatements, CodesSize, Joins, FindsSpot}
+use Rattle.deck.specs.Contract.{FindsNext, CountsLines, CodesSize, Joins, FindsSpot}
 use Rattle.tokens.specs.Contract.{TakesCut, WritesRow, PlacesToken}
 use Rattle.drafts.specs.Contract.{WhetherDefining, WhetherUse, WhetherAsking, WhetherNamed, WhetherClosing}
 use Rattle.drafts.specs.Contract.{CountsDraft, FindsHome}
@@ -39,6 +39,7 @@ pub record Bits : Type 0 where
   pub least : (x y : ℕ) → Agree (TakesLeast x y)
   pub room : (end at n : ℕ) → Agree (LeavesRoom end at n)
   pub get-low : (part : List ℕ) (n : ℕ) → Agree (GetsLow part n)
+  pub put-bytes : (buf : List ℕ) (at : ℕ) (from : List ℕ) → Agree (PutsBytes buf at from)
   pub put-low : (buf : List ℕ) (at n v : ℕ) → Agree (PutsLow buf at n v)
   pub put-eight : (buf : List ℕ) (at v : ℕ) → Agree (PutsEight buf at v)
   pub float-of : (bits : ℕ) → Agree (GivesFloat bits)
@@ -48,7 +49,6 @@ pub record Bits : Type 0 where
 pub record Deck : Type 0 where
   pub next-statement : (text : List ℕ) (c : Cursor) → Agree (FindsNext text c)
   pub line-count : (text : List ℕ) → Agree (CountsLines text)
-  pub statement-count : (text : List ℕ) → Agree (CountsStatements text)
   pub size-code : (cards : ℕ) (closed long : Bool) → Agree (CodesSize cards closed long)
   pub join : (text : List ℕ) (start cards : ℕ) (out : List ℕ) → Agree2 (Joins text start cards out)
   pub find-spot : (text : List ℕ) (start lines : ℕ) (place : Place) → Agree (FindsSpot text start lines place)

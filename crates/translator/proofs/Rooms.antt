@@ -1,43 +1,46 @@
 -- From the reading to the verdict: a statement fault stands, or the model decides; in arrays that have room.
-use Prim.Native.Nat.{ℕ, _+_, _≤_, _<_}
+use Prim.Native.Nat.{ℕ, _+_, _*_, _≤_, _<_}
 use mathlib.Core.Path.{_≡_, refl, sym, ap, _∙_}
 use mathlib.Core.Bool.{true, false}
-use mathlib.Core.List.{List, [], _∷_, _++_}
+use mathlib.Core.List.{List, [], _∷_}
 use mathlib.Core.Logic.{⊎-elim}
 use native.Mathlib.Omega.{arith}
-use native.Mathlib.Nat.{zero-add}
 use native.Mathlib.Numerals.{add-one}
-use borrow.Author.Tests.{le-ltb}
+use borrow.Author.Tests.{lt-ltb, le-ltb}
 use lib.Dec.{ltb}
-use lib.ListN.{length, take, drop, replicate, length-append, length-map, length-take}
-use lib.Seq.{sets, length-sets, sets-eq, drop-append-seam}
-use Rattle.limits.specs.Limits.{mostStatements}
+use lib.ListN.{length, take, replicate, length-map, length-take}
+use lib.Seq.{sets, length-sets}
+use Rattle.limits.specs.Limits.{mostStatements, faultRoom, faultBytes}
 use Rattle.laws.specs.Lists.{concat-map}
-use Rattle.laws.proofs.Concats.{none-left}
-use Rattle.laws.proofs.Lists.{concat-append}
-use Rattle.laws.proofs.Sets.{sets-append}
+use Rattle.laws.proofs.Sets.{sets-back}
 use Rattle.laws.proofs.Tests.{bool-cases}
+use Rattle.deck.specs.Lines.{linesOf}
+use Rattle.deck.proofs.Sizing.{statements-le, lines-le}
 use Rattle.drafts.specs.Drafts.{Draft}
-use Rattle.sheet.specs.Sheet.{Numbered, Fault, said, statementFaults, faultEntry, faultList}
+use Rattle.sheet.specs.Sheet.{Numbered, Fault, said, statementFaults, faultList}
 use Rattle.sheet.specs.Reader.{sheetOf}
 use Rattle.sheet.specs.Layout.{draftsIn, Laid}
 use Rattle.sheet.proofs.Entries.{list-length}
 use Rattle.translator.specs.declared.SoFar.{SoFar}
+use Rattle.translator.specs.declared.HowFar.{HowFar}
+use Rattle.translator.specs.declared.HowFar.the-variants.{Through}
 use Rattle.translator.specs.declared.Ordered.{Ordered}
 use Rattle.translator.specs.declared.room.Tried.{Tried}
-use Rattle.translator.specs.declared.Verdict.the-variants.{Faulty}
+use Rattle.translator.specs.declared.Verdict.the-variants.{Refused, Faulty}
 use Rattle.translator.specs.Contract.{ordered, orderedReply, orderedReplyOf}
 use Rattle.translator.specs.Verdict.{ifFaults, modelled, decidedWithin}
-use Rattle.translator.specs.Working.{ReadThrough, ArraysReady, Concludes, Taken, Room, PartRead, Decides, Tries}
+use Rattle.translator.specs.Working.{ReadThrough, ReadFar, AllRead, ArraysReady, Concludes, Taken, Room, Decides}
+use Rattle.translator.specs.Working.{Tries}
 use Rattle.blocks.proofs.TextHeaded.{text-headed}
 use Rattle.blocks.proofs.SheetFits.{bounds-many, laid-groups}
-use Rattle.translator.proofs.Counted.{counts}
+use Rattle.translator.proofs.Counted.{counts, faults-few}
+use Rattle.translator.proofs.Verdicts.{sheet-many}
 
-module _ {text list₀ kinds₀ args₀ lines₀ bounds₀ : List ℕ} (room : Room text list₀ kinds₀ args₀ lines₀ bounds₀)
+module _ {text list₀ : List ℕ} (taken : Taken text list₀) (not-many : length (sheetOf text) ≤ mostStatements)
     {n : SoFar} {kinds args lines bounds list : List ℕ}
     (r : ReadThrough text list₀ n kinds args lines bounds list) where
   few : ltb mostStatements (length (sheetOf text)) ≡ false
-  few = le-ltb mostStatements (length (sheetOf text)) (room .taken .few)
+  few = le-ltb mostStatements (length (sheetOf text)) not-many
 
   -- 5: some fault stands, and the list is written
   pub says-five : (p o : List ℕ) → 0 < n .faults → Decides text list₀ p o (ordered (Faulty 5 (n .faults)) 0) list p o
@@ -65,7 +68,7 @@ module _ {text list₀ kinds₀ args₀ lines₀ bounds₀ : List ℕ} (room : R
 
   -- no more statements than there may be
   pub statements-few : n .statements ≤ mostStatements
-  statements-few = omega (arith, r .statements, counts (sheetOf text), room .taken .few)
+  statements-few = omega (arith, r .statements, counts (sheetOf text), not-many)
 
   -- the drafts stand in both arrays
   abbrev drafts : List Draft
@@ -114,8 +117,8 @@ module _ {text list₀ kinds₀ args₀ lines₀ bounds₀ : List ℕ} (room : R
         fits =
             laid-groups (said (sheetOf text)) _ _ _ _ bounds-laid _ _ _ _ _
             (omega (arith, statements-few, r .statements))
-            (omega (arith, kinds-many, r .within, room .taken .brief)) (omega (arith, kinds-many, args-many))
-            (omega (arith, statements-few, r .statements, long, room .taken .list-room))
+            (omega (arith, kinds-many, r .within, taken .brief)) (omega (arith, kinds-many, args-many))
+            (omega (arith, statements-few, r .statements, long, taken .list-room))
             (omega (arith, statements-few, r .statements)) (omega (arith, statements-few, r .statements))
             (omega (arith, statements-few, r .statements));
         uses-room = omega (arith, kinds-many, uses);
@@ -123,8 +126,8 @@ module _ {text list₀ kinds₀ args₀ lines₀ bounds₀ : List ℕ} (room : R
 
   -- the model decides
   pub says-model : n .faults ≤ 0 → (v : Ordered) (p o : List ℕ) {used f′ p′ o′ : List ℕ} → n .drafts ≤ length used
-      → ((s : ArraysReady (take (n .statements) lines) (take (n .statements + 1) bounds) (take (n .drafts) kinds)
-      (take (n .drafts) args) used list) → Concludes (s .statements) list p o v f′ p′ o′)
+      → ((a : ArraysReady (take (n .statements) lines) (take (n .statements + 1) bounds) (take (n .drafts) kinds)
+      (take (n .drafts) args) used list) → Concludes (a .statements) list p o v f′ p′ o′)
       → Decides text list₀ p o v f′ p′ o′
   unfolding decidedWithin ready-so
   says-model none v p o uses w = rw (few, clean none, ← (listed-none none)) (w (ready-so uses))
@@ -141,6 +144,82 @@ room-of k taken =
       bounds-first = refl;
     }
 
+-- a room's own list has room for the faults
+pub own-list : {text list : List ℕ} → Taken text list → Taken text (replicate faultRoom 0)
+own-list taken = record { brief = taken .brief; list-room = omega arith }
+
+-- ---- reading came through
+module _ {text list₀ kinds args lines bounds list : List ℕ} {r : HowFar}
+    (w : ReadFar text list₀ r kinds args lines bounds list) where
+  pub came-through : {n : SoFar} → r ≡ Through n
+      → ReadThrough text list₀ n kinds args lines bounds list × (length (sheetOf text) ≤ mostStatements)
+  came-through e = rw e at w
+
+-- a text whose faults are listed at once
+unfoldable pub read-so : {text list₀ kinds args used lines bounds list : List ℕ} {n : SoFar} → Taken text list₀
+    → length (sheetOf text) ≤ mostStatements → ReadThrough text list₀ n kinds args lines bounds list
+    → length kinds ≤ length used
+    → AllRead n list kinds args used lines bounds
+read-so {text} {list₀} taken few r uses =
+    record {
+      text = text;
+      list₀ = list₀;
+      taken = taken;
+      few = few;
+      read = r;
+      uses-room = omega (arith, kinds-enough taken few r);
+    }
+
+-- ---- more statements than there may be
+
+-- 4: nothing is written
+pub says-four : (text f p o : List ℕ) → mostStatements < length (sheetOf text)
+    → Decides text f p o (ordered (Refused 4) 0) f p o
+unfolding decidedWithin
+says-four text f p o h = rw (lt-ltb mostStatements (length (sheetOf text)) h)
+
+-- a short text has no more
+pub text-few : (text : List ℕ) → length text ≤ mostStatements → length (sheetOf text) ≤ mostStatements
+text-few text h = omega (arith, sheet-many text, statements-le (linesOf text), lines-le text)
+
+-- ---- a list of the room's own
+module _ {text own₀ kinds args lines bounds own : List ℕ} {n : SoFar}
+    (r : ReadThrough text own₀ n kinds args lines bounds own) (few : length (sheetOf text) ≤ mostStatements)
+    (roomy : faultRoom ≤ length own₀) where
+  abbrev faults : List Fault
+  faults = statementFaults (sheetOf text)
+
+  pub faults-most : n .faults ≤ mostStatements
+  faults-most = omega (arith, few, faults-few (sheetOf text), r .faults)
+
+  -- so many bytes of it are written
+  own-long : length (faultList faults) ≡ faultBytes * n .faults
+  own-long = omega (arith, list-length faults, r .faults)
+
+  pub own-room : faultBytes * n .faults ≤ length own
+  own-room =
+      let long : length own ≡ length own₀ = ap length (r .listed) ∙ length-sets own₀ 0 (faultList faults) in
+      omega (arith, faults-few (sheetOf text), r .faults)
+
+  -- and these are the faults
+  own-front : take (faultBytes * n .faults) own ≡ faultList faults
+  own-front =
+      rw (r .listed, ← own-long)
+      (sets-back own₀ 0 (faultList faults) (omega (arith, own-long, faults-few (sheetOf text), r .faults)))
+
+  -- so, written to another list, they are listed there
+  pub read-listed : (f : List ℕ) {f′ : List ℕ} → f′ ≡ sets f 0 (take (faultBytes * n .faults) own)
+      → ReadThrough text f n kinds args lines bounds f′
+  read-listed f e =
+      record {
+        statements = r .statements;
+        drafts = r .drafts;
+        faults = r .faults;
+        laid = r .laid;
+        listed = e ∙ ap (sets f 0) own-front;
+        within = r .within;
+      }
+
 -- ---- a room that was too small
 
 -- with a place for each byte it is not
@@ -149,62 +228,8 @@ pub never-full : {text f p o f′ p′ o′ : List ℕ} {k : ℕ} {r : Tried} �
 never-full {r = r} t h =
     ⊎-elim (λ (e : r .full ≡ true). absurd (omega (arith, t .full e .0))) (λ e. t .decides e) (bool-cases (r .full))
 
--- what is written a second time from the front stays
-sets-again : (l x y : List ℕ) → length x ≤ length l → sets (sets l 0 x) 0 (x ++ y) ≡ sets l 0 (x ++ y)
-sets-again l x y h =
-    let once : sets l 0 x ≡ x ++ drop (length x) l = sets-eq x l 0 (omega arith) ∙ rw zero-add in
-    let twice : sets (x ++ drop (length x) l) 0 x ≡ x ++ drop (length x) l =
-    sets-eq x (x ++ drop (length x) l) 0 (omega (arith, length-append x (drop (length x) l)))
-    ∙ rw (zero-add, drop-append-seam x (drop (length x) l)) in
-    sets-append (sets l 0 x) 0 x y
-    ∙ ap (λ (m : List ℕ). sets m (0 + length x) y) (ap (λ (m : List ℕ). sets m 0 x) once ∙ twice ∙ sym once)
-    ∙ sym (sets-append l 0 x y)
-
--- where the faults of a part are listed
-module _ {text f f′ : List ℕ} (taken : Taken text f) (part : PartRead text f f′) where
-  abbrev early : List Fault
-  early = statementFaults (part .done)
-
-  abbrev late : List Fault
-  late = statementFaults (part .rest)
-
-  all-faults : statementFaults (sheetOf text) ≡ early ++ late
-  all-faults = ap statementFaults (part .split) ∙ concat-append _ (part .done) (part .rest)
-
-  roomy : length (faultList early) ≤ length f
-  roomy =
-      omega (
-        arith,
-        list-length early,
-        counts (sheetOf text),
-        ap length all-faults,
-        length-append early late,
-        taken .few,
-        taken .list-room,
-      )
-
-  -- what a verdict with these statement faults leaves
-  left-alike : (p o : List ℕ) (fs : List Fault) → statementFaults (sheetOf text) ≡ fs
-      → orderedReplyOf (ifFaults 5 fs (modelled (length p) (said (sheetOf text)))) (sets f 0 (faultList early)) p o
-      ≡ orderedReplyOf (ifFaults 5 fs (modelled (length p) (said (sheetOf text)))) f p o
-  unfolding faultList concat-map
-  left-alike p o [] e =
-      let none : early ≡ [] = none-left early late (sym all-faults ∙ e) .0 in
-      ap (λ (fs : List Fault). orderedReplyOf (modelled (length p) (said (sheetOf text))) (sets f 0 (faultList fs)) p o)
-      none
-  left-alike p o (x ∷ fs) e =
-      let whole : faultList (x ∷ fs) ≡ faultList early ++ faultList late =
-      ap faultList (sym e ∙ all-faults) ∙ concat-append faultEntry early late in
-      ap (λ (l : List ℕ). orderedReply (ordered (Faulty 5 (length (x ∷ fs))) 0) l p o)
-      (ap (λ (l : List ℕ). sets (sets f 0 (faultList early)) 0 l) whole
-      ∙ sets-again f (faultList early) (faultList late) roomy
-      ∙ ap (λ (l : List ℕ). sets f 0 l) (sym whole))
-
-  -- SO READ AGAIN, with the other two buffers as they were lent: the verdict leaves what it leaves where none is listed
-  pub read-again : (p o p₁ o₁ : List ℕ) {g p′ o′ : List ℕ} {r : Ordered} → p₁ ≡ p → o₁ ≡ o
-      → Decides text f′ p₁ o₁ r g p′ o′
-      → Decides text f p o r g p′ o′
-  unfolding decidedWithin
-  read-again p o p₁ o₁ e q d =
-      let few = le-ltb mostStatements (length (sheetOf text)) (taken .few) in
-      rw few (rw (e, q, few, part .listed) at d ∙ left-alike p o (statementFaults (sheetOf text)) refl)
+-- where nothing was written, a second try decides as the first would have
+pub second-try : (text f p o : List ℕ) {f₁ p₁ o₁ f′ p′ o′ : List ℕ} {r : Ordered} → f₁ ≡ f → p₁ ≡ p → o₁ ≡ o
+    → Decides text f₁ p₁ o₁ r f′ p′ o′
+    → Decides text f p o r f′ p′ o′
+second-try text f p o a b c d = rw (a, b, c) at d

@@ -6,6 +6,7 @@ use mathlib.Core.List.{List, _∷_, _++_, map}
 use native.Mathlib.Omega.{arith}
 use lib.ListN.{length, replicate, length-append, length-set}
 use lib.Seq.{length-sets}
+use Rattle.limits.specs.Limits.{mostStatements}
 use Rattle.deck.specs.Joined.{joined}
 use Rattle.deck.specs.Reading.{Statement as Found}
 use Rattle.deck.specs.Codes.{sizeCode, joinedRoom}
@@ -19,7 +20,7 @@ use Rattle.sheet.specs.Sheet.{Told, says, faulty}
 use Rattle.sheet.specs.Reader.{told, sheetOf}
 use Rattle.sheet.proofs.StatementMeans.{told-says}
 use Rattle.translator.specs.declared.SoFar.{SoFar}
-use Rattle.translator.specs.Working.{Able, AddsOf, Adds, Progress, Room, ReadThrough, PartRead}
+use Rattle.translator.specs.Working.{Able, AddsOf, Adds, Progress, Room, ReadThrough}
 use Rattle.translator.proofs.Counted.{counts}
 use Rattle.deck.specs.declared.Spot.{Spot}
 use Rattle.translator.proofs.Parsing.{drafts-few}
@@ -31,10 +32,11 @@ closed : (k : ℕ) (d long : Bool) → sizeCode k d long ≡ 0 → d ≡ true
 closed k true long h = refl
 closed k false long h = absurd (omega arith)
 
--- what is read so far; the buffers are as long as those of the beginning
+-- what is read so far, no more than there may be; the buffers are as long as those of the beginning
 pub record Going (text kinds₀ args₀ lines₀ bounds₀ list₀ kinds args lines bounds list : List ℕ) (n : SoFar)
     (c : Cursor) : Type 0 where
   pub progress : Progress text list₀ c n kinds args lines bounds list
+  pub few : n .statements + n .faults ≤ mostStatements
   pub long-kinds : length kinds ≡ length kinds₀
   pub long-args : length args ≡ length args₀
   pub long-lines : length lines ≡ length lines₀
@@ -48,6 +50,7 @@ module _ {text kinds args lines bounds list : List ℕ} where
   going-first r =
       record {
         progress = progress-first text list kinds args lines bounds (r .bounds-first);
+        few = omega arith;
         long-kinds = refl;
         long-args = refl;
         long-lines = refl;
@@ -61,9 +64,12 @@ module _ {text kinds₀ args₀ lines₀ bounds₀ list₀ kinds args lines boun
   pub going-list : length list ≡ length list₀
   going-list = ap length (g .progress .listed) ∙ simp length-sets
 
-  -- the end
-  pub going-last : foundFrom text c ≡ End → ReadThrough text list₀ n kinds args lines bounds list
-  going-last e = progress-last (g .progress) (walk-end text c (g .progress .lawful) e)
+  -- the end: all is read, and that is no more than there may be
+  pub going-last : foundFrom text c ≡ End
+      → ReadThrough text list₀ n kinds args lines bounds list × (length (sheetOf text) ≤ mostStatements)
+  going-last e =
+      let all = progress-last (g .progress) (walk-end text c (g .progress .lawful) e) in
+      (all, omega (arith, g .few, all .statements, all .faults, counts (sheetOf text)))
 
   module _ {f s m k : ℕ} {d long : Bool} {nx : Cursor} (e : foundFrom text c ≡ Statement f s m k d long nx) where
     -- the walk over it
@@ -79,7 +85,7 @@ module _ {text kinds₀ args₀ lines₀ bounds₀ list₀ kinds args lines boun
     near = span text c step
 
     -- there is one more statement than those that are read
-    left : n .statements + n .faults < length (sheetOf text)
+    pub left : n .statements + n .faults < length (sheetOf text)
     left =
         let p = g .progress in
         let one : Found = record { first = f; lines = linesAt text s m; closed = d } in
@@ -88,25 +94,16 @@ module _ {text kinds₀ args₀ lines₀ bounds₀ list₀ kinds args lines boun
         let many = length-append (p .done) (report told one ∷ map (report told) (statementsFrom text nx)) in
         omega (arith, ap length all, many, counts (p .done), p .statements, p .faults)
 
-    -- its drafts have no room: a part is read, and the text has more bytes than there are places
-    pub going-full : length kinds < n .drafts + (nx .at - 1 - s)
-        → (length kinds < length text) × PartRead text list₀ list
-    going-full h =
-        let p = g .progress in (
-          omega (arith, p .short, near .within),
-          record {
-            done = p .done;
-            rest = map (report told) (statementsFrom text c);
-            split = p .split;
-            listed = p .listed;
-          },
-        )
+    -- its drafts have no room: the text has more bytes than there are places
+    pub going-full : length kinds < n .drafts + (nx .at - 1 - s) → length kinds < length text
+    going-full h = omega (arith, g .progress .short, near .within)
 
-    -- what reading it asks, with room for its drafts and two rows that have room for its tokens
-    pub going-able : {ks us : List ℕ} → n .drafts + (nx .at - 1 - s) ≤ length kinds → joinedRoom ≤ length ks
-        → joinedRoom ≤ length us
+    -- what reading it asks, if it is not one too many, with room for its drafts and two rows that have room for its
+    -- tokens
+    pub going-able : {ks us : List ℕ} → n .statements + n .faults < mostStatements
+        → n .drafts + (nx .at - 1 - s) ≤ length kinds → joinedRoom ≤ length ks → joinedRoom ≤ length us
         → Able text f s m k d long (nx .at) n ks us kinds args lines bounds
-    going-able fits hk hu =
+    going-able more fits hk hu =
         let p = g .progress in
         let places : n .drafts + length (joined (cardsAt text s m)) ≤ length text =
         omega (arith, p .short, near .fewer, near .within) in
@@ -124,20 +121,21 @@ module _ {text kinds₀ args₀ lines₀ bounds₀ list₀ kinds args lines boun
           first-fits = omega (arith, step .near, room .taken .brief);
           brief = room .taken .brief;
           drafts-fit = omega (arith, places, room .taken .brief);
-          lines-room = omega (arith, left, room .taken .few, room .lines-room, g .long-lines);
-          bounds-room = omega (arith, left, room .taken .few, room .bounds-room, g .long-bounds);
-          faults-fit = omega (arith, left, room .taken .few);
+          lines-room = omega (arith, room .lines-room, g .long-lines);
+          bounds-room = omega (arith, room .bounds-room, g .long-bounds);
+          faults-fit = omega arith;
         }
 
     -- behind it
     pub going-next : {kinds′ args′ lines′ bounds′ list′ : List ℕ} {n′ : SoFar}
-        → n .drafts + (nx .at - 1 - s) ≤ length kinds
+        → n .statements + n .faults < mostStatements → n .drafts + (nx .at - 1 - s) ≤ length kinds
         → Adds (told (linesAt text s m) d) f n kinds args lines bounds list n′ kinds′ args′ lines′ bounds′ list′
         → Going text kinds₀ args₀ lines₀ bounds₀ list₀ kinds′ args′ lines′ bounds′ list′ n′ nx
-    going-next {kinds′} {args′} {lines′} {bounds′} {list′} {n′} fits w =
+    going-next {kinds′} {args′} {lines′} {bounds′} {list′} {n′} more fits w =
         let both = go (told (linesAt text s m) d) refl (w .by-told) in
         record {
           progress = both .0;
+          few = both .3;
           long-kinds = w .long-kinds ∙ g .long-kinds;
           long-args = w .long-args ∙ g .long-args;
           long-lines = both .1 ∙ g .long-lines;
@@ -147,19 +145,23 @@ module _ {text kinds₀ args₀ lines₀ bounds₀ list₀ kinds args lines boun
         go : (t : Told Spot) → told (linesAt text s m) d ≡ t
             → AddsOf t f n kinds args lines bounds list n′ kinds′ args′ lines′ bounds′ list′
             → Progress text list₀ nx n′ kinds′ args′ lines′ bounds′ list′ × (length lines′ ≡ length lines)
-            × (length bounds′ ≡ length bounds)
+            × (length bounds′ ≡ length bounds) × (n′ .statements + n′ .faults ≤ mostStatements)
         go (says x) q (en, ek, ea, el, eb, ef) =
             let few = drafts-few (cardsAt text s m) d x (told-says (linesAt text s m) d x q) in
             let p = g .progress in
             let row : List ℕ = replicate joinedRoom 0 in
-            let a = going-able {ks = row} {us = row} fits (omega arith) (omega arith) in
-            let more : Progress text list₀ nx _ _ _ _ _ list =
+            let a = going-able {ks = row} {us = row} more fits (omega arith) (omega arith) in
+            let on : Progress text list₀ nx _ _ _ _ _ list =
             progress-said p step x q (omega (arith, p .short, near .from, near .joins))
             (omega (arith, p .short, near .fewer, near .within))
             (omega (arith, a .before .room-kinds)) (omega (arith, a .before .room-args)) (a .lines-room)
-            (a .bounds-room) in
-            (rw (en, ek, ea, el, eb, ef) more, ap length el ∙ simp length-set, ap length eb ∙ simp length-set)
+            (a .bounds-room) in (
+              rw (en, ek, ea, el, eb, ef) on,
+              ap length el ∙ simp length-set,
+              ap length eb ∙ simp length-set,
+              rw en (omega arith),
+            )
         go (faulty code place) q (en, ek, ea, el, eb, ef) =
-            let more : Progress text list₀ nx _ kinds′ args′ lines bounds list′ =
+            let on : Progress text list₀ nx _ kinds′ args′ lines bounds list′ =
             progress-faulty (g .progress) step code place q kinds′ args′ list′ ek ea ef in
-            (rw (en, el, eb) more, ap length el, ap length eb)
+            (rw (en, el, eb) on, ap length el, ap length eb, rw en (omega arith))

@@ -1,4 +1,4 @@
--- The first four refusals, and that behind them the sheet's verdict is the text's.
+-- The first three refusals, and that behind them the sheet's verdict is the text's.
 use Prim.Native.Nat.{ℕ, _≤_, _<_}
 use mathlib.Core.Path.{_≡_, refl, ap, _∙_}
 use mathlib.Core.Bool.{false}
@@ -7,42 +7,30 @@ use native.Mathlib.Omega.{arith}
 use borrow.Author.Tests.{lt-ltb, le-ltb}
 use lib.Dec.{ltb}
 use lib.ListN.{length, length-map}
-use Rattle.limits.specs.Limits.{faultRoom, textBytes, textLines, mostStatements}
+use Rattle.limits.specs.Limits.{faultRoom, textBytes, textLines}
 use Rattle.deck.specs.Lines.{linesOf}
 use Rattle.deck.specs.Reading.{fresh, reading}
 use Rattle.deck.specs.Reports.{report}
-use Rattle.deck.proofs.Sizing.{statements-le, lines-le}
+use Rattle.deck.proofs.Sizing.{lines-le}
 use Rattle.sheet.specs.Reader.{told, sheetOf}
 use Rattle.translator.specs.declared.Ordered.{Ordered}
 use Rattle.translator.specs.declared.Verdict.{Verdict}
 use Rattle.translator.specs.declared.Verdict.the-variants.{Refused}
 use Rattle.translator.specs.Contract.{Reply, reply, replyOf, Translates, ordered, OrderedReply}
 use Rattle.translator.specs.Contract.{TranslatesInOrder, inNumbers, Gives}
-use Rattle.translator.specs.Verdict.{Decision, refused, faulty, translated, decidedWithin, verdictOf}
+use Rattle.translator.specs.Verdict.{Decision, refused, faulty, translated, verdictOf}
 use Rattle.translator.specs.Verdict.{verdictWithin}
 use Rattle.translator.specs.Verdict.{translationOf, translation}
-use Rattle.translator.specs.Working.{Taken, Decides}
+use Rattle.translator.specs.Working.{Decides}
 
 -- a report for each statement
 pub sheet-many : (text : List ℕ) → length (sheetOf text) ≡ length (reading fresh 1 (linesOf text))
 unfolding sheetOf
 sheet-many text = length-map (reading fresh 1 (linesOf text)) (report told)
 
--- neither too many lines nor too many statements
-abbrev pub Sized : List ℕ → Type 0
-Sized text = (length (linesOf text) ≤ textLines) × (length (reading fresh 1 (linesOf text)) ≤ mostStatements)
-
--- few lines have few statements
-pub lines-sized : (text : List ℕ) → length (linesOf text) ≤ mostStatements → Sized text
-lines-sized text h = (omega arith, omega (arith, statements-le (linesOf text)))
-
 -- few bytes have few lines
-pub bytes-sized : (text : List ℕ) → length text ≤ mostStatements → Sized text
-bytes-sized text h = lines-sized text (omega (arith, lines-le text))
-
--- none of the four refusals: the text is taken
-pub taken-so : (text f : List ℕ) → faultRoom ≤ length f → length text ≤ textBytes → Sized text → Taken text f
-taken-so text f room short sized = record { few = rw (sheet-many text) (sized .1); brief = short; list-room = room }
+pub bytes-lines : (text : List ℕ) → length text ≤ textLines → length (linesOf text) ≤ textLines
+bytes-lines text h = omega (arith, lines-le text)
 
 module _ (text f p o : List ℕ) where
   pub says-one : length f < faultRoom → TranslatesInOrder text f p o (ordered (Refused 1) 0) f p o
@@ -68,13 +56,6 @@ module _ (text f p o : List ℕ) where
       module _ (lines : length (linesOf text) ≤ textLines) where
         lined : ltb textLines (length (linesOf text)) ≡ false
         lined = le-ltb textLines (length (linesOf text)) lines
-
-        pub says-four : mostStatements < length (reading fresh 1 (linesOf text))
-            → TranslatesInOrder text f p o (ordered (Refused 4) 0) f p o
-        unfolding verdictWithin decidedWithin
-        says-four h =
-            rw
-            (enough, brief, lined, sheet-many text, lt-ltb mostStatements (length (reading fresh 1 (linesOf text))) h)
 
         -- behind them the sheet's verdict is the text's
         pub says-decided : (r : Ordered) {f′ p′ o′ : List ℕ} → Decides text f p o r f′ p′ o′

@@ -38,6 +38,7 @@ use Rattle.translator.specs.declared.Told.{Told as Answer}
 use Rattle.translator.specs.declared.Told.the-variants.{Says, Faulty}
 use Rattle.translator.specs.declared.SoFar.{SoFar}
 use Rattle.translator.specs.declared.HowFar.{HowFar}
+use Rattle.translator.specs.declared.HowFar.the-variants.{Through, NoRoom, TooMany}
 use Rattle.translator.specs.declared.room.Tried.{Tried}
 
 -- ---- one statement
@@ -147,9 +148,8 @@ pub record Progress (text list₀ : List ℕ) (c : Cursor) (n : SoFar)
   pub short : n .drafts ≤ c .at
   pub within : n .drafts ≤ length text
 
--- a text that is not too large, and a list that has room for its faults
+-- a text that is not too long, and a list that has room for the faults of as many statements as there may be
 pub record Taken (text list : List ℕ) : Type 0 where
-  pub few : length (sheetOf text) ≤ mostStatements
   pub brief : length text ≤ textBytes
   pub list-room : faultRoom ≤ length list
 
@@ -177,17 +177,23 @@ pub record LacksRoom (places d start next : ℕ) (r : Bool) : Type 0 where
   pub lacks : r ≡ true → places < d + (next - 1 - start)
   pub has : r ≡ false → d + (next - 1 - start) ≤ places
 
--- a part of the sheet is read, and its faults are listed
-pub record PartRead (text list₀ list : List ℕ) : Type 0 where
-  pub done : Sheet
-  pub rest : Sheet
-  pub split : sheetOf text ≡ done ++ rest
-  pub listed : list ≡ sets list₀ 0 (faultList (statementFaults done))
+-- how far it came: through, with statements that are not too many; with fewer places than the text has bytes, to a
+-- statement that had no room; or to one more than there may be
+abbrev pub ReadFar : List ℕ → List ℕ → HowFar → List ℕ → List ℕ → List ℕ → List ℕ → List ℕ → Type 0
+ReadFar text list₀ (Through n) kinds args lines bounds list =
+    ReadThrough text list₀ n kinds args lines bounds list × (length (sheetOf text) ≤ mostStatements)
+ReadFar text list₀ NoRoom kinds args lines bounds list = length kinds < length text
+ReadFar text list₀ TooMany kinds args lines bounds list = mostStatements < length (sheetOf text)
 
--- how far it came: through, or, with fewer places than the text has bytes, to a statement that had no room
-pub record ReadFar (text list₀ : List ℕ) (r : HowFar) (kinds args lines bounds list : List ℕ) : Type 0 where
-  pub through : r .through ≡ true → ReadThrough text list₀ (r .n) kinds args lines bounds list
-  pub full : r .through ≡ false → (length kinds < length text) × PartRead text list₀ list
+-- a text is read through: its faults are listed in a list that was list₀, its statements, which are not too many, stand
+-- in the arrays, and there is room for what they use
+pub record AllRead (n : SoFar) (list kinds args used lines bounds : List ℕ) : Type 0 where
+  pub text : List ℕ
+  pub list₀ : List ℕ
+  pub taken : Taken text list₀
+  pub few : length (sheetOf text) ≤ mostStatements
+  pub read : ReadThrough text list₀ n kinds args lines bounds list
+  pub uses-room : n .drafts ≤ length used
 
 -- ---- from the sheet to the verdict
 
@@ -256,15 +262,15 @@ Concludes ss f p o r f′ p′ o′ = orderedReply r f′ p′ o′ ≡ orderedR
 abbrev pub Decides : List ℕ → List ℕ → List ℕ → List ℕ → Ordered → List ℕ → List ℕ → List ℕ → Type 0
 Decides text f p o r f′ p′ o′ = orderedReply r f′ p′ o′ ≡ orderedReplyOf (decided (length p) (sheetOf text)) f p o
 
--- the same with so many places for drafts, unless these were too few: then the text has more bytes, and only faults
--- are listed
+-- the same with so many places for drafts, unless these were too few: then the text has more bytes, and nothing is
+-- written
 pub record Tries (text : List ℕ) (places : ℕ) (f p o : List ℕ) (r : Tried) (f′ p′ o′ : List ℕ) : Type 0 where
   pub decides : r .full ≡ false → Decides text f p o (r .answer) f′ p′ o′
-  pub full : r .full ≡ true → (places < length text) × PartRead text f f′ × (p′ ≡ p) × (o′ ≡ o)
+  pub full : r .full ≡ true → (places < length text) × (f′ ≡ f) × (p′ ≡ p) × (o′ ≡ o)
 
 -- the places for drafts in the smallest room, and in the next
 abbrev pub small : ℕ
-small = mostStatements
+small = mostStatements / 2
 
 abbrev pub quarter : ℕ
 quarter = textBytes / 4

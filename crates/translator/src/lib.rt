@@ -55,11 +55,12 @@ struct SoFar {
     faults: usize,
 }
 
-// What reading a text gives: how far it came, and whether that is through it; else there was no room for the drafts of
-// the next statement.
-struct HowFar {
-    n: SoFar,
-    through: bool,
+// What reading a text gives, how far it came: through it; to a statement for whose drafts there is no room; or to one
+// more than there may be.
+enum HowFar {
+    Through(SoFar),
+    NoRoom,
+    TooMany,
 }
 
 // ---- one statement
@@ -261,7 +262,8 @@ fn lacks_room(places: usize, d: usize, start: usize, next: usize) -> bool
     places - d < next - 1 - start
 }
 
-// Reads the statements of a text, as long as there is room for their drafts; the tokens of one stand in two rows.
+// Reads the statements of a text, as long as they are not too many and there is room for their drafts; the tokens of
+// one stand in two rows.
 fn read_all(
     text: &[u8],
     kinds: &mut [u8],
@@ -294,10 +296,13 @@ fn read_all(
             next,
         } = found
         else {
-            return HowFar { n, through: true };
+            return HowFar::Through(n);
         };
+        if STATEMENTS <= n.statements + n.faults {
+            return HowFar::TooMany;
+        }
         if lacks_room(kinds.len(), n.drafts, start, next.at) {
-            return HowFar { n, through: false };
+            return HowFar::NoRoom;
         }
         n = read_one(
             text,
@@ -324,8 +329,7 @@ fn read_all(
 // ---- the entries
 
 // The verdict on a text: its number, the count, and the fault list or the program written to the front of what is lent;
-// and the order of its units, handed out by their first lines. Few bytes or few lines have few statements, which
-// are not counted then.
+// and the order of its units, handed out by their first lines. Few bytes have few lines, which are not counted then.
 pub fn translate_in_order(
     text: &[u8],
     faults: &mut [u8],
@@ -350,19 +354,12 @@ pub fn translate_in_order(
     if text.len() <= room::SMALL {
         return room::in_small_room(text, faults, program, ordered);
     }
-    let lines = deck::line_count(text);
-    if lines <= STATEMENTS {
+    if text.len() <= TEXT_LINES {
         return room::in_large_room(text, faults, program, ordered);
     }
-    if TEXT_LINES < lines {
+    if TEXT_LINES < deck::line_count(text) {
         return Ordered {
             verdict: Verdict::Refused(3),
-            units: 0,
-        };
-    }
-    if STATEMENTS < deck::statement_count(text) {
-        return Ordered {
-            verdict: Verdict::Refused(4),
             units: 0,
         };
     }

@@ -1,20 +1,27 @@
 // The working room of a translation: arrays in which what is read of the text stands. They are zeroed for each text,
 // so there are rooms of three sizes. A text has no more drafts than bytes, and most have far fewer: one that is longer
-// than the smallest room is read in the next, and once more in the largest where its drafts do not fit.
+// than the smallest room is read in the next, and once more in the largest where its drafts do not fit. Only of a text
+// that is read through it is known that its statements are not too many, so a larger room has a fault list of its own.
 ghost use mathlib.Core.Path.{_≡_};
 ghost use mathlib.Core.Bool.{true, false};
 ghost use Prim.Native.Nat.{_≤_};
 ghost use lib.ListN.{length};
-ghost use Rattle.translator.specs.Working.{Taken, Room, Decides, Tries, small, quarter};
+ghost use Rattle.translator.specs.declared.Verdict.the-variants.{Refused};
+ghost use Rattle.translator.specs.Working.{Taken, Room, AllRead, Decides, Tries, small, quarter};
+use super::HowFar;
 use super::Ordered;
+use super::SoFar;
 use super::Verdict;
 use super::finish::conclude;
 use super::read_all;
+use bits::put_bytes;
+use limits::FAULT_BYTES;
+use limits::FAULT_ROOM;
 use limits::STATEMENTS;
 use limits::TEXT_BYTES;
 
-// The most bytes of a text that is read in the smallest room: it has no more statements than there may be.
-pub(crate) const SMALL: usize = STATEMENTS;
+// The most bytes of a text that is read in the smallest room.
+pub(crate) const SMALL: usize = STATEMENTS / 2;
 
 // The places for drafts in the next.
 const QUARTER: usize = TEXT_BYTES / 4;
@@ -48,9 +55,57 @@ fn with_answer(answer: Ordered) -> Tried
     }
 }
 
-// The verdict on a text that is not too large, if its drafts have room: 5 with the faults listed, or the verdict on its
-// model.
+// The answer where statements are too many.
+fn too_many() -> Ordered
+    ensures { λ r. ⌜ r ≡ record { verdict = Refused 4; units = 0 } ⌝ }
+{
+    Ordered {
+        verdict: Verdict::Refused(4),
+        units: 0,
+    }
+}
+
+// The verdict on a text that is read through: 5 with the faults listed, or the verdict on its model.
 fn decide(
+    n: SoFar,
+    faults: &mut [u8],
+    program: &mut [u8],
+    kinds: &mut [u8],
+    args: &mut [u64],
+    used: &mut [u16],
+    lines: &[u16],
+    bounds: &[u16],
+    ordered: &mut [u16],
+) -> Ordered
+    requires { ⌜ AllRead n (now faults) (now kinds) (now args) (now used) (now lines) (now bounds) ⌝ }
+    ensures { λ r. ⌜ ((s : AllRead n (now (faults .entry)) (now (kinds .entry)) (now (args .entry)) (now (used .entry))
+        (now (lines .entry)) (now (bounds .entry)))
+        → Decides (s .text) (s .list₀) (now (program .entry)) (now (ordered .entry)) r (now (faults .exit))
+        (now (program .exit)) (now (ordered .exit))) ⌝ }
+{
+    if 0 < n.faults {
+        return Ordered {
+            verdict: Verdict::Faulty(5, n.faults),
+            units: 0,
+        };
+    }
+    let s = n.statements;
+    let d = n.drafts;
+    conclude(
+        &lines[..s],
+        &bounds[..s + 1],
+        &mut kinds[..d],
+        &mut args[..d],
+        used,
+        faults,
+        program,
+        ordered,
+    )
+}
+
+// The verdict on a text, if its drafts have room: 4, or that on what is read, with the faults in a list of the room's
+// own until then.
+fn try_room(
     text: &[u8],
     faults: &mut [u8],
     program: &mut [u8],
@@ -59,10 +114,11 @@ fn decide(
     used: &mut [u16],
     lines: &mut [u16],
     bounds: &mut [u16],
+    list: &mut [u8],
     ordered: &mut [u16],
 ) -> Tried
-    requires { ⌜ (Room (now text) (now faults) (now kinds) (now args) (now lines) (now bounds))
-        × (length (now kinds) ≤ length (now used)) ⌝ }
+    requires { ⌜ (Room (now text) (now list) (now kinds) (now args) (now lines) (now bounds))
+        × (Taken (now text) (now faults)) × (length (now kinds) ≤ length (now used)) ⌝ }
     ensures { λ r. ⌜ Tries (now (text .entry)) (length (now (kinds .entry))) (now (faults .entry))
         (now (program .entry)) (now (ordered .entry)) r (now (faults .exit)) (now (program .exit))
         (now (ordered .exit)) ⌝ }
@@ -73,36 +129,34 @@ fn decide(
         &mut *args,
         &mut *lines,
         &mut *bounds,
-        &mut *faults,
+        &mut *list,
     );
-    if !far.through {
-        return too_small();
+    match far {
+        HowFar::NoRoom => too_small(),
+        HowFar::TooMany => with_answer(too_many()),
+        HowFar::Through(n) => {
+            let end = FAULT_BYTES * n.faults;
+            put_bytes(&mut *faults, 0, &list[..end]);
+            let answer = decide(
+                n,
+                faults,
+                program,
+                kinds,
+                args,
+                used,
+                lines,
+                bounds,
+                ordered,
+            );
+            with_answer(answer)
+        }
     }
-    let n = far.n;
-    if 0 < n.faults {
-        return with_answer(Ordered {
-            verdict: Verdict::Faulty(5, n.faults),
-            units: 0,
-        });
-    }
-    let s = n.statements;
-    let d = n.drafts;
-    let answer = conclude(
-        &lines[..s],
-        &bounds[..s + 1],
-        &mut kinds[..d],
-        &mut args[..d],
-        used,
-        faults,
-        program,
-        ordered,
-    );
-    with_answer(answer)
 }
 
 // ---- the rooms
 
-// A text of a few lines.
+// A text of a few lines: its statements are not too many and their drafts have room, so it is read through, and its
+// faults are listed at once.
 pub(crate) fn in_small_room(
     text: &[u8],
     faults: &mut [u8],
@@ -118,18 +172,29 @@ pub(crate) fn in_small_room(
     let mut used = [0u16; SMALL];
     let mut lines = [0u16; STATEMENTS];
     let mut bounds = [0u16; STATEMENTS + 1];
-    let tried = decide(
+    let far = read_all(
         text,
-        faults,
-        program,
         &mut kinds,
         &mut args,
-        &mut used,
         &mut lines,
         &mut bounds,
-        ordered,
+        &mut *faults,
     );
-    tried.answer
+    match far {
+        HowFar::NoRoom => too_many(),
+        HowFar::TooMany => too_many(),
+        HowFar::Through(n) => decide(
+            n,
+            faults,
+            program,
+            &mut kinds,
+            &mut args,
+            &mut used,
+            &lines,
+            &bounds,
+            ordered,
+        ),
+    }
 }
 
 // A text of some length, if its drafts have room.
@@ -143,7 +208,8 @@ fn in_quarter_room(text: &[u8], faults: &mut [u8], program: &mut [u8], ordered: 
     let mut used = [0u16; QUARTER];
     let mut lines = [0u16; STATEMENTS];
     let mut bounds = [0u16; STATEMENTS + 1];
-    decide(
+    let mut list = [0u8; FAULT_ROOM];
+    try_room(
         text,
         faults,
         program,
@@ -152,6 +218,7 @@ fn in_quarter_room(text: &[u8], faults: &mut [u8], program: &mut [u8], ordered: 
         &mut used,
         &mut lines,
         &mut bounds,
+        &mut list,
         ordered,
     )
 }
@@ -167,7 +234,8 @@ fn in_whole_room(text: &[u8], faults: &mut [u8], program: &mut [u8], ordered: &m
     let mut used = [0u16; TEXT_BYTES];
     let mut lines = [0u16; STATEMENTS];
     let mut bounds = [0u16; STATEMENTS + 1];
-    let tried = decide(
+    let mut list = [0u8; FAULT_ROOM];
+    let tried = try_room(
         text,
         faults,
         program,
@@ -176,6 +244,7 @@ fn in_whole_room(text: &[u8], faults: &mut [u8], program: &mut [u8], ordered: &m
         &mut used,
         &mut lines,
         &mut bounds,
+        &mut list,
         ordered,
     );
     tried.answer

@@ -7,8 +7,7 @@ use lib.ListN.{length}
 use Rattle.deck.specs.Codes.{joinedRoom}
 use Rattle.deck.specs.Next.{foundFrom}
 use Rattle.deck.specs.declared.Found.{Found}
-use Rattle.laws.proofs.Tests.{not-both}
-use Rattle.translator.proofs.Turns.{Going, going-first, going-list, going-last, going-less, going-full}
+use Rattle.translator.proofs.Turns.{Going, going-first, going-list, going-last, going-less, left, going-full}
 use Rattle.translator.proofs.Turns.{going-able, going-next}
 use Rattle.translator.proofs.read_all.Statement.{statement}
 use Rattle.translator.proofs.read_all.Tie as tie
@@ -35,9 +34,15 @@ turn f = f .before .before .before
 abbrev last-turn : tie.After-enum-told Inv-loop μ-loop → tie.At-loop Inv-loop μ-loop
 last-turn c = c .before .before .before
 
--- the turn whose statement has no room
-abbrev full-turn : tie.Then1 Inv-loop μ-loop → tie.At-loop Inv-loop μ-loop
-full-turn c = turn (c .before .before .before)
+-- what was found, where it is one too many, where it is not, and where it has no room
+abbrev found-many : tie.Then1 Inv-loop μ-loop → tie.After-found Inv-loop μ-loop
+found-many c = c .before .before .before
+
+abbrev found-few : tie.Else1 Inv-loop μ-loop → tie.After-found Inv-loop μ-loop
+found-few c = c .before .before .before
+
+abbrev found-full : tie.Then2 Inv-loop μ-loop → tie.After-found Inv-loop μ-loop
+found-full c = found-few (c .before .before)
 
 -- what was found at the cursor
 found : {r : Found} (x : tie.After-next-statement Inv-loop μ-loop) → x .next-statement .result ≡ r
@@ -50,40 +55,48 @@ loop-holds c = (going-first (c .before .before .before .before .before .before .
 returns : tie.Need-returns Inv-loop μ-loop
 returns c =
     let l = last-turn c in
-    record {
-      through = λ _. going-last (start l .pre) (l .loop .inv .0) (found (c .before .before) (c .enum-told .given .1));
-      full = λ e. absurd (not-both refl e);
-    }
+    going-last (start l .pre) (l .loop .inv .0) (found (c .before .before) (c .enum-told .given .1))
 
--- no room for the statement that was found
+-- so many statements are a number
+add-if1 : tie.Need-add-if1 Inv-loop μ-loop
+add-if1 c =
+    let few = turn (c .before .before) .loop .inv .0 .few in
+    search (needs, few)
+
+-- one statement more than there may be
 returns-2 : tie.Need-returns-2 Inv-loop μ-loop
 returns-2 c =
-    let t = c .before in
-    let f = t .before .before in
-    let l = full-turn c in
-    let lacks = t .lacks-room .ensures .lacks (c .if1 .taken) in
-    record {
-      through = λ e. absurd (not-both e refl);
-      full = λ _. going-full (start l .pre) (l .loop .inv .0) (found (f .before .before) (f .found .given .1)) lacks;
-    }
+    let f = found-many c in
+    let l = turn f in
+    let more = left (start l .pre) (l .loop .inv .0) (found (f .before .before) (f .found .given .1)) in
+    omega (arith, more, c .if1 .taken)
+
+-- no room for the statement that was found
+returns-3 : tie.Need-returns-3 Inv-loop μ-loop
+returns-3 c =
+    let f = found-full c in
+    let l = turn f in
+    going-full (start l .pre) (l .loop .inv .0) (found (f .before .before) (f .found .given .1))
+    (c .before .lacks-room .ensures .lacks (c .if2 .taken))
 
 read-one-requires : tie.Need-read-one-requires Inv-loop μ-loop
 read-one-requires c κs =
     let i = c .before .before .before .before .before .before .before in
     let t = i .before in
-    let f = t .before .before in
+    let few = t .before in
+    let f = found-few few in
     let l = turn f in
-    going-able (start l .pre) (l .loop .inv .0) (found (f .before .before) (f .found .given .1))
-    (t .lacks-room .ensures .has (i .if1 .left)) (omega (arith, l .loop .inv .1)) (omega (arith, l .loop .inv .2))
+    going-able (start l .pre) (l .loop .inv .0) (found (f .before .before) (f .found .given .1)) (few .if1 .left)
+    (t .lacks-room .ensures .has (i .if2 .left)) (omega (arith, l .loop .inv .1)) (omega (arith, l .loop .inv .2))
 
 -- where it was known that there is room for it
-abbrev asked : tie.After-read-one Inv-loop μ-loop → tie.Else1 Inv-loop μ-loop
+abbrev asked : tie.After-read-one Inv-loop μ-loop → tie.Else2 Inv-loop μ-loop
 asked read = read .before .before .before .before .before .before .before .before
 
 loop-less : tie.Need-loop-less Inv-loop μ-loop
 loop-less c =
     let read = c .before .before .before .before .before .before .before .before .before .before .before .before in
-    let f = asked read .before .before .before in
+    let f = found-few (asked read .before .before) in
     let l = turn f in
     going-less (start l .pre) (l .loop .inv .0) (found (f .before .before) (f .found .given .1))
 
@@ -92,11 +105,12 @@ loop-again c =
     let read = c .before .before .before .before .before .before .before .before .before .before .before .before in
     let i = asked read in
     let t = i .before in
-    let f = t .before .before in
+    let few = t .before in
+    let f = found-few few in
     let l = turn f in
     let e = found (f .before .before) (f .found .given .1) in
-    let fits = t .lacks-room .ensures .has (i .if1 .left) in (
-      going-next (start l .pre) (l .loop .inv .0) e fits (read .read-one .ensures),
+    let fits = t .lacks-room .ensures .has (i .if2 .left) in (
+      going-next (start l .pre) (l .loop .inv .0) e (few .if1 .left) fits (read .read-one .ensures),
       omega (arith, l .loop .inv .1, read .read-one .kept),
       omega (arith, l .loop .inv .2, read .read-one .kept),
     )
@@ -117,13 +131,20 @@ read-all-spec =
     (λ c. last-turn c .loop .inv .0 .long-bounds)
     (λ c. going-list (start (last-turn c) .pre) (last-turn c .loop .inv .0))
     returns
-    (λ c κs. search needs)
-    (λ c. full-turn c .loop .inv .0 .long-kinds)
-    (λ c. full-turn c .loop .inv .0 .long-args)
-    (λ c. full-turn c .loop .inv .0 .long-lines)
-    (λ c. full-turn c .loop .inv .0 .long-bounds)
-    (λ c. going-list (start (full-turn c) .pre) (full-turn c .loop .inv .0))
+    add-if1
+    (λ c. turn (found-many c) .loop .inv .0 .long-kinds)
+    (λ c. turn (found-many c) .loop .inv .0 .long-args)
+    (λ c. turn (found-many c) .loop .inv .0 .long-lines)
+    (λ c. turn (found-many c) .loop .inv .0 .long-bounds)
+    (λ c. going-list (start (turn (found-many c)) .pre) (turn (found-many c) .loop .inv .0))
     returns-2
+    (λ c κs. search needs)
+    (λ c. turn (found-full c) .loop .inv .0 .long-kinds)
+    (λ c. turn (found-full c) .loop .inv .0 .long-args)
+    (λ c. turn (found-full c) .loop .inv .0 .long-lines)
+    (λ c. turn (found-full c) .loop .inv .0 .long-bounds)
+    (λ c. going-list (start (turn (found-full c)) .pre) (turn (found-full c) .loop .inv .0))
+    returns-3
     (λ c. search needs)
     (λ c. search needs)
     read-one-requires

@@ -1,7 +1,7 @@
 -- In a quarter of the largest room, or once more in the largest.
 use native.Mathlib.Omega.{arith}
 use borrow.Author.Needs.{needs}
-use Rattle.translator.proofs.Rooms.{read-again}
+use Rattle.translator.proofs.Rooms.{second-try}
 use Rattle.translator.proofs.room.in_large_room.Statement.{statement}
 use Rattle.translator.proofs.room.in_large_room.Tie as tie
 
@@ -18,7 +18,6 @@ in-whole-room-requires c κs =
     let t = tried (c .before .before .before) in
     let taken = start t .pre in
     record {
-      few = taken .few;
       brief = taken .brief;
       list-room = omega (arith, taken .list-room, t .in-quarter-room .kept);
     }
@@ -28,9 +27,9 @@ returns c =
     let w = c .before .before .before .before .before .before in
     let e = w .before .before .before .before in
     let t = tried e in
-    let full = t .in-quarter-room .ensures .full (e .if1 .taken) in
     let a = start t .args in
-    read-again (start t .pre) (full .1) (a .program .now) (a .ordered .now) _ _ (full .2) (full .3)
+    let full = t .in-quarter-room .ensures .full (e .if1 .taken) in
+    second-try (a .text .now) (a .faults .now) (a .program .now) (a .ordered .now) (full .1) (full .2) (full .3)
     (w .in-whole-room .ensures)
 
 returns-2 : tie.Need-returns-2

@@ -2,14 +2,14 @@
 use native.Mathlib.Omega.{arith}
 use borrow.Author.Needs.{needs}
 use Rattle.translator.specs.Working.{quarter}
-use Rattle.translator.proofs.Rooms.{room-of}
+use Rattle.translator.proofs.Rooms.{room-of, own-list}
 use Rattle.translator.proofs.room.in_quarter_room.Statement.{statement}
 use Rattle.translator.proofs.room.in_quarter_room.Tie as tie
 
-decide-requires : tie.Need-decide-requires
-decide-requires c κs =
-    let start = c .before .before .before .before .before .before .before .before .before .before .before .before in
-    (room-of quarter (start .pre), omega arith)
+try-room-requires : tie.Need-try-room-requires
+try-room-requires c κs =
+    let start = c .before .before .before .before .before .before .before .before .before .before .before .before .before in
+    (room-of quarter (own-list (start .pre)), start .pre, omega arith)
 
 pub in-quarter-room-spec : {M : Type 1} → statement M
 in-quarter-room-spec =
@@ -20,7 +20,8 @@ in-quarter-room-spec =
     (λ c. search needs)
     (λ c. search needs)
     (λ c. search needs)
-    decide-requires
+    (λ c. search needs)
+    try-room-requires
     (λ c. search needs)
     (λ c. search needs)
     (λ c. search needs)
