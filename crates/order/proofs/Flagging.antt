@@ -6,13 +6,12 @@ use mathlib.Core.List.{List}
 use Prim.Native.Nat.{ℕ, _+_, _-_, _≤_, _<_}
 use native.Mathlib.Omega.{arith}
 use borrow.Author.Tests.{lt-ltb, le-ltb, ltb-false, not-true}
-use lib.ListN.{length, getD, set, length-set, getD-replicate}
+use lib.ListN.{length, getD, set, length-set}
 use lib.Seq.{getD-set-same, getD-set-other}
-use Rattle.limits.specs.Limits.{mostStatements}
 use Rattle.laws.proofs.Tests.{lt-or-ge, eq-or-ne, and-true, and-both, not-both}
 use Rattle.laws.proofs.Members.{in-has}
 use Rattle.order.specs.Table.{usedOf, usesByTable, Fit}
-use Rattle.order.specs.Marks.{placedIn, openAt, freeIn, readyIn, none, flag, Cursors, Flags, Settles, zeros}
+use Rattle.order.specs.Marks.{placedIn, openAt, freeIn, readyIn, none, flag, Cursors, Flags, Settles, Zeros}
 use Rattle.order.specs.Greedy.{first}
 use Rattle.order.proofs.Searches.{first-from}
 use Rattle.order.proofs.Tables.{in-part}
@@ -83,11 +82,11 @@ module _ {n : ℕ} {s u m f v : List ℕ} (t : Fit n s u) where
   pub flags-mark : Flags n n s u m f v none → (j : ℕ) → j < n → 0 < getD f j 0 → j < length m
       → Flags n n s u (set m j 1) (set f j 0) v j
   flags-mark g j hj a lm =
-      let lf : j < length f = omega (arith, g .flags-size, t .few) in
+      let lf : j < length f = omega (arith, g .flags-size) in
       let old : (i : ℕ) → (i ≡ j → ⊥) → getD (set f j 0) i 0 ≡ getD f i 0 = λ i e. getD-set-other f j i 0 0 e in
       let own : getD (set f j 0) j 0 ≡ 0 = getD-set-same f j 0 0 lf in
       record {
-        flags-size = length-set f j 0 ∙ g .flags-size;
+        flags-size = omega (arith, length-set f j 0, g .flags-size);
         flagged =
             λ i hi b.
             ⊎-elim (λ (e : i ≡ j). absurd (omega (arith, own, rw e at b)))
@@ -111,10 +110,10 @@ module _ {n : ℕ} {s u m f v : List ℕ} (t : Fit n s u) where
     pub flags-ready : Flags n k s u m f v p → getD v′ x 0 ≡ none → readyIn n s u m x ≡ true → getD m x 0 ≡ 0 → {c : ℕ}
         → ((i : ℕ) → i < c → (i ≡ x → ⊥) → i < k) → Flags n c s u m (set f x 1) v′ p
     flags-ready g at r z up =
-        let lf : x < length f = omega (arith, g .flags-size, t .few) in
+        let lf : x < length f = omega (arith, g .flags-size) in
         let old : (i : ℕ) → (i ≡ x → ⊥) → getD (set f x 1) i 0 ≡ getD f i 0 = λ i e. getD-set-other f x i 1 0 e in
         record {
-          flags-size = length-set f x 1 ∙ g .flags-size;
+          flags-size = omega (arith, length-set f x 1, g .flags-size);
           flagged =
               λ i hi b.
               ⊎-elim (λ (e : i ≡ x). rw e (r, at))
@@ -219,22 +218,19 @@ module _ {n : ℕ} {s u m c : List ℕ} (t : Fit n s u) (g : Cursors n s u m c) 
         hung = λ _. (j, hj, uses, mj, e .0, e .1, e .2);
       }
 
--- while none is placed; its uses go from a to b
+-- while none is placed and no cursor has moved; its uses go from a to b
 module _ {n : ℕ} {s u : List ℕ} (t : Fit n s u) (i : ℕ) (hi : i < n) {a b : ℕ} (ea : a ≡ getD s i 0)
     (eb : b ≡ getD s (i + 1) 0) where
-  clear-at : (j : ℕ) → j < n → getD zeros j 0 ≡ 0
-  clear-at j hj = getD-replicate {A = ℕ} mostStatements j 0 0 (omega (arith, t .few))
-
-  pub start-ready : {h l v : List ℕ} → b ≤ a → Settles n s u zeros i true zeros h l v h l v
-  start-ready le = first-ready t (cursors-none n s u zeros (t .few)) i hi (clear-at i hi) (omega arith)
-
   pub start-below : a < b → getD u a 0 < n
   start-below lt = t .below a (omega (arith, t .ends i hi))
 
-  pub start-wait : {h l v h′ l′ v′ : List ℕ} → a < b → (j : ℕ) → j ≡ getD u a 0
-      → (h′ ≡ set h j i) × (l′ ≡ set l i (getD h j 0)) × (v′ ≡ set v i j)
-      → Settles n s u zeros i false zeros h l v h′ l′ v′
-  start-wait lt j ej e =
-      first-wait t (cursors-none n s u zeros (t .few)) i hi (clear-at i hi) (omega arith) j
-      (ej ∙ ap (λ k. getD u k 0) ea)
-      (clear-at j (rw ej (start-below lt))) e
+  module _ (m c : List ℕ) (zm : Zeros n m) (zc : Zeros n c) {h l v : List ℕ} where
+    pub start-ready : b ≤ a → Settles n s u m i true c h l v h l v
+    start-ready le = first-ready t (cursors-none n s u m c zm zc) i hi (zm .zero-at i hi) (omega arith)
+
+    pub start-wait : {h′ l′ v′ : List ℕ} → a < b → (j : ℕ) → j ≡ getD u a 0
+        → (h′ ≡ set h j i) × (l′ ≡ set l i (getD h j 0)) × (v′ ≡ set v i j) → Settles n s u m i false c h l v h′ l′ v′
+    start-wait lt j ej e =
+        first-wait t (cursors-none n s u m c zm zc) i hi (zm .zero-at i hi) (omega arith) j
+        (ej ∙ ap (λ k. getD u k 0) ea)
+        (zm .zero-at j (rw ej (start-below lt))) e

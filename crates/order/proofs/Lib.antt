@@ -8,6 +8,7 @@ pub mod Marking
 pub mod Queues
 pub mod Flagging
 pub mod Seeking
+pub mod Arrays
 pub mod Settling
 pub mod Placing
 pub mod AnswerByFit

@@ -1,21 +1,20 @@
 -- Laws of marks and cursors.
-use mathlib.Core.Path.{_≡_, refl, ap, _∙_}
+use mathlib.Core.Path.{_≡_, refl, ap}
 use mathlib.Core.Bool.{Bool, true, false, not, _||_}
 use mathlib.Core.Logic.{⊎-elim}
 use mathlib.Core.List.{List}
 use Prim.Native.Nat.{ℕ, _+_, _-_, _≤_, _<_}
 use native.Mathlib.Omega.{arith}
 use borrow.Author.Tests.{lt-ltb, le-ltb, ltb-false, not-true, not-false}
-use lib.ListN.{length, getD, set, length-set, replicate, length-replicate, getD-replicate}
+use lib.ListN.{length, getD, set, length-set}
 use lib.Seq.{getD-set-same, getD-set-other}
-use Rattle.limits.specs.Limits.{mostStatements}
 use Rattle.laws.specs.Counts.{count, has}
 use Rattle.laws.proofs.Tests.{bool-cases, not-both, lt-or-ge, eq-or-ne}
 use Rattle.laws.proofs.Counts.{has-true}
 use Rattle.laws.proofs.Members.{in-has}
 use Rattle.order.specs.Greedy.{first, ready}
 use Rattle.order.specs.Table.{usedOf, usesByTable, Fit}
-use Rattle.order.specs.Marks.{placedIn, openAt, freeIn, readyIn, Cursors}
+use Rattle.order.specs.Marks.{placedIn, openAt, freeIn, readyIn, Cursors, Zeros}
 use Rattle.order.proofs.Sorting.{all-true, all-intro, all-same, first-hit, first-before}
 use Rattle.order.proofs.Searches.{first-from}
 use Rattle.order.proofs.Tables.{in-part, part-place}
@@ -128,12 +127,13 @@ module _ (n : ℕ) (s u m c : List ℕ) (t : Fit n s u) (g : Cursors n s u m c) 
   goal-moves =
       let d = goal - getD s i 0 in
       record {
-        size = length-set c i d ∙ g .size;
+        marks-size = g .marks-size;
+        size = omega (arith, length-set c i d, g .size);
         pass =
             λ j e hj k.
             ⊎-elim
             (λ (q : j ≡ i).
-            let w : e < d = rw (q, getD-set-same c i d 0 (omega (arith, g .size, t .few))) at k in
+            let w : e < d = rw (q, getD-set-same c i d 0 (omega (arith, g .size))) at k in
             rw q (before-goal (getD s i 0 + e) (omega arith) (omega arith)))
             (λ q. g .pass j e hj (rw (getD-set-other c i j d 0 q) at k)) (eq-or-ne j i);
       }
@@ -142,6 +142,7 @@ module _ (n : ℕ) (s u m c : List ℕ) (t : Fit n s u) (g : Cursors n s u m c) 
 pub cursors-mark : (n : ℕ) (s u m c : List ℕ) → Cursors n s u m c → (i : ℕ) → i < length m → Cursors n s u (set m i 1) c
 cursors-mark n s u m c g i l =
     record {
+      marks-size = omega (arith, length-set m i 1, g .marks-size);
       size = g .size;
       pass =
           λ j d hj k.
@@ -151,9 +152,10 @@ cursors-mark n s u m c g i l =
     }
 
 -- at the start no cursor has moved
-pub cursors-none : (n : ℕ) (s u m : List ℕ) → n ≤ mostStatements → Cursors n s u m (replicate mostStatements 0)
-cursors-none n s u m f =
+pub cursors-none : (n : ℕ) (s u m c : List ℕ) → Zeros n m → Zeros n c → Cursors n s u m c
+cursors-none n s u m c zm zc =
     record {
-      size = length-replicate {A = ℕ} mostStatements 0;
-      pass = λ i d h k. absurd (omega (arith, getD-replicate {A = ℕ} mostStatements i 0 0 (omega arith)));
+      marks-size = zm .size;
+      size = zc .size;
+      pass = λ i d h k. absurd (omega (arith, zc .zero-at i h));
     }

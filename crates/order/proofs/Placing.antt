@@ -9,16 +9,15 @@ use native.Mathlib.Numerals.{add-one}
 use native.Mathlib.Omega.{arith}
 use borrow.Author.Tests.{lt-ltb, le-ltb, ltb-true, ltb-false}
 use lib.Dec.{ltb}
-use lib.ListN.{length, getD, take, set, replicate, length-set, length-replicate, getD-replicate}
+use lib.ListN.{length, getD, take, set}
 use lib.Seq.{sets, length-sets, length-take-le, take-suc-set, getD-set-same, getD-set-other}
-use Rattle.limits.specs.Limits.{mostStatements}
 use Rattle.laws.specs.Counts.{count}
 use Rattle.laws.proofs.Tests.{lt-or-ge, eq-or-ne}
 use Rattle.laws.proofs.Sets.{sets-append}
 use Rattle.laws.proofs.Counts.{count-snoc-same, count-snoc-other}
 use Rattle.order.specs.Greedy.{first, ready, leastReady, place, order}
 use Rattle.order.specs.Table.{usesByTable, Fit}
-use Rattle.order.specs.Marks.{readyIn, none, flag, Between, Woken, Awake}
+use Rattle.order.specs.Marks.{readyIn, none, flag, Between, Zeros, Woken, Awake}
 use Rattle.order.specs.Contract.{Filled}
 use Rattle.order.proofs.Sorting.{first-before, first-hit, first-same, ready-free, next-ready}
 use Rattle.order.proofs.Searches.{first-skip, first-bound}
@@ -31,7 +30,6 @@ pub record Going (n : ℕ) (s u lent out marks flags cursors heads links waits :
   pub fit : Fit n s u
   pub room : n ≤ length lent
   pub few : k ≤ n
-  pub size : length marks ≡ mostStatements
   pub content : out ≡ sets lent 0 (take k out)
   pub mark : (j : ℕ) → j < n → getD marks j 0 ≡ count j (take k out)
   pub left : place n (usesByTable s u) (n - k) (take k out) ≡ order n (usesByTable s u)
@@ -40,18 +38,18 @@ pub record Going (n : ℕ) (s u lent out marks flags cursors heads links waits :
   pub clear : (j : ℕ) → j < from → getD flags j 0 ≡ 0
 
 -- none is placed
-pub going-start : {n : ℕ} {s u flags cursors heads links waits : List ℕ} (lent : List ℕ) → Fit n s u → n ≤ length lent
-    → Between n n s u (replicate mostStatements 0) flags cursors heads links waits none none
-    → Going n s u lent lent (replicate mostStatements 0) flags cursors heads links waits 0 0
+pub going-start : {n : ℕ} {s u marks flags cursors heads links waits : List ℕ} (lent : List ℕ) → Fit n s u
+    → n ≤ length lent → Zeros n marks
+    → Between n n s u marks flags cursors heads links waits none none
+    → Going n s u lent lent marks flags cursors heads links waits 0 0
 unfolding order count
-going-start {n} {s} {u} lent t h w =
+going-start {n} {s} {u} lent t h z w =
     record {
       fit = t;
       room = h;
       few = omega arith;
-      size = length-replicate {A = ℕ} mostStatements 0;
       content = refl;
-      mark = λ j l. getD-replicate {A = ℕ} mostStatements j 0 0 (omega (arith, t .few));
+      mark = z .zero-at;
       left = rw sub-zero;
       state = w;
       begun = omega arith;
@@ -121,7 +119,7 @@ module _ {n : ℕ} {s u lent out marks flags cursors heads links waits : List �
   pub going-woken : (i : ℕ) → i ≡ found → i < n
       → Woken n s u (set marks i 1) (set flags i 0) cursors heads links waits i i
   going-woken i e l =
-      let li : i < length marks = omega (arith, g .size, g .fit .few) in
+      let li : i < length marks = omega (arith, g .state .moved .marks-size) in
       let hit : 0 < getD flags i 0 =
       ltb-true 0 (getD flags i 0) (rw (← e) at (first-hit (flag flags) (n - from) from (omega (arith, g .begun)))) in
       record {
@@ -147,7 +145,7 @@ module _ {n : ℕ} {s u lent out marks flags cursors heads links waits : List �
   going-step {at = at} h i e l m =
       let f : i ≡ chosen = e ∙ going-next in
       let ln : chosen < n = rw f at l in
-      let li : i < length marks = omega (arith, g .size, g .fit .few) in
+      let li : i < length marks = omega (arith, g .state .moved .marks-size) in
       let fresh : count i placed ≡ 0 = rw f (ready-free n uses placed _ (next-ready n uses placed ln)) in
       let front : take (k + 1) (set out k i) ≡ placed ++ (i ∷ []) =
       rw add-one (take-suc-set out k i (omega (arith, g .room, going-long))) in
@@ -155,7 +153,6 @@ module _ {n : ℕ} {s u lent out marks flags cursors heads links waits : List �
         fit = g .fit;
         room = g .room;
         few = omega arith;
-        size = length-set marks i 1 ∙ g .size;
         content =
             let end : k ≡ 0 + length placed = omega (arith, going-front) in
             rw (front, sets-append lent 0 placed (i ∷ []))

@@ -57,12 +57,14 @@ module _ {n : ℕ} {h l v : List ℕ} (few : n ≤ mostStatements) where
   pub open-list : Queues n h l v none none → (j : ℕ) → j < n → Queues n (set h j none) l v j (getD h j 0)
   open-list g j hj =
       record {
-        heads-size = length-set h j none ∙ g .heads-size;
-        links-size = g .links-size;
-        waits-size = g .waits-size;
+        room = record {
+          heads-size = omega (arith, length-set h j none, g .room .heads-size);
+          links-size = g .room .links-size;
+          waits-size = g .room .waits-size;
+        };
         queue = g .queue;
         own = λ _. g .others j hj (λ e. omega arith);
-        shut = λ _. getD-set-same h j none 0 (omega (arith, g .heads-size));
+        shut = λ _. getD-set-same h j none 0 (omega (arith, g .room .heads-size));
         others = λ q hq e. rw (getD-set-other h j q none 0 e) (g .others q hq (λ z. omega arith));
         stands = g .stands;
         only = g .only;
@@ -75,9 +77,7 @@ module _ {n : ℕ} {h l v : List ℕ} (few : n ≤ mostStatements) where
     close-list hx =
         let e : g .queue p ≡ [] = ended l x (g .queue p) hx (λ i m. omega (arith, g .only i p hp m)) (g .own hp) in (
           record {
-            heads-size = g .heads-size;
-            links-size = g .links-size;
-            waits-size = g .waits-size;
+            room = g .room;
             queue = g .queue;
             own = λ z. absurd (omega arith);
             shut = λ z. absurd (omega arith);
@@ -114,15 +114,17 @@ module _ {n : ℕ} {h l v : List ℕ} (few : n ≤ mostStatements) where
       pop =
           let b = begun l x (g .queue p) hx (g .own hp) in
           let w = first-waits in
-          let lv : x < length v = omega (arith, g .waits-size) in
+          let lv : x < length v = omega (arith, w .0, g .room .waits-size) in
           let zs = b .0 in
           let c : (i : ℕ) → count i (g .queue p) ≡ once (eqb i x) + count i zs = λ i. ap (count i) (b .1) in
           let free : (q : ℕ) → q < n → once (eqb none q) ≡ 0 = λ q hq. once-other none q (λ e. omega arith) in
           let at = getD-set-same v x none 0 lv in
           record {
-            heads-size = g .heads-size;
-            links-size = g .links-size;
-            waits-size = length-set v x none ∙ g .waits-size;
+            room = record {
+              heads-size = g .room .heads-size;
+              links-size = g .room .links-size;
+              waits-size = omega (arith, length-set v x none, g .room .waits-size);
+            };
             queue = put (g .queue) p zs;
             own = λ _. rw (put-same (g .queue) p zs {q = p} refl) (b .2);
             shut = g .shut;
@@ -166,17 +168,19 @@ module _ {n : ℕ} {h l v : List ℕ} (few : n ≤ mostStatements) where
       → Queues n (set h j x) (set l x (getD h j 0)) (set v x j) p y
   unfolding count Leads
   push {p} {y} g x j hx hj nj vx =
-      let lv : x < length v = omega (arith, g .waits-size) in
-      let lh : j < length h = omega (arith, g .heads-size) in
-      let ll : x < length l = omega (arith, g .links-size) in
+      let lv : x < length v = omega (arith, g .room .waits-size) in
+      let lh : j < length h = omega (arith, g .room .heads-size) in
+      let ll : x < length l = omega (arith, g .room .links-size) in
       let a = getD h j 0 in
       let free : (q : ℕ) → q < n → count x (g .queue q) ≡ 0 = λ q hq.
       omega (arith, g .stands x q hx hq, ap (λ k. once (eqb k q)) vx, once-other none q (λ e. omega arith)) in
       let r = x ∷ g .queue j in
       record {
-        heads-size = length-set h j x ∙ g .heads-size;
-        links-size = length-set l x a ∙ g .links-size;
-        waits-size = length-set v x j ∙ g .waits-size;
+        room = record {
+          heads-size = omega (arith, length-set h j x, g .room .heads-size);
+          links-size = omega (arith, length-set l x a, g .room .links-size);
+          waits-size = omega (arith, length-set v x j, g .room .waits-size);
+        };
         queue = put (g .queue) j r;
         own = λ hp. rw (put-other (g .queue) j r {q = p} (λ e. nj (sym e)))
             (leads-set l x a y (g .queue p) (free p hp) (g .own hp));

@@ -6,15 +6,17 @@ use Prim.Native.Nat.{ℕ, suc, _+_, _≤_, _<_, min}
 use native.Mathlib.Nat.{not-suc-le-zero}
 use native.Mathlib.Omega.{arith}
 use lib.Dec.{eqb}
-use lib.ListN.{length, getD, set, length-set, replicate, length-replicate, getD-replicate}
+use lib.ListN.{length, getD, set, length-set, replicate}
 use lib.Seq.{getD-set-same, getD-set-other}
 use Rattle.limits.specs.Limits.{mostStatements}
 use Rattle.laws.specs.Counts.{once, count}
 use Rattle.laws.proofs.Stores.{count-set}
 use Rattle.laws.proofs.Counts.{once-same, once-other}
 use Rattle.order.specs.Table.{Fit}
-use Rattle.order.specs.Marks.{none, Leads, Between, Settles, Blank, Woken, Awake}
+use Rattle.order.specs.Marks.{none, Leads, Room, Between, Settles, Zeros, Blank, SettlesFirst, SettledAll}
+use Rattle.order.specs.Marks.{Woken, Awake}
 use Rattle.order.proofs.Marking.{cursors-none}
+use Rattle.order.proofs.Arrays.{zeros, SameRoom, room-same, room-then}
 use Rattle.order.proofs.Queues.{open-list, close-list, first-waits, pop, push}
 use Rattle.order.proofs.Flagging.{flags-none, flags-ready, flags-wait, waits-open}
 
@@ -25,19 +27,42 @@ pub record Beginning (n k : ℕ) (s u m f c h l v : List ℕ) : Type 0 where
   pub unflagged : (i : ℕ) → k ≤ i → i < n → getD f i 0 ≡ 0
   pub idle : (i : ℕ) → k ≤ i → i < n → getD v i 0 ≡ none
 
-pub begin-first : {n : ℕ} {s u m f c h l v : List ℕ} → Blank n s u m f c h l v → Beginning n 0 s u m f c h l v
-begin-first b =
+begin-first : {n : ℕ} {s u m f c h l v : List ℕ} → n ≤ mostStatements → Zeros n m → Zeros n c → Blank n f h l v
+    → Beginning n 0 s u m f c h l v
+unfolding Leads count
+begin-first {n} {s} {u} {m} {c = c} few zm zc b =
     record {
-      state = b .state;
-      unplaced = b .unplaced;
-      unflagged = λ i _ hi. b .unflagged i hi;
+      state =
+          record {
+            moved = cursors-none n s u m c zm zc;
+            lists =
+                record {
+                  room = b .room;
+                  queue = λ _. [];
+                  own = λ z. absurd (omega arith);
+                  shut = λ z. absurd (omega arith);
+                  others = λ q hq _. b .unheaded q hq;
+                  stands =
+                      λ i q hi hq. sym (ap (λ k. once (eqb k q)) (b .idle i hi) ∙ once-other none q (λ e. omega arith));
+                  only = λ i q hq z. absurd (omega arith);
+                };
+            known =
+                record {
+                  flags-size = b .unflagged .size;
+                  flagged = λ i hi _. absurd (not-suc-le-zero hi);
+                  placed = λ i hi _. absurd (not-suc-le-zero hi);
+                  blocked = λ i hi _ _. absurd (not-suc-le-zero hi);
+                };
+          };
+      unplaced = zm .zero-at;
+      unflagged = λ i _ hi. b .unflagged .zero-at i hi;
       idle = λ i _ hi. b .idle i hi;
     }
 
 module _ {n k : ℕ} {s u m f c h l v c′ h′ l′ v′ : List ℕ} (t : Fit n s u) (g : Beginning n k s u m f c h l v)
     (hk : k < n) where
   -- the next is ready
-  pub begin-ready : Settles n s u m k true c′ h l v h′ l′ v′ → Beginning n (k + 1) s u m (set f k 1) c′ h′ l′ v′
+  begin-ready : Settles n s u m k true c′ h l v h′ l′ v′ → Beginning n (k + 1) s u m (set f k 1) c′ h′ l′ v′
   begin-ready w =
       let e = w .kept refl in
       let st = g .state in
@@ -57,12 +82,12 @@ module _ {n k : ℕ} {s u m f c h l v c′ h′ l′ v′ : List ℕ} (t : Fit n
       }
 
   -- or it waits
-  pub begin-wait : Settles n s u m k false c′ h l v h′ l′ v′ → Beginning n (k + 1) s u m f c′ h′ l′ v′
+  begin-wait : Settles n s u m k false c′ h l v h′ l′ v′ → Beginning n (k + 1) s u m f c′ h′ l′ v′
   begin-wait w =
       let e = w .hung refl in
       let j = e .0 in
       let st = g .state in
-      let lv : k < length v = omega (arith, st .lists .waits-size, t .few) in
+      let lv : k < length v = omega (arith, st .lists .room .waits-size) in
       record {
         state =
             rw (e .4, e .5, e .6)
@@ -80,10 +105,66 @@ module _ {n k : ℕ} {s u m f c h l v c′ h′ l′ v′ : List ℕ} (t : Fit n
         idle = λ i a b. rw (e .6) (getD-set-other v k i j 0 (λ q. omega arith) ∙ g .idle i (omega arith) b);
       }
 
-pub begin-last : {n k : ℕ} {s u m f c h l v : List ℕ} → Beginning n k s u m f c h l v → k ≡ n
+begin-last : {n k : ℕ} {s u m f c h l v : List ℕ} → Beginning n k s u m f c h l v → k ≡ n
     → Between n n s u m f c h l v none none
 begin-last {n} {k} {s} {u} {m} {f} {c} {h} {l} {v} g e =
     subst (λ (i : ℕ). Between n i s u m f c h l v none none) e (g .state)
+
+-- ---- the same whatever zeros marks and cursors are, in arrays that keep their lengths
+pub record Begun (n k : ℕ) (s u f₀ h₀ l₀ v₀ f h l v : List ℕ) : Type 0 where
+  pub reached : k ≤ n
+  pub settled : (m c : List ℕ) → Zeros n m → Zeros n c → Beginning n k s u m f c h l v
+  pub flags-kept : length f ≡ length f₀
+  pub lists-kept : SameRoom h₀ l₀ v₀ h l v
+
+pub begun-first : {n : ℕ} {s u f h l v : List ℕ} → n ≤ mostStatements → Blank n f h l v
+    → Begun n 0 s u f h l v f h l v
+begun-first few b =
+    record {
+      reached = omega arith;
+      settled = λ m c zm zc. begin-first few zm zc b;
+      flags-kept = refl;
+      lists-kept = room-same;
+    }
+
+module _ {n k : ℕ} {s u f₀ h₀ l₀ v₀ f h l v : List ℕ} (g : Begun n k s u f₀ h₀ l₀ v₀ f h l v) where
+  -- all that is known, with n zeros each
+  known-of : Between n k s u (replicate n 0) f (replicate n 0) h l v none none
+  known-of = let z = zeros n n (omega arith) in g .settled (replicate n 0) (replicate n 0) z z .state
+
+  -- there is a place for each
+  pub begun-room : Room n h l v
+  begun-room = known-of .lists .room
+
+  -- and a flag
+  pub begun-flags : n ≤ length f
+  begun-flags = known-of .known .flags-size
+
+  module _ {h′ l′ v′ : List ℕ} (t : Fit n s u) (hk : k < n) (eh : length h′ ≡ length h) (el : length l′ ≡ length l)
+      (ev : length v′ ≡ length v) where
+    -- the next is ready
+    pub begun-ready : SettlesFirst n s u k true h l v h′ l′ v′ → Begun n (k + 1) s u f₀ h₀ l₀ v₀ (set f k 1) h′ l′ v′
+    begun-ready w =
+        record {
+          reached = omega arith;
+          settled = λ m c zm zc. begin-ready t (g .settled m c zm zc) hk (w .settles m c zm zc);
+          flags-kept = length-set f k 1 ∙ g .flags-kept;
+          lists-kept = room-then (g .lists-kept) (record { heads = eh; links = el; waits = ev });
+        }
+
+    -- or it waits
+    pub begun-wait : SettlesFirst n s u k false h l v h′ l′ v′ → Begun n (k + 1) s u f₀ h₀ l₀ v₀ f h′ l′ v′
+    begun-wait w =
+        record {
+          reached = omega arith;
+          settled = λ m c zm zc. begin-wait t (g .settled m c zm zc) hk (w .settles m c zm zc);
+          flags-kept = g .flags-kept;
+          lists-kept = room-then (g .lists-kept) (record { heads = eh; links = el; waits = ev });
+        }
+
+  -- all are settled
+  pub begun-last : n ≤ k → SettledAll n s u f h l v
+  begun-last h = record { state = λ m c zm zc. begin-last (g .settled m c zm zc) (omega (arith, g .reached)) }
 
 -- ---- those that wait for j, from x on
 pub record Waking (n : ℕ) (s u m f c h l v : List ℕ) (j low : ℕ) (x early : ℕ) : Type 0 where
@@ -129,7 +210,11 @@ module _ {n : ℕ} {s u m f c h l v : List ℕ} {j low x early : ℕ} (g : Wakin
     waking-open = waits-open (g .fit) (g .state .known) (g .one) (waking-one .0) (waking-one .1)
 
     long : x < length v
-    long = omega (arith, g .state .lists .waits-size)
+    long = omega (arith, g .state .lists .room .waits-size, waking-one .0)
+
+    -- when it waits no more there is a place for each as before
+    pub waking-room : Room n h l (set v x none)
+    waking-room = pop (g .fit .few) (g .state .lists) (g .one) hx .room
 
     -- without x one less waits for j
     less-none : suc (count j (set v x none)) ≡ count j v
@@ -208,44 +293,3 @@ module _ {n : ℕ} {s u m f c h l v : List ℕ} {j low x early : ℕ} (g : Wakin
             count-set j q (set v x none) x lw,
             once-other j q (λ e. omega (arith, g .mark, k .3, ap (λ i. getD m i 0) e)),
           ))
-
--- ---- the arrays at first
-pub blank : (n : ℕ) (s u : List ℕ) → n ≤ mostStatements
-    → Blank n s u (replicate mostStatements 0) (replicate mostStatements 0) (replicate mostStatements 0)
-    (replicate mostStatements none)
-    (replicate mostStatements 0) (replicate mostStatements none)
-unfolding Leads count
-blank n s u few =
-    let size : (a : ℕ) → length (replicate {A = ℕ} mostStatements a) ≡ mostStatements =
-    λ a. length-replicate {A = ℕ} mostStatements a in
-    let at : (a i : ℕ) → i < n → getD (replicate {A = ℕ} mostStatements a) i 0 ≡ a =
-    λ a i hi. getD-replicate {A = ℕ} mostStatements i a 0 (omega arith) in
-    record {
-      state =
-          record {
-            moved = cursors-none n s u (replicate mostStatements 0) few;
-            lists =
-                record {
-                  heads-size = size none;
-                  links-size = size 0;
-                  waits-size = size none;
-                  queue = λ _. [];
-                  own = λ z. absurd (omega arith);
-                  shut = λ z. absurd (omega arith);
-                  others = λ q hq _. at none q hq;
-                  stands =
-                      λ i q hi hq. sym (ap (λ k. once (eqb k q)) (at none i hi) ∙ once-other none q (λ e. omega arith));
-                  only = λ i q hq z. absurd (omega arith);
-                };
-            known =
-                record {
-                  flags-size = size 0;
-                  flagged = λ i hi _. absurd (not-suc-le-zero hi);
-                  placed = λ i hi _. absurd (not-suc-le-zero hi);
-                  blocked = λ i hi _ _. absurd (not-suc-le-zero hi);
-                };
-          };
-      unplaced = λ i hi. at 0 i hi;
-      unflagged = λ i hi. at 0 i hi;
-      idle = λ i hi. at none i hi;
-    }

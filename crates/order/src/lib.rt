@@ -5,8 +5,8 @@ ghost use lib.ListN.{length, getD, set};
 ghost use Rattle.limits.specs.Limits.{mostStatements};
 ghost use Rattle.order.specs.Greedy.{all, first};
 ghost use Rattle.order.specs.Table.{Fit, endsIn, belowAt, fits};
-ghost use Rattle.order.specs.Marks.{openAt, none, zeros, flag, someFlag, Cursors, Settles, Blank, Between, Woken};
-ghost use Rattle.order.specs.Marks.{Awake};
+ghost use Rattle.order.specs.Marks.{openAt, flag, someFlag, Cursors, Room, Settles, Zeros, Blank, SettlesFirst};
+ghost use Rattle.order.specs.Marks.{SettledAll, Woken, Awake, fewStatements};
 ghost use Rattle.order.specs.Contract.{Filled, Sorts};
 use bits::least;
 use bits::reads::index;
@@ -14,6 +14,9 @@ use limits::STATEMENTS;
 
 // No statement: where a list ends, and what a statement waits for that waits for none.
 const NONE: usize = STATEMENTS;
+
+// The most statements that are ordered in the smaller arrays.
+const FEW: usize = 64;
 
 // How many flags are looked at at once.
 const STRIDE: usize = 16;
@@ -73,8 +76,8 @@ fn fit(n: usize, starts: &[u16], used: &[u16], room: usize) -> bool
 }
 
 // The first place from a place on and before an end whose statement is not placed; the end where there is none.
-fn advance(from: usize, end: usize, used: &[u16], marks: &[u8; STATEMENTS]) -> usize
-    requires { ⌜ (end ≤ length (now used)) × ((k : ℕ) → k < end → getD (now used) k 0 < mostStatements) ⌝ }
+fn advance(from: usize, end: usize, used: &[u16], marks: &[u8]) -> usize
+    requires { ⌜ (end ≤ length (now used)) × ((k : ℕ) → k < end → getD (now used) k 0 < length (now marks)) ⌝ }
     ensures { λ r. ⌜ r ≡ first (openAt (now (used .entry)) (now (marks .entry))) (end - from) from ⌝ }
 {
     let mut k = from;
@@ -89,14 +92,9 @@ fn advance(from: usize, end: usize, used: &[u16], marks: &[u8; STATEMENTS]) -> u
 }
 
 // Puts statement i to the front of the list of those that wait for j.
-fn attach(
-    i: usize,
-    j: usize,
-    heads: &mut [u16; STATEMENTS],
-    links: &mut [u16; STATEMENTS],
-    waits: &mut [u16; STATEMENTS],
-)
-    requires { ⌜ (i < mostStatements) × (j < mostStatements) ⌝ }
+fn attach(i: usize, j: usize, heads: &mut [u16], links: &mut [u16], waits: &mut [u16])
+    requires { ⌜ (i < mostStatements) × (j < mostStatements)
+        × (j < length (now heads)) × (i < length (now links)) × (i < length (now waits)) ⌝ }
     ensures { λ _. ⌜ (now (heads .exit) ≡ set (now (heads .entry)) j i)
         × (now (links .exit) ≡ set (now (links .entry)) i (getD (now (heads .entry)) j 0))
         × (now (waits .exit) ≡ set (now (waits .entry)) i j) ⌝ }
@@ -113,14 +111,15 @@ fn settle(
     n: usize,
     starts: &[u16],
     used: &[u16],
-    marks: &[u8; STATEMENTS],
-    cursors: &mut [u16; STATEMENTS],
-    heads: &mut [u16; STATEMENTS],
-    links: &mut [u16; STATEMENTS],
-    waits: &mut [u16; STATEMENTS],
+    marks: &[u8],
+    cursors: &mut [u16],
+    heads: &mut [u16],
+    links: &mut [u16],
+    waits: &mut [u16],
 ) -> bool
     requires { ⌜ Fit n (now starts) (now used) × (i < n)
-        × Cursors n (now starts) (now used) (now marks) (now cursors) × (getD (now marks) i 0 ≡ 0) ⌝ }
+        × Cursors n (now starts) (now used) (now marks) (now cursors) × (getD (now marks) i 0 ≡ 0)
+        × Room n (now heads) (now links) (now waits) ⌝ }
     ensures { λ r. ⌜ Settles n (now (starts .entry)) (now (used .entry)) (now (marks .entry)) i r (now (cursors .exit))
         (now (heads .entry)) (now (links .entry)) (now (waits .entry))
         (now (heads .exit)) (now (links .exit)) (now (waits .exit)) ⌝ }
@@ -143,12 +142,12 @@ fn settle_first(
     n: usize,
     starts: &[u16],
     used: &[u16],
-    heads: &mut [u16; STATEMENTS],
-    links: &mut [u16; STATEMENTS],
-    waits: &mut [u16; STATEMENTS],
+    heads: &mut [u16],
+    links: &mut [u16],
+    waits: &mut [u16],
 ) -> bool
-    requires { ⌜ Fit n (now starts) (now used) × (i < n) ⌝ }
-    ensures { λ r. ⌜ Settles n (now (starts .entry)) (now (used .entry)) zeros i r zeros
+    requires { ⌜ Fit n (now starts) (now used) × (i < n) × Room n (now heads) (now links) (now waits) ⌝ }
+    ensures { λ r. ⌜ SettlesFirst n (now (starts .entry)) (now (used .entry)) i r
         (now (heads .entry)) (now (links .entry)) (now (waits .entry))
         (now (heads .exit)) (now (links .exit)) (now (waits .exit)) ⌝ }
 {
@@ -165,15 +164,14 @@ fn settle_all(
     n: usize,
     starts: &[u16],
     used: &[u16],
-    ready: &mut [u8; STATEMENTS],
-    heads: &mut [u16; STATEMENTS],
-    links: &mut [u16; STATEMENTS],
-    waits: &mut [u16; STATEMENTS],
+    ready: &mut [u8],
+    heads: &mut [u16],
+    links: &mut [u16],
+    waits: &mut [u16],
 )
-    requires { ⌜ Fit n (now starts) (now used)
-        × Blank n (now starts) (now used) zeros (now ready) zeros (now heads) (now links) (now waits) ⌝ }
-    ensures { λ _. ⌜ Between n n (now (starts .entry)) (now (used .entry)) zeros (now (ready .exit)) zeros
-        (now (heads .exit)) (now (links .exit)) (now (waits .exit)) none none ⌝ }
+    requires { ⌜ Fit n (now starts) (now used) × Blank n (now ready) (now heads) (now links) (now waits) ⌝ }
+    ensures { λ _. ⌜ SettledAll n (now (starts .entry)) (now (used .entry)) (now (ready .exit))
+        (now (heads .exit)) (now (links .exit)) (now (waits .exit)) ⌝ }
 {
     let mut i = 0;
     while i < n {
@@ -190,12 +188,12 @@ fn wake(
     n: usize,
     starts: &[u16],
     used: &[u16],
-    marks: &[u8; STATEMENTS],
-    ready: &mut [u8; STATEMENTS],
-    cursors: &mut [u16; STATEMENTS],
-    heads: &mut [u16; STATEMENTS],
-    links: &mut [u16; STATEMENTS],
-    waits: &mut [u16; STATEMENTS],
+    marks: &[u8],
+    ready: &mut [u8],
+    cursors: &mut [u16],
+    heads: &mut [u16],
+    links: &mut [u16],
+    waits: &mut [u16],
     low: usize,
 ) -> usize
     requires { ⌜ Woken n (now starts) (now used) (now marks) (now ready) (now cursors)
@@ -276,31 +274,29 @@ fn find(from: usize, n: usize, ready: &[u8]) -> usize
     seek(from, n, ready)
 }
 
-// Writes the order of a table that fits to the front of out; how many were placed. Once i is placed only those that
-// wait for it may become ready.
-fn place(n: usize, starts: &[u16], used: &[u16], out: &mut [u16]) -> usize
-    requires { ⌜ Fit n (now starts) (now used) × (n ≤ length (now out)) ⌝ }
+// Writes the order of a table that fits to the front of out, in arrays that are lent; how many were placed. Once i is
+// placed only those that wait for it may become ready.
+fn place(
+    n: usize,
+    starts: &[u16],
+    used: &[u16],
+    marks: &mut [u8],
+    ready: &mut [u8],
+    cursors: &mut [u16],
+    heads: &mut [u16],
+    links: &mut [u16],
+    waits: &mut [u16],
+    out: &mut [u16],
+) -> usize
+    requires { ⌜ Fit n (now starts) (now used) × Zeros n (now marks) × Zeros n (now cursors)
+        × Blank n (now ready) (now heads) (now links) (now waits) × (n ≤ length (now out)) ⌝ }
     ensures { λ r. ⌜ Filled n (now (starts .entry)) (now (used .entry)) (now (out .entry)) (now (out .exit)) r ⌝ }
 {
-    let mut marks = [0u8; STATEMENTS];
-    let mut ready = [0u8; STATEMENTS];
-    let mut cursors = [0u16; STATEMENTS];
-    let mut heads = [NONE as u16; STATEMENTS];
-    let mut links = [0u16; STATEMENTS];
-    let mut waits = [NONE as u16; STATEMENTS];
-    settle_all(
-        n,
-        starts,
-        used,
-        &mut ready,
-        &mut heads,
-        &mut links,
-        &mut waits,
-    );
+    settle_all(n, starts, used, ready, heads, links, waits);
     let mut from = 0;
     let mut k = 0;
     while k < n {
-        let i = find(from, n, &ready);
+        let i = find(from, n, ready);
         if i == n {
             return k;
         }
@@ -312,12 +308,12 @@ fn place(n: usize, starts: &[u16], used: &[u16], out: &mut [u16]) -> usize
             n,
             starts,
             used,
-            &marks,
-            &mut ready,
-            &mut cursors,
-            &mut heads,
-            &mut links,
-            &mut waits,
+            marks,
+            ready,
+            cursors,
+            heads,
+            links,
+            waits,
             i,
         );
         k += 1;
@@ -325,12 +321,65 @@ fn place(n: usize, starts: &[u16], used: &[u16], out: &mut [u16]) -> usize
     k
 }
 
+// The same for few statements, in arrays of its own.
+fn place_few(n: usize, starts: &[u16], used: &[u16], out: &mut [u16]) -> usize
+    requires { ⌜ Fit n (now starts) (now used) × (n ≤ fewStatements) × (n ≤ length (now out)) ⌝ }
+    ensures { λ r. ⌜ Filled n (now (starts .entry)) (now (used .entry)) (now (out .entry)) (now (out .exit)) r ⌝ }
+{
+    let mut marks = [0u8; FEW];
+    let mut ready = [0u8; FEW];
+    let mut cursors = [0u16; FEW];
+    let mut heads = [NONE as u16; FEW];
+    let mut links = [0u16; FEW];
+    let mut waits = [NONE as u16; FEW];
+    place(
+        n,
+        starts,
+        used,
+        &mut marks,
+        &mut ready,
+        &mut cursors,
+        &mut heads,
+        &mut links,
+        &mut waits,
+        out,
+    )
+}
+
+// The same for as many as there may be.
+fn place_many(n: usize, starts: &[u16], used: &[u16], out: &mut [u16]) -> usize
+    requires { ⌜ Fit n (now starts) (now used) × (n ≤ length (now out)) ⌝ }
+    ensures { λ r. ⌜ Filled n (now (starts .entry)) (now (used .entry)) (now (out .entry)) (now (out .exit)) r ⌝ }
+{
+    let mut marks = [0u8; STATEMENTS];
+    let mut ready = [0u8; STATEMENTS];
+    let mut cursors = [0u16; STATEMENTS];
+    let mut heads = [NONE as u16; STATEMENTS];
+    let mut links = [0u16; STATEMENTS];
+    let mut waits = [NONE as u16; STATEMENTS];
+    place(
+        n,
+        starts,
+        used,
+        &mut marks,
+        &mut ready,
+        &mut cursors,
+        &mut heads,
+        &mut links,
+        &mut waits,
+        out,
+    )
+}
+
 // The order of the statements 0 .. n - 1, where i uses used[starts[i]..starts[i + 1]], to the front of out.
 pub fn sort(n: usize, starts: &[u16], used: &[u16], out: &mut [u16]) -> Sorted
     ensures { λ r. ⌜ Sorts n (now (starts .entry)) (now (used .entry)) (now (out .entry)) r (now (out .exit)) ⌝ }
 {
     if fit(n, starts, used, out.len()) {
-        return Sorted::Placed(place(n, starts, used, out));
+        if n <= FEW {
+            return Sorted::Placed(place_few(n, starts, used, out));
+        }
+        return Sorted::Placed(place_many(n, starts, used, out));
     }
     Sorted::Unfit
 }

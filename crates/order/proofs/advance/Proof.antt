@@ -16,16 +16,16 @@ Inv-loop from end used marks k₀ k = first (openAt used marks) (end - from) fro
 abbrev μ-loop : tie.MeasureT-loop
 μ-loop from end used marks k₀ k = end - k
 
-element-copy-out-if1 : tie.Need-element-copy-out-if1 Inv-loop μ-loop
-element-copy-out-if1 c =
-    let k = c .before .before .before .loop .k in
-    let l = c .before .before .before .before .before .pre .1 k (c .before .before .loop-test .taken) in
-    omega (arith, c .index .ensures .0)
+shared-slice-read-if1 : tie.Need-shared-slice-read-if1 Inv-loop μ-loop
+shared-slice-read-if1 c =
+    let l = c .before .before .before .before in
+    let below = l .before .before .before .pre .1 (l .loop .k) (c .before .before .before .loop-test .taken) in
+    omega (arith, c .before .index .ensures .0)
 
 returns : tie.Need-returns Inv-loop μ-loop
 returns c =
     let l = c .before .before .before .before .before .loop in
-    let s = c .before .before .before .before .before .before .before .args in
+    let s = c .before .before .before .before .before .before .before .before .args in
     let w = c .before .before .index in
     sym
     (l .inv
@@ -35,7 +35,7 @@ returns c =
 loop-again : tie.Need-loop-again Inv-loop μ-loop
 loop-again c =
     let l = c .before .before .before .before .before .loop in
-    let s = c .before .before .before .before .before .before .before .args in
+    let s = c .before .before .before .before .before .before .before .before .args in
     let w = c .before .before .index in
     l .inv
     ∙ first-pass (openAt (s .used .now) (s .marks .now)) (s .end) (l .k) (omega arith)
@@ -44,7 +44,7 @@ loop-again c =
 returns-2 : tie.Need-returns-2 Inv-loop μ-loop
 returns-2 c =
     let l = c .before .loop in
-    let s = c .before .before .before .args in
+    let s = c .before .before .before .before .args in
     sym (l .inv ∙ first-none (openAt (s .used .now) (s .marks .now)) (s .end) (l .k) (c .loop-test .left))
 
 pub advance-spec : {M : Type 1} → statement M
@@ -57,7 +57,7 @@ advance-spec =
     (λ c. search needs)
     (λ c. search needs)
     (λ c κs. search needs)
-    element-copy-out-if1
+    shared-slice-read-if1
     returns
     (λ c. search needs)
     (λ c. search needs)

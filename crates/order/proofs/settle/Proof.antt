@@ -10,14 +10,16 @@ use Rattle.order.proofs.settle.Tie as tie
 
 -- where the function begins, from where the cursor's goal is known
 abbrev S : tie.After-advance → tie.Start
-S c = c .before .before .before .before .before .before .before .before .before
+S c =
+    c .before .before .before .before .before .before .before .before .before .before .before .before .before .before
 
 advance-requires : tie.Need-advance-requires
 advance-requires c κs =
-    let p = c .before .before .before .before .before .before .before .before .pre in
+    let i = c .before .before .before .before in
+    let p = i .before .before .before .before .before .before .before .before .before .pre in
     let x = c .before .before .index2 .ensures .0 in (
       omega (arith, p .0 .ends _ (p .1)),
-      λ k h. omega (arith, p .0 .few, p .0 .below k (omega (arith, p .0 .ends _ (p .1)))),
+      λ k h. omega (arith, p .2 .marks-size, p .0 .below k (omega (arith, p .0 .ends _ (p .1)))),
     )
 
 returns : tie.Need-returns
@@ -54,11 +56,18 @@ attach-requires c κs =
     (a .before .before .before .before .before .index .ensures .0)
     (a .before .before .before .index2 .ensures .0) (a .before .index3 .ensures .0) (a .advance .ensures)
     (e .if1 .left) in
-    (omega (arith, p .0 .few, p .1), omega (arith, p .0 .few, b, w .index4 .ensures .0))
+    let j = w .index4 .ensures .0 in (
+      omega (arith, p .0 .few, p .1),
+      omega (arith, p .0 .few, b, j),
+      omega (arith, p .4 .heads-size, b, j),
+      omega (arith, p .4 .links-size, p .1),
+      omega (arith, p .4 .waits-size, p .1),
+    )
 
 returns-2 : tie.Need-returns-2
 returns-2 c =
-    let w = c .before .before .before .before in
+    let f = c .before .before .before .before .before .before in
+    let w = f .before .before .before .before in
     let e = w .before .before in
     let a = e .before in
     let p = S a .pre in
@@ -66,7 +75,7 @@ returns-2 c =
     (a .before .before .before .before .before .index .ensures .0)
     (a .before .before .before .index2 .ensures .0) (a .before .index3 .ensures .0) (a .advance .ensures) (e .if1 .left)
     (w .index4 .result)
-    (w .index4 .ensures .0) (c .attach .ensures)
+    (w .index4 .ensures .0) (f .attach .ensures)
 
 pub settle-spec : {M : Type 1} → statement M
 settle-spec =
@@ -93,4 +102,8 @@ settle-spec =
     shared-slice-read-index-3
     (λ c κs. search needs)
     attach-requires
+    (λ c. search needs)
+    (λ c. search needs)
+    (λ c. search needs)
+    (λ c. search needs)
     returns-2)
