@@ -22,8 +22,9 @@ use Rattle.blocks.specs.Grouped.{UnitArrays, unitArrays, GroupOutcome, g
 use Rattle.blocks.specs.Grouped.{some}
 use Rattle.blocks.specs.Grouped.{falls, inTurn, groupRoomy, groupFit, united, rightInside, paired}
 use Rattle.blocks.specs.Grouped.{limited, grouped}
-use Rattle.blocks.specs.Working.{Reported, SheetFollows, Listed}
+use Rattle.blocks.specs.Working.{Reported, SheetFollows, AllStand, Listed}
 use Rattle.blocks.specs.InsideWorking.{Small, Turned}
+use Rattle.blocks.proofs.StatementsStand.{turned-stand}
 
 -- ---- faults reported
 
@@ -111,7 +112,13 @@ follows-small f = record { few = f .0 .few; small = f .0 .small; defined = f .1 
 
 pub follows-turned : {lines bounds kinds : List ℕ} → SheetFollows lines bounds kinds → Turned
     (length lines) bounds kinds
-follows-turned f = record { few = f .few; rise = f .rise; first = f .first; ended = f .ended }
+follows-turned f =
+    record { few = f .few; rise = f .rise; first = f .first; ended = f .ended; one-more = f .one-more }
+
+-- the statements are few, and each stands in the arrays
+pub follows-stand : {lines bounds kinds : List ℕ} → SheetFollows lines bounds kinds
+    → (length lines ≤ mostStatements) × AllStand (length lines) bounds kinds
+follows-stand f = (f .few, turned-stand (follows-turned f))
 
 -- ---- the arrays fit, or they do not
 pub fit-sound : (lines bounds kinds : List ℕ) (args faults ulines ubounds firsts : ℕ)
@@ -133,6 +140,7 @@ fit-sound lines bounds kinds args faults ulines ubounds firsts e =
       rise = λ k h. ltb-false (ends bounds k) (begins bounds k) (none k (omega arith) (omega arith));
       first = eqb-true _ _ (i .0);
       ended = eqb-true _ _ (j .0);
+      one-more = eqb-true _ _ (b .0);
     }
 
 -- there is room for all units and one more

@@ -10,6 +10,7 @@ pub mod NamesPlaced
 pub mod FreeCollected
 pub mod InsideFound
 pub mod KindsRenewed
+pub mod StatementsStand
 pub mod NoBrackets
 pub mod GroupStages
 pub mod DraftsWalk

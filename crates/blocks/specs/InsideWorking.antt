@@ -51,12 +51,13 @@ rolesIn n bounds kinds args = gather (λ j. roleAt bounds kinds args j ∷ []) n
 abbrev pub renewed : ℕ → List ℕ → ℕ → ℕ → List ℕ
 renewed role kinds from end = gather (λ i. roleKind role (getD kinds i 0) ∷ []) (end - from) from
 
--- ---- n statements follow each other from draft 0 to the last
+-- ---- n statements follow each other from draft 0 to the last, and there is one bound more
 pub record Turned (n : ℕ) (bounds kinds : List ℕ) : Type 0 where
   pub few : n ≤ mostStatements
   pub rise : (j : ℕ) → j < n → begins bounds j ≤ ends bounds j
   pub first : begins bounds 0 ≡ 0
   pub ended : begins bounds n ≡ length kinds
+  pub one-more : length bounds ≡ n + 1
 
 -- few enough statements and drafts, and few enough drafts that define a name
 pub record Small (n : ℕ) (kinds : List ℕ) : Type 0 where

@@ -21,13 +21,23 @@ pub record Reported (fs : List Fault) (c r : ℕ) (list list′ : List ℕ) : Ty
   pub behind : r ≡ c + length fs
   pub written : list′ ≡ sets list (faultBytes * c) (faultList fs)
 
--- ---- a sheet that fits: the statements follow each other from draft 0 to the last
+-- ---- a sheet that fits: the statements follow each other from draft 0 to the last, and there is one bound more
 pub record SheetFollows (lines bounds kinds : List ℕ) : Type 0 where
   pub few : length lines ≤ mostStatements
   pub small : length kinds ≤ textBytes
   pub rise : (j : ℕ) → j < length lines → begins bounds j ≤ ends bounds j
   pub first : begins bounds 0 ≡ 0
   pub ended : begins bounds (length lines) ≡ length kinds
+  pub one-more : length bounds ≡ length lines + 1
+
+-- ---- statement j stands in the arrays: both its bounds do, and it ends no later than the drafts
+pub record Stands (bounds kinds : List ℕ) (j : ℕ) : Type 0 where
+  pub bounded : j + 1 < length bounds
+  pub inside : ends bounds j ≤ length kinds
+
+-- the first n statements do
+abbrev pub AllStand : ℕ → List ℕ → List ℕ → Type 0
+AllStand n bounds kinds = (j : ℕ) → j < n → Stands bounds kinds j
 
 -- ---- statement j is a header or an end
 abbrev pub isBracket : Bracket → Bool

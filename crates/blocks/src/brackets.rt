@@ -4,21 +4,20 @@ ghost use Prim.Native.Nat.{_≤_};
 ghost use Rattle.limits.specs.Limits.{mostStatements};
 ghost use Rattle.laws.specs.Places.{anyIn};
 ghost use Rattle.blocks.specs.Places.{leadingKind, bracketKind};
-ghost use Rattle.blocks.specs.Working.{isBracket, bracketed};
-use bits::reads::byte_at;
-use bits::reads::short_at;
+ghost use Rattle.blocks.specs.Working.{isBracket, bracketed, Stands, AllStand};
+use bits::reads::index;
 use drafts::ENDING;
 use drafts::NUMBER;
 use drafts::OUTPUT;
 
 // The kind of the first draft of statement j, that of a number where it has none.
 pub(crate) fn leading_kind(bounds: &[u16], kinds: &[u8], j: usize) -> u8
-    requires { ⌜ j ≤ mostStatements ⌝ }
+    requires { ⌜ Stands (now bounds) (now kinds) j ⌝ }
     ensures { λ r. ⌜ r ≡ leadingKind (now (bounds .entry)) (now (kinds .entry)) j ⌝ }
 {
-    let begin = short_at(bounds, j);
-    if begin < short_at(bounds, j + 1) {
-        return byte_at(kinds, begin);
+    let begin = index(bounds[j]);
+    if begin < index(bounds[j + 1]) {
+        return kinds[begin];
     }
     NUMBER
 }
@@ -36,7 +35,7 @@ fn is_bracket(kind: u8) -> bool
 
 // Whether one of n statements is.
 pub(crate) fn has_bracket(bounds: &[u16], kinds: &[u8], n: usize) -> bool
-    requires { ⌜ n ≤ mostStatements ⌝ }
+    requires { ⌜ (n ≤ mostStatements) × AllStand n (now bounds) (now kinds) ⌝ }
     ensures { λ r. ⌜ r ≡ anyIn (bracketed (now (bounds .entry)) (now (kinds .entry))) n 0 ⌝ }
 {
     let mut j: usize = 0;

@@ -1,7 +1,6 @@
 // Fault 26: a statement inside a block that may not stand there, and a header with an output that is not set or named
 // twice.
 ghost use mathlib.Core.Path.{_≡_};
-ghost use mathlib.Core.Bool.{not};
 ghost use Prim.Native.Nat.{_+_, _-_, _≤_, _<_};
 ghost use lib.ListN.{length};
 ghost use Rattle.limits.specs.Limits.{mostStatements, mostDefinitions};
@@ -12,7 +11,7 @@ ghost use Rattle.drafts.specs.Places.{begins, ends};
 ghost use Rattle.blocks.specs.Places.{bracketAt};
 ghost use Rattle.blocks.specs.InsidePlaces.{setBelow, headWrongAt, rightAt, wrongAt};
 ghost use Rattle.blocks.specs.InsidePlaces.{faults26In};
-ghost use Rattle.blocks.specs.Working.{Reported};
+ghost use Rattle.blocks.specs.Working.{Reported, AllStand};
 ghost use Rattle.blocks.specs.InsideWorking.{outsideAt, badOutputAt, allowedAt, Small, faults26With};
 use super::brackets::leading_kind;
 use super::free::collect_free;
@@ -39,7 +38,7 @@ use limits::DEFINITIONS;
 
 // Whether a statement from i on, before the next end and before n, sets this name.
 fn is_set_below(bounds: &[u16], kinds: &[u8], args: &[u64], n: usize, i: usize, key: u64) -> bool
-    requires { ⌜ n ≤ mostStatements ⌝ }
+    requires { ⌜ (n ≤ mostStatements) × AllStand n (now bounds) (now kinds) ⌝ }
     ensures { λ r. ⌜ r ≡ has key (setBelow (now (bounds .entry)) (now (kinds .entry)) (now (args .entry)) (n - i) i) ⌝ }
 {
     let mut k = i;
@@ -57,7 +56,7 @@ fn is_set_below(bounds: &[u16], kinds: &[u8], args: &[u64], n: usize, i: usize, 
 
 // Whether place i of header j has an output that is not set below, or named earlier.
 fn is_bad_output(bounds: &[u16], kinds: &[u8], args: &[u64], n: usize, j: usize, i: usize) -> bool
-    requires { ⌜ (n ≤ mostStatements) × (j < n) ⌝ }
+    requires { ⌜ (n ≤ mostStatements) × (j < n) × AllStand n (now bounds) (now kinds) ⌝ }
     ensures { λ r. ⌜ r ≡ badOutputAt (now (kinds .entry)) (now (args .entry))
         (setBelow (now (bounds .entry)) (now (kinds .entry)) (now (args .entry)) (n - (j + 1)) (j + 1))
         (begins (now (bounds .entry)) j) i ⌝ }
@@ -74,7 +73,7 @@ fn is_bad_output(bounds: &[u16], kinds: &[u8], args: &[u64], n: usize, j: usize,
 
 // Whether header j has one.
 fn is_wrong_header(bounds: &[u16], kinds: &[u8], args: &[u64], n: usize, j: usize) -> bool
-    requires { ⌜ (n ≤ mostStatements) × (j < n) ⌝ }
+    requires { ⌜ (n ≤ mostStatements) × (j < n) × AllStand n (now bounds) (now kinds) ⌝ }
     ensures { λ r. ⌜ r ≡ headWrongAt n (now (bounds .entry)) (now (kinds .entry)) (now (args .entry)) j ⌝ }
 {
     let end = short_at(bounds, j + 1);
@@ -197,7 +196,7 @@ fn is_wrong(
     c: usize,
     j: usize,
 ) -> bool
-    requires { ⌜ (n ≤ mostStatements) × (j < n) × (c ≤ j) ⌝ }
+    requires { ⌜ (n ≤ mostStatements) × (j < n) × (c ≤ j) × AllStand n (now bounds) (now kinds) ⌝ }
     ensures { λ r. ⌜ r ≡ wrongAt n (now (free .entry)) (now (bounds .entry)) (now (kinds .entry)) (now (args .entry))
         (bracketAt (now (bounds .entry)) (now (kinds .entry)) j) c j ⌝ }
 {
@@ -225,7 +224,7 @@ fn report_each(
     args: &[u64],
     faults: &mut [u8],
 ) -> usize
-    requires { ⌜ length (now lines) ≤ mostStatements ⌝ }
+    requires { ⌜ (length (now lines) ≤ mostStatements) × AllStand (length (now lines)) (now bounds) (now kinds) ⌝ }
     ensures { λ r. ⌜ Reported (faults26With (now (free .entry)) (now (lines .entry)) (now (bounds .entry))
         (now (kinds .entry)) (now (args .entry))) 0 r (now (faults .entry)) (now (faults .exit)) ⌝ }
 {
@@ -250,7 +249,8 @@ fn report_wrong(
     args: &[u64],
     faults: &mut [u8],
 ) -> usize
-    requires { ⌜ (length (now lines) ≤ mostStatements) × (length (now free) ≤ mostDefinitions) ⌝ }
+    requires { ⌜ (length (now lines) ≤ mostStatements) × (length (now free) ≤ mostDefinitions)
+        × AllStand (length (now lines)) (now bounds) (now kinds) ⌝ }
     ensures { λ r. ⌜ Reported (faults26With (now (free .entry)) (now (lines .entry)) (now (bounds .entry))
         (now (kinds .entry)) (now (args .entry))) 0 r (now (faults .entry)) (now (faults .exit)) ⌝ }
 {
@@ -267,7 +267,7 @@ pub(crate) fn report_inside(
     args: &[u64],
     faults: &mut [u8],
 ) -> usize
-    requires { ⌜ Small (length (now lines)) (now kinds) ⌝ }
+    requires { ⌜ Small (length (now lines)) (now kinds) × AllStand (length (now lines)) (now bounds) (now kinds) ⌝ }
     ensures { λ r. ⌜ Reported (faults26In (now (lines .entry)) (now (bounds .entry)) (now (kinds .entry))
         (now (args .entry))) 0 r (now (faults .entry)) (now (faults .exit)) ⌝ }
 {

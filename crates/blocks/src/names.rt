@@ -8,18 +8,18 @@ ghost use Rattle.drafts.specs.Places.{ends};
 ghost use Rattle.blocks.specs.Places.{bracketAt};
 ghost use Rattle.blocks.specs.InsidePlaces.{standingBehind, keyAt, keysAt, isSetting, setAt};
 ghost use Rattle.blocks.specs.InsidePlaces.{setAbove};
+ghost use Rattle.blocks.specs.Working.{Stands};
 use super::brackets::leading_kind;
 use bits::reads::byte_at;
 use bits::reads::short_at;
 use bits::reads::word_at;
 use drafts::ENDING;
-use drafts::NUMBER;
 use drafts::OUTPUT;
 use drafts::STORE;
 
 // Where the statement behind statement j stands, which stands at c.
 pub(crate) fn standing_behind(bounds: &[u16], kinds: &[u8], j: usize, c: usize) -> usize
-    requires { ⌜ j ≤ mostStatements ⌝ }
+    requires { ⌜ Stands (now bounds) (now kinds) j ⌝ }
     ensures { λ r. ⌜ r ≡ standingBehind (bracketAt (now (bounds .entry)) (now (kinds .entry)) j) j c ⌝ }
 {
     let kind = leading_kind(bounds, kinds, j);

@@ -5,7 +5,7 @@ ghost use lib.ListN.{length};
 ghost use Rattle.limits.specs.Limits.{mostStatements};
 ghost use Rattle.blocks.specs.Pairing.{pairs};
 ghost use Rattle.blocks.specs.Places.{bracketKind, bracketsIn, faults25In};
-ghost use Rattle.blocks.specs.Working.{Reported, Stack, Paired, matesNoted, unmated, unmatedIn};
+ghost use Rattle.blocks.specs.Working.{Reported, AllStand, Stack, Paired, matesNoted, unmated, unmatedIn};
 use super::brackets::leading_kind;
 use super::lists::largest;
 use super::lists::put_short;
@@ -41,7 +41,7 @@ fn note_mate(kind: u8, j: usize, depth: usize, stack: &mut [u16], mates: &mut [u
 // Notes the mates of n statements: for a paired header one more than its end's number, for a paired end one more than
 // its header's.
 fn note_mates(n: usize, bounds: &[u16], kinds: &[u8], mates: &mut [u16])
-    requires { ⌜ n ≤ mostStatements ⌝ }
+    requires { ⌜ (n ≤ mostStatements) × AllStand n (now bounds) (now kinds) ⌝ }
     ensures { λ _. ⌜ now (mates .exit)
         ≡ matesNoted (pairs (bracketsIn n (now (bounds .entry)) (now (kinds .entry)))) (now (mates .entry)) ⌝ }
 {
@@ -80,7 +80,7 @@ fn report_unmated(
     mates: &[u16],
     faults: &mut [u8],
 ) -> usize
-    requires { ⌜ length (now lines) ≤ mostStatements ⌝ }
+    requires { ⌜ (length (now lines) ≤ mostStatements) × AllStand (length (now lines)) (now bounds) (now kinds) ⌝ }
     ensures { λ r. ⌜ Reported (unmatedIn (now (lines .entry)) (now (bounds .entry)) (now (kinds .entry))
         (now (mates .entry))) 0 r (now (faults .entry)) (now (faults .exit)) ⌝ }
 {
@@ -104,7 +104,7 @@ pub(crate) fn report_unpaired(
     kinds: &[u8],
     faults: &mut [u8],
 ) -> usize
-    requires { ⌜ length (now lines) ≤ mostStatements ⌝ }
+    requires { ⌜ (length (now lines) ≤ mostStatements) × AllStand (length (now lines)) (now bounds) (now kinds) ⌝ }
     ensures { λ r. ⌜ Reported (faults25In (now (lines .entry)) (now (bounds .entry)) (now (kinds .entry))) 0 r
         (now (faults .entry)) (now (faults .exit)) ⌝ }
 {

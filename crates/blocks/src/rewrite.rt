@@ -7,6 +7,7 @@ ghost use Rattle.limits.specs.Limits.{mostStatements};
 ghost use Rattle.laws.specs.Places.{gather};
 ghost use Rattle.blocks.specs.Places.{bracketAt};
 ghost use Rattle.blocks.specs.InsidePlaces.{roleBy, roleKind, rewrittenKinds};
+ghost use Rattle.blocks.specs.Working.{Stands, AllStand};
 ghost use Rattle.blocks.specs.InsideWorking.{keysRole, rolesIn, renewed, Turned};
 use super::brackets::leading_kind;
 use super::names::is_named_by;
@@ -44,7 +45,7 @@ fn role_of(bounds: &[u16], kinds: &[u8], args: &[u64], c: usize, j: usize, key: 
 
 // What the store of statement j becomes, which stands at c; 0 if it stays as it is.
 fn role_at(bounds: &[u16], kinds: &[u8], args: &[u64], c: usize, j: usize) -> u8
-    requires { ⌜ (c ≤ j) × (j ≤ mostStatements) ⌝ }
+    requires { ⌜ (c ≤ j) × (j ≤ mostStatements) × Stands (now bounds) (now kinds) j ⌝ }
     ensures { λ r. ⌜ r ≡ roleBy (now (bounds .entry)) (now (kinds .entry)) (now (args .entry))
         (bracketAt (now (bounds .entry)) (now (kinds .entry)) j) c j ⌝ }
 {
@@ -66,7 +67,7 @@ fn role_at(bounds: &[u16], kinds: &[u8], args: &[u64], c: usize, j: usize) -> u8
 
 // Notes for each of n statements what its store becomes.
 fn note_roles(bounds: &[u16], kinds: &[u8], args: &[u64], n: usize, roles: &mut [u8])
-    requires { ⌜ n ≤ mostStatements ⌝ }
+    requires { ⌜ (n ≤ mostStatements) × AllStand n (now bounds) (now kinds) ⌝ }
     ensures { λ _. ⌜ now (roles .exit) ≡ sets (now (roles .entry)) 0 (rolesIn n (now (bounds .entry))
         (now (kinds .entry)) (now (args .entry))) ⌝ }
 {

@@ -4,7 +4,7 @@ ghost use Prim.Native.Nat.{_≤_, _<_};
 ghost use lib.ListN.{length};
 ghost use Rattle.limits.specs.Limits.{mostStatements};
 ghost use Rattle.blocks.specs.Places.{bracketKind, startsUnit, insideNext};
-ghost use Rattle.blocks.specs.Working.{UnitPut, Listed};
+ghost use Rattle.blocks.specs.Working.{AllStand, UnitPut, Listed};
 use super::brackets::leading_kind;
 use super::lists::put_short;
 use bits::reads::short_at;
@@ -71,7 +71,7 @@ pub(crate) fn list_units(
     ubounds: &mut [u16],
     firsts: &mut [u16],
 ) -> usize
-    requires { ⌜ length (now lines) ≤ mostStatements ⌝ }
+    requires { ⌜ (length (now lines) ≤ mostStatements) × AllStand (length (now lines)) (now bounds) (now kinds) ⌝ }
     ensures { λ r. ⌜ Listed (now (lines .entry)) (now (bounds .entry)) (now (kinds .entry)) r
         (now (ulines .entry)) (now (ulines .exit)) (now (ubounds .entry)) (now (ubounds .exit))
         (now (firsts .entry)) (now (firsts .exit)) ⌝ }

@@ -28,6 +28,10 @@ abbrev μ-loop : tie.MeasureT-loop
 loop-holds : tie.Need-loop-holds Inv-loop μ-loop
 loop-holds c = (omega arith, rw sub-zero refl)
 
+leading-kind-requires : tie.Need-leading-kind-requires Inv-loop μ-loop
+leading-kind-requires c κs =
+    c .before .before .before .before .pre .1 (c .before .loop .j) (c .loop-test .taken)
+
 returns : tie.Need-returns Inv-loop μ-loop
 returns c =
     let at = c .before .before .before .before .loop in
@@ -61,7 +65,7 @@ has-bracket-spec =
     Inv-loop
     μ-loop
     loop-holds
-    (λ c κs. search needs)
+    leading-kind-requires
     (λ c κs. search needs)
     returns
     (λ c. search needs)

@@ -19,6 +19,10 @@ loop-holds : tie.Need-loop-holds Inv-loop μ-loop
 loop-holds c =
     refl
 
+leading-kind-requires : tie.Need-leading-kind-requires Inv-loop μ-loop
+leading-kind-requires c κs =
+    c .before .before .before .before .before .pre .1 (c .before .loop .k) (c .loop-test .taken)
+
 returns : tie.Need-returns Inv-loop μ-loop
 returns c =
     let s = c .before .before .before .before .before .before .before .args in
@@ -62,7 +66,7 @@ is-set-below-spec =
     Inv-loop
     μ-loop
     loop-holds
-    (λ c κs. search needs)
+    leading-kind-requires
     returns
     (λ c κs. search needs)
     returns-2

@@ -5,6 +5,10 @@ use Rattle.blocks.proofs.InsideFound.{wrong-open, wrong-shut, wrong-out
 use Rattle.blocks.proofs.inside.is_wrong.Statement.{statement}
 use Rattle.blocks.proofs.inside.is_wrong.Tie as tie
 
+leading-kind-requires : tie.Need-leading-kind-requires
+leading-kind-requires c κs =
+    let s = c .before .before .before .before .before in s .pre .3 (s .args .j) (s .pre .1)
+
 returns : tie.Need-returns
 returns c =
     let s = c .before .before .before .before .before .before .before .before .args in
@@ -37,7 +41,7 @@ pub is-wrong-spec : {M : Type 1} → statement M
 is-wrong-spec =
     tie.close
     (tie.spec
-    (λ c κs. search needs)
+    leading-kind-requires
     (λ c κs. search needs)
     returns
     returns-2

@@ -34,17 +34,19 @@ is-wrong-requires c κs =
     let at = c .before .loop in
     let s = c .before .before .before .before .before .before .before .before .before in
     let low = standing-low (s .args .bounds .now) (s .args .kinds .now) (at .j) in
-    (s .pre, c .loop-test .taken, omega (arith, at .inv .0, low))
+    (s .pre .0, c .loop-test .taken, omega (arith, at .inv .0, low), s .pre .1)
 
 add-fault-requires : tie.Need-add-fault-requires Inv-loop μ-loop
 add-fault-requires c κs =
-    omega (
-      arith,
-      c .before .before .before .before .loop .inv .1 .few,
-      c .before .before .before .before .loop .inv
-          .1 .within,
-      c .before .before .before .before .before .before .before .before .before .before .before .before .pre,
-    )
+    let at = c .before .before .before .before in
+    let few = at .before .before .before .before .before .before .before .before .pre .0 in
+    omega (arith, at .loop .inv .1 .few, at .loop .inv .1 .within, few)
+
+standing-behind-requires : tie.Need-standing-behind-requires Inv-loop μ-loop
+standing-behind-requires c κs =
+    let test = c .before .before .before .before .before .before in
+    let s = test .before .before .before .before .before .before .before .before .before in
+    s .pre .1 (test .before .loop .j) (test .loop-test .taken)
 
 loop-again : tie.Need-loop-again Inv-loop μ-loop
 loop-again c =
@@ -77,7 +79,7 @@ report-each-spec =
     is-wrong-requires
     (λ c κs. search needs)
     add-fault-requires
-    (λ c κs. search needs)
+    standing-behind-requires
     (λ c. search needs)
     (λ c. search needs)
     loop-again

@@ -8,7 +8,8 @@ note-places-requires c κs = c .before .before .before .before .before .before .
 
 report-each-requires : tie.Need-report-each-requires
 report-each-requires c κs =
-    c .before .before .before .before .before .before .before .before .before .before .before .pre .0
+    let s = c .before .before .before .before .before .before .before .before .before .before .before in
+    (s .pre .0, s .pre .2)
 
 pub report-wrong-spec : {M : Type 1} → statement M
 report-wrong-spec =

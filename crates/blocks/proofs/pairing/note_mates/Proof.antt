@@ -18,10 +18,14 @@ loop-holds : tie.Need-loop-holds Inv-loop μ-loop
 loop-holds c =
     let a = c .before .before .before .args in mating-first (a .n) (a .bounds .now) (a .kinds .now) (a .mates .now)
 
+leading-kind-requires : tie.Need-leading-kind-requires Inv-loop μ-loop
+leading-kind-requires c κs =
+    c .before .before .before .before .before .pre .1 (c .before .loop .j) (c .loop-test .taken)
+
 note-mate-requires : tie.Need-note-mate-requires Inv-loop μ-loop
 note-mate-requires c κs =
     let test = c .before .before .before in
-    let few = test .before .before .before .before .before .pre in
+    let few = test .before .before .before .before .before .pre .0 in
     (omega (arith, test .loop-test .taken, few), test .before .loop .inv .sound)
 
 loop-again : tie.Need-loop-again Inv-loop μ-loop
@@ -45,7 +49,7 @@ note-mates-spec =
     Inv-loop
     μ-loop
     loop-holds
-    (λ c κs. search needs)
+    leading-kind-requires
     (λ c. search needs)
     note-mate-requires
     (λ c. search needs)

@@ -28,19 +28,19 @@ loop-holds c =
 leading-kind-requires : tie.Need-leading-kind-requires Inv-loop μ-loop
 leading-kind-requires c κs =
     let test = c .before in
-    let few = test .before .before .before .before .before .before .before .pre in
-    omega (arith, test .loop-test .taken, few)
+    let stand = test .before .before .before .before .before .before .before .pre .1 in
+    stand (test .before .loop .j) (test .loop-test .taken)
 
 is-unmated-requires : tie.Need-is-unmated-requires Inv-loop μ-loop
 is-unmated-requires c κs =
     let test = c .before .before in
-    let few = test .before .before .before .before .before .before .before .pre in
+    let few = test .before .before .before .before .before .before .before .pre .0 in
     omega (arith, test .loop-test .taken, few)
 
 add-fault-requires : tie.Need-add-fault-requires Inv-loop μ-loop
 add-fault-requires c κs =
     let at = c .before .before .before .before .before .before in
-    let few = at .before .before .before .before .before .before .pre in
+    let few = at .before .before .before .before .before .before .pre .0 in
     omega (arith, at .loop .inv .0 .few, at .loop .inv .0 .within, few)
 
 loop-again : tie.Need-loop-again Inv-loop μ-loop

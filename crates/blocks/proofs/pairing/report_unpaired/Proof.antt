@@ -14,7 +14,7 @@ returns : tie.Need-returns
 returns c =
     let noted = c .before .before .before .before .before .before in
     let s = noted .before .before .before .before .before .before in
-    unmated-reported (s .args .lines .now) (s .args .bounds .now) (s .args .kinds .now) (s .pre)
+    unmated-reported (s .args .lines .now) (s .args .bounds .now) (s .args .kinds .now) (s .pre .0)
     (noted .note-mates .ensures) (c .before .before .report-unmated .ensures)
 
 pub report-unpaired-spec : {M : Type 1} → statement M

@@ -23,8 +23,14 @@ role-at-requires c κs =
     let at = c .before .before .loop in
     let s = c .before .before .before .before .before .before .before in (
       omega (arith, at .inv .standing, standing-low (s .args .bounds .now) (s .args .kinds .now) (at .j)),
-      omega (arith, c .before .loop-test .taken, s .pre),
+      omega (arith, c .before .loop-test .taken, s .pre .0),
+      s .pre .1 (at .j) (c .before .loop-test .taken),
     )
+
+standing-behind-requires : tie.Need-standing-behind-requires Inv-loop μ-loop
+standing-behind-requires c κs =
+    let test = c .before .before .before .before .before in
+    test .before .before .before .before .before .before .pre .1 (test .before .loop .j) (test .loop-test .taken)
 
 loop-again : tie.Need-loop-again Inv-loop μ-loop
 loop-again c =
@@ -50,7 +56,7 @@ note-roles-spec =
     loop-holds
     role-at-requires
     (λ c κs. search needs)
-    (λ c κs. search needs)
+    standing-behind-requires
     (λ c. search needs)
     (λ c. search needs)
     loop-again

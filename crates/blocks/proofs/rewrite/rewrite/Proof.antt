@@ -1,13 +1,14 @@
 -- The roles of the statements, and the kinds by them.
 use mathlib.Core.Path.{refl}
 use borrow.Author.Needs.{needs}
+use Rattle.blocks.proofs.StatementsStand.{turned-stand}
 use Rattle.blocks.proofs.KindsRenewed.{renewed-all}
 use Rattle.blocks.proofs.rewrite.rewrite.Statement.{statement}
 use Rattle.blocks.proofs.rewrite.rewrite.Tie as tie
 
 note-roles-requires : tie.Need-note-roles-requires
 note-roles-requires c κs =
-    c .before .before .before .before .before .pre .few
+    let turned = c .before .before .before .before .before .pre in (turned .few, turned-stand turned)
 
 renew-all-requires : tie.Need-renew-all-requires
 renew-all-requires c κs =

@@ -4,6 +4,7 @@ use native.Mathlib.Omega.{arith}
 use borrow.Author.Needs.{needs}
 use Rattle.blocks.specs.Grouped.{unitArrays}
 use Rattle.blocks.proofs.GroupStages.{counted-many, counted-few, united-listed, follows-turned}
+use Rattle.blocks.proofs.GroupStages.{follows-stand}
 use Rattle.blocks.proofs.NoBrackets.{kinds-kept, unbracketed}
 use Rattle.blocks.proofs.stages.run.Statement.{statement}
 use Rattle.blocks.proofs.stages.run.Tie as tie
@@ -28,7 +29,7 @@ returns c =
     (c .refusal .ensures)
 
 has-bracket-requires : tie.Need-has-bracket-requires
-has-bracket-requires c κs = start (counting (c .before)) .pre .few
+has-bracket-requires c κs = follows-stand (start (counting (c .before)) .pre)
 
 -- ---- with a header or an end
 run-blocks-requires : tie.Need-run-blocks-requires
@@ -49,7 +50,7 @@ returns-2 c =
 
 -- ---- without
 list-units-requires : tie.Need-list-units-requires
-list-units-requires c κs = start (counting (few (c .before .before .before .before .before))) .pre .few
+list-units-requires c κs = follows-stand (start (counting (few (c .before .before .before .before .before))) .pre)
 
 returns-3 : tie.Need-returns-3
 returns-3 c =

@@ -2,7 +2,7 @@
 use borrow.Author.Needs.{needs}
 use Rattle.blocks.specs.Grouped.{unitArrays}
 use Rattle.blocks.proofs.GroupStages.{paired-fault, paired-none, inside-fault, inside-none, united-listed}
-use Rattle.blocks.proofs.GroupStages.{follows-small, follows-turned}
+use Rattle.blocks.proofs.GroupStages.{follows-small, follows-turned, follows-stand}
 use Rattle.blocks.proofs.stages.run_blocks.Statement.{statement}
 use Rattle.blocks.proofs.stages.run_blocks.Tie as tie
 
@@ -25,7 +25,7 @@ start p = p .before .before .before .before .before .before .before .before .bef
 -- ---- 25
 report-unpaired-requires : tie.Need-report-unpaired-requires
 report-unpaired-requires c κs =
-    c .before .before .before .before .before .before .before .before .before .before .pre .0 .few
+    follows-stand (c .before .before .before .before .before .before .before .before .before .before .pre .0)
 
 returns : tie.Need-returns
 returns c =
@@ -36,7 +36,8 @@ returns c =
 
 -- ---- 26
 report-inside-requires : tie.Need-report-inside-requires
-report-inside-requires c κs = follows-small (start (pairing (c .before .before)) .pre)
+report-inside-requires c κs =
+    let fit = start (pairing (c .before .before)) .pre in (follows-small fit, follows-stand (fit .0) .1)
 
 returns-2 : tie.Need-returns-2
 returns-2 c =
@@ -53,7 +54,7 @@ returns-2 c =
 -- ---- the units, and the kinds inside
 list-units-requires : tie.Need-list-units-requires
 list-units-requires c κs =
-    let i = inside (c .before .before .before .before) in start (pairing (clear i)) .pre .0 .few
+    let i = inside (c .before .before .before .before) in follows-stand (start (pairing (clear i)) .pre .0)
 
 rewrite-requires : tie.Need-rewrite-requires
 rewrite-requires c κs =

@@ -22,12 +22,16 @@ loop-holds c =
     let a = c .before .before .before .before .before .before .args in
     listing-first (a .lines .now) (a .bounds .now) (a .kinds .now) (a .ulines .now) (a .ubounds .now) (a .firsts .now)
 
+leading-kind-requires : tie.Need-leading-kind-requires Inv-loop μ-loop
+leading-kind-requires c κs =
+    c .before .before .before .before .before .before .before .before .pre .1 (c .before .loop .j) (c .loop-test .taken)
+
 put-unit-requires : tie.Need-put-unit-requires Inv-loop μ-loop
 put-unit-requires c κs =
     let bound = c .before .before .before in
     let line = bound .before in
     let at = line .before .before .before .before in
-    let few = at .before .before .before .before .before .before .before .pre in (
+    let few = at .before .before .before .before .before .before .before .pre .0 in (
       line .short-at .ensures .1,
       bound .short-at2 .ensures .1,
       omega (arith, at .loop .inv .within, few),
@@ -53,7 +57,7 @@ put-short-requires c κs = c .short-at3 .ensures .1
 put-short-requires-2 : tie.Need-put-short-requires-2 Inv-loop μ-loop
 put-short-requires-2 c κs =
     let at = c .before .before .before .before .before .before .before in
-    let few = at .before .before .before .before .before .before .before .pre in
+    let few = at .before .before .before .before .before .before .before .pre .0 in
     omega (arith, few)
 
 same-length : tie.Need-same-length Inv-loop μ-loop
@@ -87,7 +91,7 @@ list-units-spec =
     Inv-loop
     μ-loop
     loop-holds
-    (λ c κs. search needs)
+    leading-kind-requires
     (λ c κs. search needs)
     (λ c κs. search needs)
     (λ c κs. search needs)
