@@ -1,5 +1,6 @@
 -- The loop goes over the drafts.
 use Prim.Native.Nat.{_-_}
+use mathlib.Core.Path.{refl}
 use borrow.Author.Needs.{needs}
 use lib.ListN.{length}
 use Rattle.model.proofs.DefinitionsCollected.{Collecting, collecting-first, collecting-next, collecting-last}
@@ -18,9 +19,8 @@ loop-holds c = collecting-first _ _ _ _
 loop-again : tie.Need-loop-again Inv-loop μ-loop
 loop-again c =
     let noting = c .before .before .before .before in
-    let word = noting .before .before .before in
-    let test = word .before .before in
-    collecting-next (test .before .loop .inv) (test .loop-test .taken) (word .word-at .ensures) (noting .note .ensures)
+    let test = noting .before .before .before .before .before in
+    collecting-next (test .before .loop .inv) (test .loop-test .taken) refl (noting .note .ensures)
 
 same-length : tie.Need-same-length Inv-loop μ-loop
 same-length c = c .before .loop .inv .keys-so .long
@@ -39,7 +39,8 @@ collect-spec =
     μ-loop
     loop-holds
     (λ c. search needs)
-    (λ c κs. search needs)
+    (λ c. search needs)
+    (λ c. search needs)
     (λ c κs. search needs)
     (λ c. search needs)
     (λ c. search needs)
