@@ -94,14 +94,8 @@ module _ {text list₀ : List ℕ} (taken : Taken text list₀) (not-many : leng
   lines-many = ap length (r .laid .lines-held) ∙ length-map (said (sheetOf text)) (λ (s : Numbered). s .line)
       ∙ sym (r .statements)
 
-  pub lines-enough : n .statements ≤ length lines
-  lines-enough = omega (arith, lines-many, length-take (n .statements) lines)
-
   pub bounds-count : length (take (n .statements + 1) bounds) ≡ n .statements + 1
   bounds-count = omega (arith, ap length (bounds-laid .bounds-held), bounds-many 0 (said (sheetOf text)), r .statements)
-
-  pub bounds-enough : n .statements + 1 ≤ length bounds
-  bounds-enough = omega (arith, bounds-count, length-take (n .statements + 1) bounds)
 
   -- and all fits
   pub ready-so : {used : List ℕ} → n .drafts ≤ length used
@@ -155,7 +149,7 @@ module _ {text list₀ kinds args lines bounds list : List ℕ} {r : HowFar}
       → ReadThrough text list₀ n kinds args lines bounds list × (length (sheetOf text) ≤ mostStatements)
   came-through e = rw e at w
 
--- a text whose faults are listed at once
+-- then there is all that the verdict on it asks, with so much room for what is used
 unfoldable pub read-so : {text list₀ kinds args used lines bounds list : List ℕ} {n : SoFar} → Taken text list₀
     → length (sheetOf text) ≤ mostStatements → ReadThrough text list₀ n kinds args lines bounds list
     → length kinds ≤ length used

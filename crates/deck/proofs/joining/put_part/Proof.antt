@@ -32,9 +32,16 @@ returns : tie.Need-returns
 returns c =
     let p = c .before .before .before .before .before in
     let a = p .before .before .before .args in
-    (omega (arith, p .part-len .ensures), c .before .before .put-bytes .ensures ∙ ap (sets (a .out .now) (a .at)) (whole p))
+    let put = c .before .before .put-bytes .ensures in
+    (omega (arith, p .part-len .ensures), put ∙ ap (sets (a .out .now) (a .at)) (whole p))
 
 pub put-part-spec : {M : Type 1} → statement M
 put-part-spec =
     tie.close
-    (tie.spec (λ c κs. search needs) slice-aggregate-put-bytes (λ c κs. search needs) add-result (λ c. search needs) returns)
+    (tie.spec
+    (λ c κs. search needs)
+    slice-aggregate-put-bytes
+    (λ c κs. search needs)
+    add-result
+    (λ c. search needs)
+    returns)

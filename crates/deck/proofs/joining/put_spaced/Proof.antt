@@ -8,7 +8,8 @@ use Rattle.deck.proofs.joining.put_spaced.Tie as tie
 returns : tie.Need-returns
 returns c =
     let p = c .before .before in
-    (p .put-part .ensures .0, p .put-part .ensures .1 ∙ rw (p .before .before .before .before .put-bytes .ensures, add-one))
+    let space = p .before .before .before .before .put-bytes .ensures in
+    (p .put-part .ensures .0, p .put-part .ensures .1 ∙ rw (space, add-one))
 
 pub put-spaced-spec : {M : Type 1} → statement M
 put-spaced-spec =

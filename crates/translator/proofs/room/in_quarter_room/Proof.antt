@@ -8,7 +8,8 @@ use Rattle.translator.proofs.room.in_quarter_room.Tie as tie
 
 try-room-requires : tie.Need-try-room-requires
 try-room-requires c κs =
-    let start = c .before .before .before .before .before .before .before .before .before .before .before .before .before in
+    let made = c .before .before .before .before .before .before in
+    let start = made .before .before .before .before .before .before .before in
     (room-of quarter (own-list (start .pre)), start .pre, omega arith)
 
 pub in-quarter-room-spec : {M : Type 1} → statement M

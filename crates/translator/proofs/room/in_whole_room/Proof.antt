@@ -8,13 +8,15 @@ use Rattle.translator.proofs.room.in_whole_room.Tie as tie
 
 try-room-requires : tie.Need-try-room-requires
 try-room-requires c κs =
-    let start = c .before .before .before .before .before .before .before .before .before .before .before .before .before in
+    let made = c .before .before .before .before .before .before in
+    let start = made .before .before .before .before .before .before .before in
     (room-of textBytes (own-list (start .pre)), start .pre, omega arith)
 
 returns : tie.Need-returns
 returns c =
     let t = c .before .before .before .before .before .before .before .before .before .before .before .before .before in
-    never-full (t .try-room .ensures) (t .before .before .before .before .before .before .before .before .before .before .before .before .before .before .pre .brief)
+    let made = t .before .before .before .before .before .before .before in
+    never-full (t .try-room .ensures) (made .before .before .before .before .before .before .before .pre .brief)
 
 pub in-whole-room-spec : {M : Type 1} → statement M
 in-whole-room-spec =

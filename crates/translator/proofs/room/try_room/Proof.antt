@@ -103,7 +103,9 @@ abbrev decided : tie.After-with-answer2 → tie.After-decide
 decided c = c .before .before .before .before .before .before .before .before .before .before .before .before .before
 
 abbrev first-read : tie.After-with-answer2 → tie.After-read-all
-first-read c = read (through (decided c .before .before .before .before .before .before .before .before .before .before .before))
+first-read c =
+    let p = decided c .before .before .before .before .before .before .before .before .before .before .before in
+    read (through p)
 
 same-length-13 : tie.Need-same-length-13
 same-length-13 c = decided c .decide .kept .1 .1 .1 .0 ∙ first-read c .read-all .kept .1 .0
