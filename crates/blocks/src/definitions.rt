@@ -5,25 +5,16 @@ ghost use lib.ListN.{length};
 ghost use Rattle.laws.specs.Counts.{once};
 ghost use Rattle.drafts.specs.Kinds.{defines};
 ghost use Rattle.blocks.specs.Places.{definingIn};
-use drafts::CONSTANT;
-use drafts::GIVEN;
-use drafts::INITIAL;
-use drafts::OWN;
-use drafts::STORE;
+use drafts::is_defining;
 
 // How many drafts are counted at once: fewer than a byte can count.
 const PART: usize = 192;
 
-// 1 of a kind that defines its name, 0 of any other. Every comparison is made, so that many kinds are tested at once.
+// 1 of a kind that defines its name, 0 of any other.
 fn one_of(kind: u8) -> u8
     ensures { λ r. ⌜ (r ≡ once (defines kind)) × (r ≤ 1) ⌝ }
 {
-    let defining = (kind == CONSTANT)
-        | (kind == INITIAL)
-        | (kind == STORE)
-        | (kind == GIVEN)
-        | (kind == OWN);
-    if defining { 1 } else { 0 }
+    if is_defining(kind) { 1 } else { 0 }
 }
 
 // How many drafts of a short part define a name.

@@ -63,18 +63,11 @@ pub const ENDING: u8 = 23;
 
 // ---- what a kind is for
 
-// Whether a draft of this kind defines its name.
+// Whether a draft of this kind defines its name. Every comparison is made, so that many kinds are tested at once.
 pub fn is_defining(kind: u8) -> bool
     ensures { λ r. ⌜ WhetherDefining kind r ⌝ }
 {
-    match kind {
-        CONSTANT => true,
-        INITIAL => true,
-        STORE => true,
-        GIVEN => true,
-        OWN => true,
-        _ => false,
-    }
+    (kind == CONSTANT) | (kind == INITIAL) | (kind == STORE) | (kind == GIVEN) | (kind == OWN)
 }
 
 // Whether it uses what assigns its name.

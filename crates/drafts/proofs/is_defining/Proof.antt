@@ -1,28 +1,22 @@
--- Each kind that defines a name is told apart.
-use borrow.Author.Tests.{ne-eqb}
+-- The comparisons are those by which a kind defines its name.
+use mathlib.Core.Path.{_≡_, refl}
+use mathlib.Core.Bool.{Bool, true, false, _||_}
+use lib.Dec.{eqb}
 use Rattle.drafts.specs.Kinds.{kindConstant, kindInitial, kindStore, kindGiven, kindOwn}
 use Rattle.drafts.proofs.is_defining.Statement.{statement}
 use Rattle.drafts.proofs.is_defining.Tie as tie
 
--- none of them
-returns-6 : tie.Need-returns-6
-returns-6 c =
-    let none = c .match .rest in
-    rw (
-      ne-eqb _ kindConstant (none .0 .0 .0 .0 .1),
-      ne-eqb _ kindInitial (none .0 .0 .0 .1),
-      ne-eqb _ kindStore (none .0 .0 .1),
-      ne-eqb _ kindGiven (none .0 .1),
-      ne-eqb _ kindOwn (none .1),
-    )
+-- joined from the first on, or from the last
+joined : (a b c d e : Bool) → ((((a || b) || c) || d) || e) ≡ (a || (b || (c || (d || e))))
+joined true b c d e = refl
+joined false true c d e = refl
+joined false false true d e = refl
+joined false false false d e = refl
+
+returns : tie.Need-returns
+returns c =
+    let k = c .args .kind in
+    joined (eqb k kindConstant) (eqb k kindInitial) (eqb k kindStore) (eqb k kindGiven) (eqb k kindOwn)
 
 pub is-defining-spec : {M : Type 1} → statement M
-is-defining-spec =
-    tie.close
-    (tie.spec
-    (λ c. rw (c .match .keys1))
-    (λ c. rw (c .match .keys2))
-    (λ c. rw (c .match .keys3))
-    (λ c. rw (c .match .keys4))
-    (λ c. rw (c .match .keys5))
-    returns-6)
+is-defining-spec = tie.close (tie.spec returns)
