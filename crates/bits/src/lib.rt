@@ -1,4 +1,6 @@
 // Numbers as bytes, low first, and floats as their bits; reads that give 0 past an end.
+#![tactic(auto)]
+
 ghost use Rattle.std.specs.Prelude.{◌≡◌, ◌+◌, leb};
 ghost use Rattle.std.proofs.lemmas.List.Edits.{sets};
 ghost use Rattle.bits.specs.Low.{low_bytes};

@@ -1,4 +1,5 @@
 // The paper's limits, each named once. The definitions have the same names in specs/Limits.antt.
+#![tactic(auto)]
 
 // The verdict's limits.
 pub const FAULT_ROOM: usize = 4096;

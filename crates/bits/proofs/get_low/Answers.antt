@@ -1,0 +1,35 @@
+-- The loop reads from the last byte to the first.
+use Prim.Native.Nat.{◌<◌, ◌^◌, ◌≤◌, min}
+use native.Mathlib.Omega.{arith}
+use borrow.Author.Rules.{rules}
+use Rattle.bits.proofs.Lows.{Reading, reading_first, reading_next, reading_fits, reading_last}
+use Rattle.bits.proofs.get_low.Goals as goal
+
+pub loop-i-init : goal.loop-i-init
+loop-i-init c =
+    reading_first c.args.part.now (min c.args.n 8) c.least-i.result
+    (omega (arith, c.least-i.ensures, c.least.ensures))
+
+pub overflow_mul-word : goal.overflow_mul-word
+overflow_mul-word c =
+    let small : c.loop-i.word < 256 ^ 7 = let h : min c.args.n 8 ≤ 8 = omega arith in
+    reading_fits c.args.part.now (min c.args.n 8) c.loop-i.i c.loop-i.word h
+    c.loop-i-test.true c.loop-i.invariant in
+    omega (arith, small)
+
+pub overflow_add-word : goal.overflow_add-word
+overflow_add-word c =
+    let small : c.loop-i.word < 256 ^ 7 = let h : min c.args.n 8 ≤ 8 = omega arith in
+    reading_fits c.args.part.now (min c.args.n 8) c.loop-i.i c.loop-i.word h
+    c.loop-i-test.true c.loop-i.invariant in
+    omega (arith, small)
+
+pub loop-i-preserved : goal.loop-i-preserved
+loop-i-preserved c =
+    reading_next c.args.part.now (min c.args.n 8) c.loop-i.i c.loop-i.word c.wide.result
+    c.loop-i-test.true c.wide.ensures.0 c.wide.ensures.1 c.loop-i.invariant
+
+pub returns : goal.returns
+returns c =
+    reading_last c.args.part.now (min c.args.n 8) c.loop-i.i c.loop-i.word c.loop-i-test.false
+    c.loop-i.invariant

@@ -1,0 +1,14 @@
+-- The loop reads from the last byte to the first.
+use Prim.Native.Nat.{◌<◌, ◌^◌, ◌≤◌, min}
+use native.Mathlib.Omega.{arith}
+use borrow.Author.Rules.{rules}
+use Rattle.bits.proofs.Lows.{Reading, reading_first, reading_next, reading_fits, reading_last}
+use Rattle.bits.proofs.get_low.Given as goal
+
+abbrev pub invariant-loop-i : goal.invariant-loop-i
+invariant-loop-i l =
+    Reading l.part (min l.n 8) l.i l.word
+
+abbrev pub decreases-loop-i : goal.decreases-loop-i
+decreases-loop-i l =
+    l.i

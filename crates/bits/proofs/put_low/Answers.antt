@@ -1,0 +1,24 @@
+-- The loop writes from the first byte to the last for which there is a place.
+use Prim.Native.Nat.{◌-◌, min}
+use mathlib.Core.Path.{◌≡◌}
+use native.Mathlib.Omega.{arith}
+use borrow.Author.Rules.{rules}
+use lib.ListN.{length}
+use Rattle.bits.proofs.Lows.{Writing, writing_first, writing_next, writing_last}
+use Rattle.bits.proofs.put_low.Goals as goal
+
+pub loop-i-init : goal.loop-i-init
+loop-i-init c =
+    (c.room-count.ensures, writing_first c.args.buf.now c.args.at c.args.n c.args.v)
+
+pub loop-i-preserved : goal.loop-i-preserved
+loop-i-preserved c = (
+  c.loop-i.invariant.0,
+  writing_next c.args.buf.now c.loop-i.buf c.args.at c.args.n c.args.v c.loop-i.rest
+      c.loop-i.i (omega arith) c.loop-i.invariant.1,
+)
+
+pub returns : goal.returns
+returns c =
+    writing_last c.args.buf.now c.loop-i.buf c.args.at c.args.n c.args.v c.loop-i.rest c.loop-i.i
+    (omega arith) c.loop-i.invariant.1

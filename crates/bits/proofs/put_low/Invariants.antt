@@ -1,0 +1,16 @@
+-- The loop writes from the first byte to the last for which there is a place.
+use Prim.Native.Nat.{◌-◌, min}
+use mathlib.Core.Path.{◌≡◌}
+use native.Mathlib.Omega.{arith}
+use borrow.Author.Rules.{rules}
+use lib.ListN.{length}
+use Rattle.bits.proofs.Lows.{Writing, writing_first, writing_next, writing_last}
+use Rattle.bits.proofs.put_low.Given as goal
+
+abbrev pub invariant-loop-i : goal.invariant-loop-i
+invariant-loop-i l =
+    (l.count ≡ min (length l.initial.buf - l.at) l.n) × Writing l.initial.buf l.buf l.at l.n l.v l.rest l.i
+
+abbrev pub decreases-loop-i : goal.decreases-loop-i
+decreases-loop-i l =
+    l.count - l.i
