@@ -1,7 +1,7 @@
 -- Where headers and ends stand that are paired: each place in one pair at most, headers at headers, ends at ends, and
 -- each header before its end.
 use Prim.Native.Nat.{ℕ, zero, suc, ◌+◌, ◌≤◌, ◌<◌}
-use mathlib.Core.Path.{◌≡◌, refl}
+use mathlib.Core.Path.{◌≡◌, refl, sym, ap, ◌∙◌}
 use mathlib.Core.Logic.{⊎_elim}
 use mathlib.Core.List.{List, [], ◌∷◌}
 use native.Mathlib.Omega.{arith}
@@ -83,7 +83,9 @@ tail_shuts [] i (shuts ∷ bs) (suc k) e =
     let z : i + suc k ≡ suc i + k = omega arith in rw z (tail_shuts [] (suc i) bs k e)
 tail_shuts (g ∷ left) i (shuts ∷ bs) (suc k) e =
     let z : i + suc k ≡ suc i + k = omega arith in
-    rw z (omega (arith, tail_shuts left (suc i) bs k e, once_other (suc i + k) i (λ e. omega arith)))
+    let m : count (suc i + k) (tails (pairs_from (g ∷ left) i (shuts ∷ bs))) ≡ 0 =
+    omega (arith, tail_shuts left (suc i) bs k e, once_other (suc i + k) i (λ e. omega arith)) in
+    ap (λ h. count h (tails (pairs_from (g ∷ left) i (shuts ∷ bs)))) z ∙ m
 tail_shuts left i (neither ∷ bs) (suc k) e =
     let z : i + suc k ≡ suc i + k = omega arith in rw z (tail_shuts left (suc i) bs k e)
 
@@ -97,8 +99,10 @@ head_opens [] i (shuts ∷ bs) zero e n =
     let z : i + 0 ≡ i = omega arith in rw z (omega (arith, pairs_few [] (suc i) bs i, not_yet i))
 head_opens (g ∷ left) i (shuts ∷ bs) zero e n =
     let z : i + 0 ≡ i = omega arith in
-    let m : once (eqb i g) + count i left ≡ 0 = rw z at n in
-    rw z (omega (arith, pairs_few left (suc i) bs i, not_yet i))
+    let m : once (eqb i g) + count i left ≡ 0 = ap (λ h. count h (g ∷ left)) (sym z) ∙ n in
+    let r : count i (heads (pairs_from (g ∷ left) i (shuts ∷ bs))) ≡ 0 =
+    omega (arith, pairs_few left (suc i) bs i, not_yet i) in
+    ap (λ h. count h (heads (pairs_from (g ∷ left) i (shuts ∷ bs)))) z ∙ r
 head_opens left i (neither ∷ bs) zero e n = neither_shuts e
 head_opens left i (opens ∷ bs) (suc k) e n =
     let z : i + suc k ≡ suc i + k = omega arith in
@@ -108,8 +112,10 @@ head_opens [] i (shuts ∷ bs) (suc k) e n =
     let z : i + suc k ≡ suc i + k = omega arith in rw z (head_opens [] (suc i) bs k e refl)
 head_opens (g ∷ left) i (shuts ∷ bs) (suc k) e n =
     let z : i + suc k ≡ suc i + k = omega arith in
-    let m : once (eqb (suc i + k) g) + count (suc i + k) left ≡ 0 = rw z at n in
-    rw z (omega (arith, head_opens left (suc i) bs k e (omega arith)))
+    let m : once (eqb (suc i + k) g) + count (suc i + k) left ≡ 0 = ap (λ h. count h (g ∷ left)) (sym z) ∙ n in
+    let r : count (suc i + k) (heads (pairs_from (g ∷ left) i (shuts ∷ bs))) ≡ 0 =
+    omega (arith, head_opens left (suc i) bs k e (omega arith)) in
+    ap (λ h. count h (heads (pairs_from (g ∷ left) i (shuts ∷ bs)))) z ∙ r
 head_opens left i (neither ∷ bs) (suc k) e n =
     let z : i + suc k ≡ suc i + k = omega arith in
     let m : count (suc i + k) left ≡ 0 = rw z at n in

@@ -1,4 +1,6 @@
 // Units: single statements, and procedural blocks with the statements inside; the faults 25 and 26.
+#![tactic(auto)]
+
 ghost use Rattle.blocks.specs.Grouped.{unit_arrays};
 ghost use Rattle.blocks.specs.Contract.{Groups};
 

@@ -142,12 +142,12 @@ byte_column d (l ∷ ls) n =
     go false false h ih = omega (arith, ih (n - suc (length (line_part l))))
 
 -- of the last card
-last_column : (m : ℕ) (z : Spot) (d : ℕ) (ls : List Line) → z.column ≤ m → spread ls + 1 ≤ m
+last_column_holds : (m : ℕ) (z : Spot) (d : ℕ) (ls : List Line) → z.column ≤ m → spread ls + 1 ≤ m
     → (last_spot z d ls).column ≤ m
 unfolding last_spot spread
-last_column m z d [] h k = h
-last_column m z d (l ∷ ls) h k =
-    last_column m (cond (starred l) z (spot d (last_column (length l)))) (suc d) ls (go (starred l)) (omega arith)
+last_column_holds m z d [] h k = h
+last_column_holds m z d (l ∷ ls) h k =
+    last_column_holds m (cond (starred l) z (spot d (last_column (length l)))) (suc d) ls (go (starred l)) (omega arith)
   where
     go : (s : Bool) → (cond s z (spot d (last_column (length l)))).column ≤ m
     go true = h
@@ -157,4 +157,4 @@ last_column m z d (l ∷ ls) h k =
 pub spot_column : (ls : List Line) (p : Place) → (spot_of ls p).column ≤ spread ls + 1
 spot_column ls AtStart = omega arith
 spot_column ls (AtToken n) = byte_column 0 ls n
-spot_column ls AtEnd = last_column (spread ls + 1) first_byte 0 ls (omega arith) (omega arith)
+spot_column ls AtEnd = last_column_holds (spread ls + 1) first_byte 0 ls (omega arith) (omega arith)

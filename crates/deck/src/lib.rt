@@ -1,4 +1,6 @@
 // Lines and statements of a text; the faults 11, 12 and 13; a statement's joined text.
+#![tactic(auto)]
+
 mod counts;
 mod joining;
 mod lines;

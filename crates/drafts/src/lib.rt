@@ -1,5 +1,7 @@
 // The middle language between grammar and program: drafts, each a kind and an argument. A draft is a record to be, with
 // a name's key in the place of its slot.
+#![tactic(auto)]
+
 ghost use Rattle.drafts.specs.Contract.{WhetherDefining, WhetherUse, WhetherAsking, WhetherNamed, WhetherClosing};
 ghost use Rattle.drafts.specs.Contract.{CountsDraft, FindsHome};
 

@@ -1,4 +1,6 @@
 // Evaluating a program on lent values and derivatives, starting it, and one Euler step.
+#![tactic(auto)]
+
 mod judge;
 mod run;
 mod stack;

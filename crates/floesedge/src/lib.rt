@@ -1,4 +1,6 @@
 // The library that other languages link: the translator and the evaluator with answers of fixed layout.
+#![tactic(auto)]
+
 ghost use Rattle.std.specs.Prelude.{◌≡◌, ◌≤◌};
 ghost use Rattle.limits.specs.Limits.{most_records};
 ghost use Rattle.translator.specs.Contract.{number_in, count_in, number_named, count_named};

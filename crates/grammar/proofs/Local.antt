@@ -176,7 +176,7 @@ loc_suc {A} d s g h q l = record { ends = rw (q d s) (go (g d s).end l.ends) }
     go (got e t) a = (
       a.0,
       a.1,
-      λ d'. elim d' [
+      λ d'. elim d' as (λ j. (u : List Symbol) → suc d ≤ j → Like u t → (h j (a.0 ++ u)).end ≡ got e u) [
         | zero ↦ λ u le like. absurd (omega arith)
         | suc n ↦ λ u le like. rw (q n (a.0 ++ u)) (a.2 n u (omega arith) like)
       ],
@@ -184,10 +184,11 @@ loc_suc {A} d s g h q l = record { ends = rw (q d s) (go (g d s).end l.ends) }
     go (bad c t) a = (
       a.0,
       a.1,
-      λ d'. elim d' [
-        | zero ↦ λ u le n like. absurd (omega arith)
-        | suc n ↦ λ u le m like. rw (q n (a.0 ++ u)) (a.2 n u (omega arith) (λ z. let y = m z in omega arith) like)
-      ],
+      λ d'. elim d' as (λ j. (u : List Symbol) → suc d ≤ j → (c ≡ 19 → j ≡ suc d) → Like u t
+          → (h j (a.0 ++ u)).end ≡ bad c u) [
+            | zero ↦ λ u le n like. absurd (omega arith)
+            | suc n ↦ λ u le m like. rw (q n (a.0 ++ u)) (a.2 n u (omega arith) (λ z. let y = m z in omega arith) like)
+          ],
     )
 
 module _ (f d : ℕ) (ih : (m : Mode) (s : List Symbol) → At m s → Loc d s (parse f m)) where

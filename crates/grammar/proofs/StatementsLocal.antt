@@ -10,14 +10,14 @@ use Rattle.drafts.specs.Drafts.{draft, constant_drafts, initial_draft}
 use Rattle.grammar.specs.Look.{next, rest, Op, add_op, Start, Constants, Integral, Named, Valued, Header}
 use Rattle.grammar.specs.Look.{Ending, Other, start_of}
 use Rattle.grammar.specs.Grammar.{expr}
-use Rattle.grammar.specs.Parser.{Res, give, stop, tell, bind, by_name, by_number, by_integral, need}
+use Rattle.grammar.specs.Parser.{got, bad, Res, give, stop, tell, bind, by_name, by_number, by_integral, need}
 use Rattle.grammar.specs.Parser.{behind_sign, parse}
 use Rattle.grammar.specs.Parser.{signed_value, a_number, by_signed_number, on_more, valued, many, initially}
 use Rattle.grammar.specs.Parser.{assigned, rated, begun_state, integrated, equated, many_names, with_inputs}
 use Rattle.grammar.specs.Parser.{block_named, headed, form_of, statement, at_end, entire}
 use Rattle.grammar.proofs.Endings.{here_mark}
 use Rattle.grammar.proofs.Looks.{add_here, start_cases}
-use Rattle.grammar.proofs.Local.{Reading, Loc, loc_bind, loc_seen, loc_rest, loc_tell, loc_give, loc_stop}
+use Rattle.grammar.proofs.Local.{Like, Reading, Loc, loc_bind, loc_seen, loc_rest, loc_tell, loc_give, loc_stop}
 use Rattle.grammar.proofs.Local.{loc_mark, loc_need, loc_behind, local}
 
 -- by what stands next
@@ -162,9 +162,17 @@ statement_loc f d s =
 -- the end, or one token too many
 ended_loc : (d : ℕ) (x : Says) (t : List Symbol) → Loc d t (λ _. at_end x)
 ended_loc d x [] =
-    record { ends = ([], refl, λ d' u. elim u [ [] ↦ λ le like. refl | a ∷ v ↦ λ le like. absurd like ]) }
+    record { ends = ([], refl, λ d' u le like. done u like) }
+  where
+    done : (u : List Symbol) → Like u [] → (at_end x u).end ≡ got x u
+    done [] like = refl
+    done (a ∷ v) like = absurd like
 ended_loc d x (a ∷ t) =
-    record { ends = ([], refl, λ d' u. elim u [ [] ↦ λ le n like. absurd like | b ∷ v ↦ λ le n like. refl ]) }
+    record { ends = ([], refl, λ d' u le n like. over u like) }
+  where
+    over : (u : List Symbol) → Like u (a ∷ t) → (at_end x u).end ≡ bad 18 u
+    over [] like = absurd like
+    over (b ∷ v) like = refl
 
 -- a row, read as a statement with nothing behind it
 pub entire_loc : (f d : ℕ) (s : List Symbol) → Loc d s (entire f)

@@ -1,4 +1,6 @@
 // The grammar of statements: a row of tokens is read, and its drafts are written.
+#![tactic(auto)]
+
 ghost use Rattle.std.specs.Prelude.{◌≡◌, ◌+◌, length, ltb};
 ghost use Rattle.grammar.specs.Contract.{ParsesRow};
 

@@ -1,6 +1,11 @@
 // The listing program: reads a text from standard input to its end, and writes its listing.
-use libc::{STDERR_FILENO, STDIN_FILENO, STDOUT_FILENO};
+#![tactic(auto)]
+
+ghost use Rattle.std.specs.Prelude.{◌≤◌, length};
+
 use limits::{STATEMENTS, TEXT_BYTES};
+use std::io;
+use std::io::Read;
 
 // A byte more than a text may have: what is longer is refused by its size, whatever follows.
 const READ: usize = TEXT_BYTES + 1;
@@ -12,31 +17,48 @@ const LINE: usize = 12;
 const LISTED: usize = LINE * (STATEMENTS + 1);
 
 // Writes the first m bytes, or says that there are not so many.
-fn write_front(out: &[u8], m: usize) {
+fn write_front(rt: &(impl Print + Eprint), out: &[u8], m: usize) -> io::Result<()> {
     if out.len() < m {
-        io::write_all(STDERR_FILENO, b"the listing is longer than its room\n");
-        return;
+        return eprintln!(rt; "the listing is longer than its room");
     }
-    io::write_all(STDOUT_FILENO, &out[..m]);
+    rt.write_all(&out[..m])
 }
 
-// Whether standard input has ended: a read gives no byte and does not fail.
-fn at_end() -> bool {
+// Reads until the buffer is full, the input ends or a read fails; how many bytes.
+fn read_full(input: &mut impl Read, buf: &mut [u8]) -> usize
+    ensures { result ≤ length buf.new }
+{
+    let mut done: usize = 0;
+    while done < buf.len() {
+        match input.read(&mut buf[done..]) {
+            Ok(0) => return done,
+            Ok(n) => done += n,
+            Err(_) => return done,
+        }
+    }
+    done
+}
+
+// Whether the input has ended: a read gives no byte and does not fail.
+fn at_end(input: &mut impl Read) -> bool {
     let mut byte = [0u8; 1];
-    libc::read(STDIN_FILENO, &mut byte) == 0
+    match input.read(&mut byte) {
+        Ok(n) => n == 0,
+        Err(_) => false,
+    }
 }
 
 // Reads, lists, writes. A text whose reading failed before its end is not listed.
-fn main() {
+fn main(rt: HostRuntime) -> io::Result<()> {
+    let mut input = rt.stdin();
     let mut text = [0u8; READ];
     let mut out = [0u8; LISTED];
-    let n = io::read_full(STDIN_FILENO, &mut text);
+    let n = read_full(&mut input, &mut text);
     if n < READ {
-        if !at_end() {
-            io::write_all(STDERR_FILENO, b"the text could not be read to its end\n");
-            return;
+        if !at_end(&mut input) {
+            return eprintln!(&rt; "the text could not be read to its end");
         }
     }
     let m = listing_text::list(&text[..n], &mut out);
-    write_front(&out, m);
+    write_front(&rt, &out, m)
 }

@@ -332,8 +332,9 @@ module _ (slot : ℕ → ℕ) where
   settled [] v d f = tt
   settled (g ∷ gs) v d f = (
     settled_first g (row gs) v d f.0,
-    rw (values_append g (row gs) v, derivs_append g (row gs) v d)
-        (settled gs (values_after g v) (derivs_after g v d) f.1),
+    subst (λ (x : List Float). Every (Rests x (derivs_after (g ++ row gs) v d)) gs) (sym (values_append g (row gs) v))
+        (subst (λ (y : List Float). Every (Rests (values_after (row gs) (values_after g v)) y) gs)
+        (sym (derivs_append g (row gs) v d)) (settled gs (values_after g v) (derivs_after g v d) f.1)),
   )
 
   -- ---- a group of one: at rest it holds, and back

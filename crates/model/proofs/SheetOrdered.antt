@@ -217,21 +217,22 @@ module _ (us : List TextUnit) where
     block_ends os is ns z e = drafts_are _ e ∙ block_end u.line os is ns z
 
     -- constants are not ordered, all others are
-    is_ordered : (x : UnitBody) → Body x → is_equated (length a) ≡ is_unit x
+    is_ordered_holds : (x : UnitBody) → Body x → is_equated (length a) ≡ is_unit x
     unfolding concat_map
-    is_ordered (single (constants [])) e =
+    is_ordered_holds (single (constants [])) e =
         let w = by_unit us in
         let l : end ≤ begin =
         omega (arith, begins_at w a u b p, ends_at w a u b p, ap length (drafts_are (single (constants [])) e)) in
         rw (le-ltb begin end l)
-    is_ordered (single (constants (c ∷ cs))) e =
+    is_ordered_holds (single (constants (c ∷ cs))) e =
         let r = constants_end c cs in
         ends_with r.0 (draft kind_number r.1)
         (drafts_are (single (constants (c ∷ cs))) e ∙ append-nil (concat_map constant_drafts (c ∷ cs)) ∙ r.2)
-    is_ordered (single (assignment k t)) e =
+    is_ordered_holds (single (assignment k t)) e =
         ends_with (expression_drafts t) (draft kind_store k) (assignment_end k t e)
-    is_ordered (single (state k i t)) e = ends_with (state_front k i t) (draft kind_rate k) (state_end k i t e)
-    is_ordered (block os is ns z) e = ends_with (block_front os is ns) (draft kind_ending 0) (block_ends os is ns z e)
+    is_ordered_holds (single (state k i t)) e = ends_with (state_front k i t) (draft kind_rate k) (state_end k i t e)
+    is_ordered_holds (block os is ns z) e =
+        ends_with (block_front os is ns) (draft kind_ending 0) (block_ends os is ns z e)
 
   -- WHAT STANDS AT EACH ROW: h gives at each unit's number what H says of it as a unit of the order
   pub ordered_by : {B : Type 0} (h : ℕ → B) (H : OrderUnit → B)
@@ -249,13 +250,13 @@ module _ (us : List TextUnit) where
       go : (a : List TextUnit) (u : TextUnit) (b : List TextUnit) → us ≡ a ++ u ∷ b → (x : UnitBody) → u.body ≡ x
           → EachUnit (λ o. h (length a) ≡ H o) u.line x
           → map h (only_if (is_equated (length a)) (length a)) ≡ map H (order_unit_of u.line x)
-      go a u b p (single (constants cs)) e w = rw (is_ordered a u b p (single (constants cs)) e)
+      go a u b p (single (constants cs)) e w = rw (is_ordered_holds a u b p (single (constants cs)) e)
       go a u b p (single (assignment k t)) e w =
-          rw (is_ordered a u b p (single (assignment k t)) e) (ap (λ r. r ∷ []) w.0)
+          rw (is_ordered_holds a u b p (single (assignment k t)) e) (ap (λ r. r ∷ []) w.0)
       go a u b p (single (state k i t)) e w =
-          rw (is_ordered a u b p (single (state k i t)) e) (ap (λ r. r ∷ []) w.0)
+          rw (is_ordered_holds a u b p (single (state k i t)) e) (ap (λ r. r ∷ []) w.0)
       go a u b p (block os is ns z) e w =
-          rw (is_ordered a u b p (block os is ns z) e) (ap (λ r. r ∷ []) w.0)
+          rw (is_ordered_holds a u b p (block os is ns z) e) (ap (λ r. r ∷ []) w.0)
 
   -- .. and so at one of them
   pub ordered_at : {B : Type 0} (h : ℕ → B) (H : OrderUnit → B) → map h (sheet_ordered us) ≡ map H (order_units us)

@@ -1,4 +1,6 @@
 // The model: what the statements of units define, the faults 21 to 24, and the order of the units.
+#![tactic(auto)]
+
 ghost use Rattle.model.specs.Plan.{lent};
 ghost use Rattle.model.specs.Contract.{Plans};
 

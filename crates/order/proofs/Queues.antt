@@ -198,7 +198,8 @@ module _ {n : ℕ} {h l v : List ℕ} (few : n ≤ most_statements) where
             ⊎_elim
             (λ (s : q ≡ j). rw (put_same g.queue j r s, s)
             (⊎_elim
-            (λ (w : i ≡ x). rw (w, get_or-set_same v x j 0 lv) (omega (arith, once_same x, once_same j, free j hj)))
+            (λ (w : i ≡ x). rw (w, get_or-set_same v x j 0 lv)
+            (omega (arith, once_same x, once_same j, ap (λ k. count k (g.queue j)) w, free j hj)))
             (λ w. rw (get_or-set_other v x i j 0 w) (omega (arith, once_other i x w, g.stands i j hi hj)))
             (eq_or_ne i x)))
             (λ s. rw (put_other g.queue j r s)

@@ -1,4 +1,6 @@
 // The order of statements: each after all it uses, the least first.
+#![tactic(auto)]
+
 ghost use Rattle.std.specs.Prelude.{◌≡◌, ℕ, ◌-◌, ◌≤◌, ◌<◌, length, get_or, set};
 ghost use Rattle.limits.specs.Limits.{most_statements};
 ghost use Rattle.order.specs.Greedy.{all, first};

@@ -1,1 +1,2 @@
 // What is promised of the definitions: theorems. No code.
+#![tactic(auto)]

@@ -1,5 +1,7 @@
 // What the statements of a text say, or their faults, which are listed: line (two bytes, low first), code, 0, the line
 // of the place and the column (two bytes each, low first).
+#![tactic(auto)]
+
 ghost use Rattle.sheet.specs.Contract.{PutsFault};
 
 use bits::reads::wide;

@@ -1,10 +1,13 @@
 // The slots program: reads a text from standard input to its end, and writes a line for each of its definitions: slot,
 // name, what it is, and first line, with a space between. For a refused text it writes nothing.
-ghost use Rattle.std.specs.Prelude.{◌<◌};
+#![tactic(auto)]
+
+ghost use Rattle.std.specs.Prelude.{◌<◌, ◌≤◌, length};
 
 use bits::reads::{byte_at, wide};
-use libc::{STDERR_FILENO, STDIN_FILENO, STDOUT_FILENO};
 use limits::{DEFINITIONS, FAULT_ROOM, ROSTER_BYTES, TEXT_BYTES};
+use std::io;
+use std::io::Read;
 use translator::Named;
 
 // A byte more than a text may have: what is longer is refused by its size, whatever follows.
@@ -51,9 +54,8 @@ fn put_bytes(out: &mut [u8; LINES], n0: usize, bytes: &[u8]) -> usize {
 
 // Writes a number in decimal digits.
 fn put_number(out: &mut [u8; LINES], n: usize, number: u64) -> usize {
-    let mut digits = [0u8; 20];
-    let k = io::decimal(number, &mut digits);
-    put_bytes(out, n, &digits[..k])
+    let mut digits = itoa::Buffer::new();
+    put_bytes(out, n, digits.format(number).as_bytes())
 }
 
 // Writes a number and a space.
@@ -128,40 +130,57 @@ fn entries(answer: Named) -> usize {
 }
 
 // Prints the first m bytes, or says that there are not so many.
-fn write_front(out: &[u8; LINES], m: usize) {
+fn write_front(rt: &(impl Print + Eprint), out: &[u8; LINES], m: usize) -> io::Result<()> {
     let lines: &[u8] = out;
     if lines.len() < m {
-        io::write_all(STDERR_FILENO, b"the lines are longer than their room\n");
-        return;
+        return eprintln!(rt; "the lines are longer than their room");
     }
-    io::write_all(STDOUT_FILENO, &lines[..m]);
+    rt.write_all(&lines[..m])
 }
 
 // Prints the lines of a text.
-fn print_slots(text: &[u8]) {
+fn print_slots(rt: &(impl Print + Eprint), text: &[u8]) -> io::Result<()> {
     let mut faults = [0u8; FAULT_ROOM];
     let mut roster = [0u8; ROSTER];
     let mut out = [0u8; LINES];
     let answer = translator::names(text, &mut faults, &mut roster);
     let m = put_lines(&mut out, &roster, entries(answer));
-    write_front(&out, m);
+    write_front(rt, &out, m)
 }
 
-// Whether standard input has ended: a read gives no byte and does not fail.
-fn at_end() -> bool {
+// Reads until the buffer is full, the input ends or a read fails; how many bytes.
+fn read_full(input: &mut impl Read, buf: &mut [u8]) -> usize
+    ensures { result ≤ length buf.new }
+{
+    let mut done: usize = 0;
+    while done < buf.len() {
+        match input.read(&mut buf[done..]) {
+            Ok(0) => return done,
+            Ok(n) => done += n,
+            Err(_) => return done,
+        }
+    }
+    done
+}
+
+// Whether the input has ended: a read gives no byte and does not fail.
+fn at_end(input: &mut impl Read) -> bool {
     let mut byte = [0u8; 1];
-    libc::read(STDIN_FILENO, &mut byte) == 0
+    match input.read(&mut byte) {
+        Ok(n) => n == 0,
+        Err(_) => false,
+    }
 }
 
 // Reads, asks for the names, prints. Of a text whose reading failed before its end nothing is printed.
-fn main() {
+fn main(rt: HostRuntime) -> io::Result<()> {
+    let mut input = rt.stdin();
     let mut text = [0u8; READ];
-    let n = io::read_full(STDIN_FILENO, &mut text);
+    let n = read_full(&mut input, &mut text);
     if n < READ {
-        if !at_end() {
-            io::write_all(STDERR_FILENO, b"the text could not be read to its end\n");
-            return;
+        if !at_end(&mut input) {
+            return eprintln!(&rt; "the text could not be read to its end");
         }
     }
-    print_slots(&text[..n]);
+    print_slots(&rt, &text[..n])
 }

@@ -1,7 +1,5 @@
 -- Any two outcomes that the contract of an open entry allows are equal.
-use Prim.Native.Nat.{ℕ}
-use mathlib.Core.Path.{sym, ap₂, ◌∙◌}
-use mathlib.Core.Bool.{Bool}
+use Rattle.std.proofs.Common.{ℕ, Bool, sym, ap₂, ◌∙◌}
 use Rattle.laws.specs.Agree.{Agree}
 use Rattle.tally.specs.declared.Tally.{Tally}
 use Rattle.tally.specs.Contract.{CountsNone, CountsOne, CountsNumber, Finishes}

@@ -1,7 +1,8 @@
-// Counting comparisons: how many were tried and how many differ, with a line printed for each that does.
-ghost use Rattle.tally.specs.Contract.{CountsNone, CountsOne, CountsNumber, Finishes};
+// Counting comparisons: how many were tried and how many differ, with a line printed for each that does. That a line
+// can't be written changes no count.
+#![tactic(auto)]
 
-use libc::STDOUT_FILENO;
+ghost use Rattle.tally.specs.Contract.{CountsNone, CountsOne, CountsNumber, Finishes};
 
 // How many comparisons were tried, and how many of them differ.
 #[derive(Drop)]
@@ -21,7 +22,7 @@ pub fn none() -> Tally
 }
 
 // One comparison more. If it differs its number is printed.
-pub fn right(t: Tally, same: bool) -> Tally
+pub fn right(rt: &impl Print, t: Tally, same: bool) -> Tally
     ensures { CountsOne t same result }
 {
     let tried = t.tried;
@@ -38,9 +39,7 @@ pub fn right(t: Tally, same: bool) -> Tally
             differ,
         };
     }
-    io::write_all(STDOUT_FILENO, b"comparison ");
-    io::print_decimal(STDOUT_FILENO, tried as u64);
-    io::write_all(STDOUT_FILENO, b" differs\n");
+    let _ = println!(rt; "comparison {tried} differs");
     Tally {
         tried: tried + 1,
         differ: differ + 1,
@@ -48,20 +47,17 @@ pub fn right(t: Tally, same: bool) -> Tally
 }
 
 // A number is as wanted.
-pub fn number(t: Tally, got: usize, wanted: usize) -> Tally
+pub fn number(rt: &impl Print, t: Tally, got: usize, wanted: usize) -> Tally
     ensures { CountsNumber t got wanted result }
 {
-    right(t, got == wanted)
+    right(rt, t, got == wanted)
 }
 
 // Prints the summary.
-pub fn finish(t: Tally)
+pub fn finish(rt: &impl Print, t: Tally)
     ensures { Finishes t result }
 {
     let tried = t.tried;
     let differ = t.differ;
-    io::print_decimal(STDOUT_FILENO, tried as u64);
-    io::write_all(STDOUT_FILENO, b" tried, ");
-    io::print_decimal(STDOUT_FILENO, differ as u64);
-    io::write_all(STDOUT_FILENO, b" differ\n");
+    let _ = println!(rt; "{tried} tried, {differ} differ");
 }

@@ -1,12 +1,17 @@
 // Decks and programs from before request 9 of document 02, kept as data. To NAME.deck belong NAME.program, the program
 // that it had then, and NAME.values, what that program left in 256 values and 256 derivatives. Both were made by the
 // library of before, commit 4012a21. The deck must still give the same bytes, and the program leave the same bits.
+#![tactic(auto)]
+
 mod lent;
 
 ghost use Rattle.std.specs.Prelude.{◌≤◌, length};
 
 use lent::{PLACES, mixture, same_bits};
 use limits::{FAULT_ROOM, PROGRAM_ROOM, RECORD_BYTES, SLOTS, TEXT_BYTES};
+use std::fs;
+use std::io::Read;
+use std::rt::Files;
 use tally::{Tally, number, right};
 use translator::Verdict;
 
@@ -25,17 +30,23 @@ const LEFT: usize = 6 * FLOATS;
 // How many steps follow.
 const STEPS: usize = 50;
 
-// Reads a file to the front of a buffer; how many bytes, 0 where it can't be opened.
-fn read_file(path: &[u8], buf: &mut [u8]) -> usize
+// Reads a file to the front of a buffer, until that is full, the file ends or a read fails; how many bytes, 0 where it
+// can't be opened.
+fn read_file(rt: &impl Files, path: &str, buf: &mut [u8]) -> usize
     ensures { result ≤ length buf.new }
 {
-    let fd = os::open_read(path);
-    if fd < 0 {
+    let Ok(mut file) = fs::open(rt, path) else {
         return 0;
+    };
+    let mut done: usize = 0;
+    while done < buf.len() {
+        match file.read(&mut buf[done..]) {
+            Ok(0) => return done,
+            Ok(n) => done += n,
+            Err(_) => return done,
+        }
     }
-    let n = io::read_full(fd, &mut *buf);
-    libc::close(fd);
-    n
+    done
 }
 
 // ---- the deck
@@ -50,28 +61,34 @@ fn records(v: Verdict) -> usize {
 }
 
 // A deck is translated into a program of so many bytes, and nothing else is written.
-fn translated(t0: Tally, deck: &[u8], program: &[u8; ROOM], size: usize) -> Tally {
+fn translated(
+    rt: &(impl Print + Files),
+    t0: Tally,
+    deck: &str,
+    program: &[u8; ROOM],
+    size: usize,
+) -> Tally {
     let mut text = [0u8; READ];
     let mut faults = [170u8; FAULT_ROOM];
     let mut out = [170u8; ROOM];
-    let n = read_file(deck, &mut text);
+    let n = read_file(rt, deck, &mut text);
     let v = translator::translate(&text[..n], &mut faults, &mut out);
-    let mut t = number(t0, records(v), size / RECORD_BYTES);
-    t = right(t, check::same(&out, program));
-    right(t, check::same(&faults, &[170u8; FAULT_ROOM]))
+    let mut t = number(rt, t0, records(v), size / RECORD_BYTES);
+    t = right(rt, t, out == *program);
+    right(rt, t, faults == [170u8; FAULT_ROOM])
 }
 
 // ---- the program
 
 // It is evaluated from the mixture.
-fn evaluated(t0: Tally, program: &[u8], left: &[u8]) -> Tally {
+fn evaluated(rt: &impl Print, t0: Tally, program: &[u8], left: &[u8]) -> Tally {
     let mut v = mixture(0);
     let mut d = mixture(PLACES);
     let a = evaluator::evaluate(program, &mut v, &mut d);
-    let mut t = number(t0, a.number, 0);
-    t = number(t, a.place, 0);
-    t = right(t, same_bits(&v, left, 0));
-    right(t, same_bits(&d, left, FLOATS))
+    let mut t = number(rt, t0, a.number, 0);
+    t = number(rt, t, a.place, 0);
+    t = right(rt, t, same_bits(&v, left, 0));
+    right(rt, t, same_bits(&d, left, FLOATS))
 }
 
 // Steps of h; how many are no refusal.
@@ -88,79 +105,89 @@ fn step_all(program: &[u8], h: f64, v: &mut [f64; SLOTS], d: &mut [f64; SLOTS]) 
 }
 
 // It is started from the mixture, and then stepped.
-fn stepped(t0: Tally, program: &[u8], h: f64, left: &[u8]) -> Tally {
+fn stepped(rt: &impl Print, t0: Tally, program: &[u8], h: f64, left: &[u8]) -> Tally {
     let mut v = mixture(0);
     let mut d = mixture(PLACES);
     let a = evaluator::start(program, &mut v, &mut d);
-    let mut t = number(t0, a.number, 0);
-    t = right(t, same_bits(&v, left, 2 * FLOATS));
-    t = right(t, same_bits(&d, left, 3 * FLOATS));
-    t = number(t, step_all(program, h, &mut v, &mut d), STEPS);
-    t = right(t, same_bits(&v, left, 4 * FLOATS));
-    right(t, same_bits(&d, left, 5 * FLOATS))
+    let mut t = number(rt, t0, a.number, 0);
+    t = right(rt, t, same_bits(&v, left, 2 * FLOATS));
+    t = right(rt, t, same_bits(&d, left, 3 * FLOATS));
+    t = number(rt, t, step_all(program, h, &mut v, &mut d), STEPS);
+    t = right(rt, t, same_bits(&v, left, 4 * FLOATS));
+    right(rt, t, same_bits(&d, left, 5 * FLOATS))
 }
 
 // It leaves what the file has.
-fn run(t0: Tally, program: &[u8], values: &[u8], h: f64) -> Tally {
+fn run(rt: &(impl Print + Files), t0: Tally, program: &[u8], values: &str, h: f64) -> Tally {
     let mut left = [0u8; LEFT + 1];
-    let mut t = number(t0, read_file(values, &mut left), LEFT);
-    t = evaluated(t, program, &left);
-    stepped(t, program, h, &left)
+    let mut t = number(rt, t0, read_file(rt, values, &mut left), LEFT);
+    t = evaluated(rt, t, program, &left);
+    stepped(rt, t, program, h, &left)
 }
 
 // ---- both
 
 // A deck gives its program, whose file is not empty, and that leaves what it left with steps of h.
-fn as_before(t0: Tally, deck: &[u8], program: &[u8], values: &[u8], h: f64) -> Tally {
+fn as_before(
+    rt: &(impl Print + Files),
+    t0: Tally,
+    deck: &str,
+    program: &str,
+    values: &str,
+    h: f64,
+) -> Tally {
     let mut bytes = [170u8; ROOM];
-    let size = read_file(program, &mut bytes);
-    let mut t = right(t0, 0 < size);
-    t = translated(t, deck, &bytes, size);
-    run(t, &bytes[..size], values, h)
+    let size = read_file(rt, program, &mut bytes);
+    let mut t = right(rt, t0, 0 < size);
+    t = translated(rt, t, deck, &bytes, size);
+    run(rt, t, &bytes[..size], values, h)
 }
 
 // Those of the paper, the manual and the examples, and one of all functions, with what is no number.
-fn ordinary(t0: Tally) -> Tally {
-    let mut t = as_before(t0, b"tank.deck", b"tank.program", b"tank.values", 0.1);
-    t = as_before(t, b"relay.deck", b"relay.program", b"relay.values", 2.5);
-    t = as_before(t, b"wall.deck", b"wall.program", b"wall.values", 30.0);
-    t = as_before(t, b"valve.deck", b"valve.program", b"valve.values", 2.5);
+fn ordinary(rt: &(impl Print + Files), t0: Tally) -> Tally {
+    let mut t = as_before(rt, t0, "tank.deck", "tank.program", "tank.values", 0.1);
+    t = as_before(rt, t, "relay.deck", "relay.program", "relay.values", 2.5);
+    t = as_before(rt, t, "wall.deck", "wall.program", "wall.values", 30.0);
+    t = as_before(rt, t, "valve.deck", "valve.program", "valve.values", 2.5);
     t = as_before(
+        rt,
         t,
-        b"checker.deck",
-        b"checker.program",
-        b"checker.values",
+        "checker.deck",
+        "checker.program",
+        "checker.values",
         60.0,
     );
     t = as_before(
+        rt,
         t,
-        b"furnace.deck",
-        b"furnace.program",
-        b"furnace.values",
+        "furnace.deck",
+        "furnace.program",
+        "furnace.values",
         30.0,
     );
     as_before(
+        rt,
         t,
-        b"switches.deck",
-        b"switches.program",
-        b"switches.values",
+        "switches.deck",
+        "switches.program",
+        "switches.values",
         0.1,
     )
 }
 
 // Those at the limits of before: 255 statements with 255 definitions; 256 with 255, and 30 blocks; 512 lines; 16,384
 // bytes; and one with all of these and 4,096 records.
-fn largest(t0: Tally) -> Tally {
-    let mut t = as_before(t0, b"names.deck", b"names.program", b"names.values", 0.1);
-    t = as_before(t, b"blocks.deck", b"blocks.program", b"blocks.values", 0.1);
-    t = as_before(t, b"lines.deck", b"lines.program", b"lines.values", 0.1);
-    t = as_before(t, b"bytes.deck", b"bytes.program", b"bytes.values", 0.1);
-    as_before(t, b"full.deck", b"full.program", b"full.values", 0.1)
+fn largest(rt: &(impl Print + Files), t0: Tally) -> Tally {
+    let mut t = as_before(rt, t0, "names.deck", "names.program", "names.values", 0.1);
+    t = as_before(rt, t, "blocks.deck", "blocks.program", "blocks.values", 0.1);
+    t = as_before(rt, t, "lines.deck", "lines.program", "lines.values", 0.1);
+    t = as_before(rt, t, "bytes.deck", "bytes.program", "bytes.values", 0.1);
+    as_before(rt, t, "full.deck", "full.program", "full.values", 0.1)
 }
 
 // All of these, and the summary.
-fn main() {
-    let mut t = ordinary(tally::none());
-    t = largest(t);
-    tally::finish(t);
+fn main(rt: HostRuntime) {
+    let mut t = ordinary(&rt, tally::none());
+    t = largest(&rt, t);
+    tally::finish(&rt, t);
 }

@@ -1,7 +1,12 @@
 // Lists each example deck, and compares the listing with the one that stands beside it.
+#![tactic(auto)]
+
 ghost use Rattle.std.specs.Prelude.{◌≤◌, length};
 
 use limits::TEXT_BYTES;
+use std::fs;
+use std::io::Read;
+use std::rt::Files;
 use tally::Tally;
 
 // A byte more than a text may have.
@@ -10,43 +15,49 @@ const READ: usize = TEXT_BYTES + 1;
 // More than the longest listing.
 const LISTED: usize = 4096;
 
-// Reads a file to the front of a buffer; how many bytes, 0 where it can't be opened.
-fn read_file(path: &[u8], buf: &mut [u8]) -> usize
+// Reads a file to the front of a buffer, until that is full, the file ends or a read fails; how many bytes, 0 where it
+// can't be opened.
+fn read_file(rt: &impl Files, path: &str, buf: &mut [u8]) -> usize
     ensures { result ≤ length buf.new }
 {
-    let fd = os::open_read(path);
-    if fd < 0 {
+    let Ok(mut file) = fs::open(rt, path) else {
         return 0;
+    };
+    let mut done: usize = 0;
+    while done < buf.len() {
+        match file.read(&mut buf[done..]) {
+            Ok(0) => return done,
+            Ok(n) => done += n,
+            Err(_) => return done,
+        }
     }
-    let n = io::read_full(fd, &mut *buf);
-    libc::close(fd);
-    n
+    done
 }
 
 // A deck has this listing.
-fn listed(t0: Tally, deck: &[u8], listing: &[u8]) -> Tally {
+fn listed(rt: &(impl Print + Files), t0: Tally, deck: &str, listing: &str) -> Tally {
     let mut text = [0u8; READ];
     let mut wanted = [0u8; LISTED];
     let mut out = [0u8; LISTED];
-    let n = read_file(deck, &mut text);
-    let k = read_file(listing, &mut wanted);
+    let n = read_file(rt, deck, &mut text);
+    let k = read_file(rt, listing, &mut wanted);
     let m = listing_text::list(&text[..n], &mut out);
-    let mut t = tally::right(t0, 0 < n);
-    t = tally::number(t, m, k);
-    tally::right(t, check::same(&out, &wanted))
+    let mut t = tally::right(rt, t0, 0 < n);
+    t = tally::number(rt, t, m, k);
+    tally::right(rt, t, out == wanted)
 }
 
 // All decks, and the summary.
-fn main() {
+fn main(rt: HostRuntime) {
     let mut t = tally::none();
-    t = listed(t, b"tank.deck", b"tank.listing");
-    t = listed(t, b"furnace.deck", b"furnace.listing");
-    t = listed(t, b"full_tank.deck", b"full_tank.listing");
-    t = listed(t, b"grammar.deck", b"grammar.listing");
-    t = listed(t, b"long-name.deck", b"long-name.listing");
-    t = listed(t, b"long-run.deck", b"long-run.listing");
-    t = listed(t, b"loop.deck", b"loop.listing");
-    t = listed(t, b"star.deck", b"star.listing");
-    t = listed(t, b"undefined.deck", b"undefined.listing");
-    tally::finish(t);
+    t = listed(&rt, t, "tank.deck", "tank.listing");
+    t = listed(&rt, t, "furnace.deck", "furnace.listing");
+    t = listed(&rt, t, "full_tank.deck", "full_tank.listing");
+    t = listed(&rt, t, "grammar.deck", "grammar.listing");
+    t = listed(&rt, t, "long-name.deck", "long-name.listing");
+    t = listed(&rt, t, "long-run.deck", "long-run.listing");
+    t = listed(&rt, t, "loop.deck", "loop.listing");
+    t = listed(&rt, t, "star.deck", "star.listing");
+    t = listed(&rt, t, "undefined.deck", "undefined.listing");
+    tally::finish(&rt, t);
 }

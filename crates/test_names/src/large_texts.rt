@@ -77,19 +77,19 @@ fn pairs_roster() -> [u8; ROSTER_BYTES * DEFINITIONS] {
 }
 
 // The first n bytes of a text have these entries; a text that is shorter counts as one that differs.
-fn named_front(t: Tally, text: &[u8], n: usize, entries: &[u8]) -> Tally {
+fn named_front(rt: &impl Print, t: Tally, text: &[u8], n: usize, entries: &[u8]) -> Tally {
     if text.len() < n {
-        return tally::right(t, false);
+        return tally::right(rt, t, false);
     }
-    named(t, &text[..n], entries)
+    named(rt, t, &text[..n], entries)
 }
 
 // 1,023 definitions have their entries in 16,368 bytes, and in 16,367 none has: 10. With the last, of eight bytes, they
 // are too many: 6.
-fn definitions(t0: Tally) -> Tally {
+fn definitions(rt: &impl Print, t0: Tally) -> Tally {
     let text = pairs();
-    let t = named_front(t0, &text, PAIR * PAIRS - 8, &pairs_roster());
-    silent(t, &text, 6)
+    let t = named_front(rt, t0, &text, PAIR * PAIRS - 8, &pairs_roster());
+    silent(rt, t, &text, 6)
 }
 
 // ---- records
@@ -133,14 +133,15 @@ fn sums(last: &[u8; 4]) -> [u8; SUMS] {
 
 // A sum of r ones has 2 r records, so these have 58 * 70 + 34 = 4094. With two more they are as many as there may be.
 // One more is too many, 8, whatever room there is for names.
-fn records(t0: Tally) -> Tally {
+fn records(rt: &impl Print, t0: Tally) -> Tally {
     let t = named(
+        rt,
         t0,
         &sums(b"T=+1"),
         b"A\0\0\0\0\0\0\0\x03\0\x01\0\x02\0\0\0\
           T\0\0\0\0\0\0\0\x03\0\x02\0\x3e\0\0\0",
     );
-    silent(t, &sums(b"T=-1"), 8)
+    silent(rt, t, &sums(b"T=-1"), 8)
 }
 
 // ---- drafts
@@ -224,13 +225,13 @@ fn headers_roster() -> [u8; ROSTER_BYTES * BLOCKS + ROSTER_BYTES] {
 }
 
 // A text that is read in the largest room.
-fn drafts(t: Tally) -> Tally {
-    named(t, &headers(), &headers_roster())
+fn drafts(rt: &impl Print, t: Tally) -> Tally {
+    named(rt, t, &headers(), &headers_roster())
 }
 
 // All of these.
-pub fn all(t0: Tally) -> Tally {
-    let mut t = definitions(t0);
-    t = records(t);
-    drafts(t)
+pub fn all(rt: &impl Print, t0: Tally) -> Tally {
+    let mut t = definitions(rt, t0);
+    t = records(rt, t);
+    drafts(rt, t)
 }

@@ -4,8 +4,9 @@ use crate::wanted::{named, nameless};
 use tally::Tally;
 
 // The tank: a constant, two assignments and a state. Slots follow the text and not the order, which is 3, 5, 4.
-fn tank(t: Tally) -> Tally {
+fn tank(rt: &impl Print, t: Tally) -> Tally {
     named(
+        rt,
         t,
         b"* TANK\nPARAM K=2\nQ=K*H\nH=INTGRL(1,F-Q)\nF=LIMIT(0,3,TIME)\n",
         b"K\0\0\0\0\0\0\0\x01\0\x01\0\x02\0\0\0\
@@ -16,8 +17,9 @@ fn tank(t: Tally) -> Tally {
 }
 
 // Each constant of a statement has its entry, with the line of that.
-fn constants(t: Tally) -> Tally {
+fn constants(rt: &impl Print, t: Tally) -> Tally {
     named(
+        rt,
         t,
         b"CONST A=1,ABCDEF=-2.5\n\nPARAM B=+3,C=1,D=0\nINCON E=4E1",
         b"A\0\0\0\0\0\0\0\x01\0\x01\0\x01\0\0\0\
@@ -30,8 +32,9 @@ fn constants(t: Tally) -> Tally {
 }
 
 // Names of one to six characters, each the front of others, with digits and without.
-fn lengths(t: Tally) -> Tally {
+fn lengths(rt: &impl Print, t: Tally) -> Tally {
     named(
+        rt,
         t,
         b"A=1\nAB=A\nAB1=AB\nABCD=2\nTIMES=TIME\nABCDEF=A\nA12345=3",
         b"A\0\0\0\0\0\0\0\x03\0\x01\0\x01\0\0\0\
@@ -45,8 +48,9 @@ fn lengths(t: Tally) -> Tally {
 }
 
 // States of one and of six letters, and an initial that is a constant's name.
-fn states(t: Tally) -> Tally {
+fn states(rt: &impl Print, t: Tally) -> Tally {
     named(
+        rt,
         t,
         b"X=INTGRL(HEIGHT,-X)\nMASSES=INTGRL(1,X)\nCONST HEIGHT=2",
         b"X\0\0\0\0\0\0\0\x02\0\x01\0\x01\0\0\0\
@@ -58,8 +62,9 @@ fn states(t: Tally) -> Tally {
 // ---- blocks
 
 // A name of the block's own, and an output, each with the line on which it is set.
-fn block(t: Tally) -> Tally {
+fn block(rt: &impl Print, t: Tally) -> Tally {
     named(
+        rt,
         t,
         b"PROCED A=P(T)\nL=T\nA=L+L\nENDPRO\nT=1\nB=A",
         b"L\0\0\0\0\0\0\0\x04\0\x01\0\x02\0\0\0\
@@ -70,8 +75,9 @@ fn block(t: Tally) -> Tally {
 }
 
 // An output and a name of the block's own that are set again have one entry each, with the line of the first setting.
-fn set_again(t: Tally) -> Tally {
+fn set_again(rt: &impl Print, t: Tally) -> Tally {
     named(
+        rt,
         t,
         b"PROCED RESULT=P(B)\nRESULT=B\nHELPER=RESULT+1\nHELPER=HELPER*2\nRESULT=HELPER\nENDPRO\nCONST B=1",
         b"RESULT\0\0\x03\0\x01\0\x02\0\0\0\
@@ -81,8 +87,9 @@ fn set_again(t: Tally) -> Tally {
 }
 
 // Outputs have slots as they are set, not as the header names them.
-fn outputs(t: Tally) -> Tally {
+fn outputs(rt: &impl Print, t: Tally) -> Tally {
     named(
+        rt,
         t,
         b"PROCED A,B=P(C)\nB=C\nA=B\nENDPRO\nC=TIME",
         b"B\0\0\0\0\0\0\0\x03\0\x01\0\x02\0\0\0\
@@ -92,8 +99,9 @@ fn outputs(t: Tally) -> Tally {
 }
 
 // The name of a block has no entry: here another statement defines it, and two blocks have it.
-fn block_names(t: Tally) -> Tally {
+fn block_names(rt: &impl Print, t: Tally) -> Tally {
     named(
+        rt,
         t,
         b"PROCED A=P(T)\nX=T\nA=X\nENDPRO\nPROCED B=P(A)\nY=A\nB=Y\nENDPRO\nT=1\nP=2",
         b"X\0\0\0\0\0\0\0\x04\0\x01\0\x02\0\0\0\
@@ -108,8 +116,9 @@ fn block_names(t: Tally) -> Tally {
 // ---- lines
 
 // A statement over several lines with a comment inside has its first line.
-fn over_lines(t: Tally) -> Tally {
+fn over_lines(rt: &impl Print, t: Tally) -> Tally {
     named(
+        rt,
         t,
         b"* C\nQ=K...\n* PLUS\n+1\n\nCONST K=2,...\n* AND\nL=3\nX=INTGRL(K,...\n*\nQ)\nY...\n=4",
         b"Q\0\0\0\0\0\0\0\x03\0\x01\0\x02\0\0\0\
@@ -121,8 +130,9 @@ fn over_lines(t: Tally) -> Tally {
 }
 
 // So do a block's header, its end and a setting in it.
-fn block_over_lines(t: Tally) -> Tally {
+fn block_over_lines(rt: &impl Print, t: Tally) -> Tally {
     named(
+        rt,
         t,
         b"PROCED A...\n* OUT\n=F(C)\nA=C...\n* TWICE\n+C\nENDPRO...\n*\n\nC=1",
         b"A\0\0\0\0\0\0\0\x03\0\x01\0\x04\0\0\0\
@@ -131,36 +141,36 @@ fn block_over_lines(t: Tally) -> Tally {
 }
 
 // A definition on line 1,024, which has two bytes.
-fn last_line(t: Tally) -> Tally {
+fn last_line(rt: &impl Print, t: Tally) -> Tally {
     let mut text = [b'\n'; 1026];
     bits::put_bytes(&mut text, 1023, b"A=1");
-    named(t, &text, b"A\0\0\0\0\0\0\0\x03\0\x01\0\0\x04\0\0")
+    named(rt, t, &text, b"A\0\0\0\0\0\0\0\x03\0\x01\0\0\x04\0\0")
 }
 
 // ---- none
 
 // Nothing; a comment and blanks; as many lines and as many bytes as there may be.
-fn without(t0: Tally) -> Tally {
+fn without(rt: &impl Print, t0: Tally) -> Tally {
     let lines = [b'\n'; 1024];
     let comment = [b'*'; 32768];
-    let mut t = nameless(t0, b"");
-    t = nameless(t, b"* A=1\n\n   \n");
-    t = nameless(t, &lines);
-    nameless(t, &comment)
+    let mut t = nameless(rt, t0, b"");
+    t = nameless(rt, t, b"* A=1\n\n   \n");
+    t = nameless(rt, t, &lines);
+    nameless(rt, t, &comment)
 }
 
 // All of these.
-pub fn all(t0: Tally) -> Tally {
-    let mut t = tank(t0);
-    t = constants(t);
-    t = lengths(t);
-    t = states(t);
-    t = block(t);
-    t = set_again(t);
-    t = outputs(t);
-    t = block_names(t);
-    t = over_lines(t);
-    t = block_over_lines(t);
-    t = last_line(t);
-    without(t)
+pub fn all(rt: &impl Print, t0: Tally) -> Tally {
+    let mut t = tank(rt, t0);
+    t = constants(rt, t);
+    t = lengths(rt, t);
+    t = states(rt, t);
+    t = block(rt, t);
+    t = set_again(rt, t);
+    t = outputs(rt, t);
+    t = block_names(rt, t);
+    t = over_lines(rt, t);
+    t = block_over_lines(rt, t);
+    t = last_line(rt, t);
+    without(rt, t)
 }

@@ -55,8 +55,14 @@ fn same_answer(a: Named, b: Named) -> bool {
 
 // ---- lent buffers
 
+// Whether two buffers have the same bytes, and as many.
+fn same(a: &[u8], b: &[u8]) -> bool {
+    a == b
+}
+
 // With these buffers lent the text has this answer, and they then hold what is wanted.
 pub fn lent(
+    rt: &impl Print,
     t0: Tally,
     text: &[u8],
     faults: &mut [u8],
@@ -66,24 +72,32 @@ pub fn lent(
     roster: &[u8],
 ) -> Tally {
     let got = translator::names(text, &mut *faults, &mut *out);
-    let mut t = tally::right(t0, same_answer(got, answer));
-    t = tally::right(t, check::same(faults, list));
-    tally::right(t, check::same(out, roster))
+    let mut t = tally::right(rt, t0, same_answer(got, answer));
+    t = tally::right(rt, t, same(faults, list));
+    tally::right(rt, t, same(out, roster))
 }
 
 // With the first n of ROOM bytes lent for names the text has this answer, they then hold the first n of what is wanted,
 // and no fault is written. Where there are fewer than n, that counts as a text that differs.
-fn with_room(t: Tally, text: &[u8], n: usize, answer: Named, wanted: &[u8]) -> Tally {
+fn with_room(
+    rt: &impl Print,
+    t: Tally,
+    text: &[u8],
+    n: usize,
+    answer: Named,
+    wanted: &[u8],
+) -> Tally {
     if ROOM < n {
-        return tally::right(t, false);
+        return tally::right(rt, t, false);
     }
     if wanted.len() < n {
-        return tally::right(t, false);
+        return tally::right(rt, t, false);
     }
     let mut faults = [7u8; FAULT_ROOM];
     let mut out = [7u8; ROOM];
     let list = [7u8; FAULT_ROOM];
     lent(
+        rt,
         t,
         text,
         &mut faults,
@@ -95,9 +109,9 @@ fn with_room(t: Tally, text: &[u8], n: usize, answer: Named, wanted: &[u8]) -> T
 }
 
 // With n bytes lent the text has this answer, and nothing is written.
-fn unwritten(t: Tally, text: &[u8], n: usize, answer: Named) -> Tally {
+fn unwritten(rt: &impl Print, t: Tally, text: &[u8], n: usize, answer: Named) -> Tally {
     let kept = [7u8; ROOM];
-    with_room(t, text, n, answer, &kept)
+    with_room(rt, t, text, n, answer, &kept)
 }
 
 // ---- names, none, faults, and nothing
@@ -111,44 +125,52 @@ fn in_front(entries: &[u8]) -> [u8; ROOM] {
 
 // The text has these entries, at least one: with more room than they need, with as much, and with a byte less, which is
 // 10.
-pub fn named(t0: Tally, text: &[u8], entries: &[u8]) -> Tally {
+pub fn named(rt: &impl Print, t0: Tally, text: &[u8], entries: &[u8]) -> Tally {
     let n = entries.len();
     if n == 0 {
-        return tally::right(t0, false);
+        return tally::right(rt, t0, false);
     }
     let wanted = in_front(entries);
-    let answer = Named::Entries(n / ROSTER_BYTES);
-    let mut t = with_room(t0, text, ROOM, answer, &wanted);
-    t = with_room(t, text, n, answer, &wanted);
-    unwritten(t, text, n - 1, Named::Refused(10))
+    let count = n / ROSTER_BYTES;
+    let mut t = with_room(rt, t0, text, ROOM, Named::Entries(count), &wanted);
+    t = with_room(rt, t, text, n, Named::Entries(count), &wanted);
+    unwritten(rt, t, text, n - 1, Named::Refused(10))
 }
 
 // The text has no definition: with room, and without.
-pub fn nameless(t0: Tally, text: &[u8]) -> Tally {
-    let t = unwritten(t0, text, ROOM, Named::Entries(0));
-    unwritten(t, text, 0, Named::Entries(0))
+pub fn nameless(rt: &impl Print, t0: Tally, text: &[u8]) -> Tally {
+    let t = unwritten(rt, t0, text, ROOM, Named::Entries(0));
+    unwritten(rt, t, text, 0, Named::Entries(0))
 }
 
 // The text is refused with this number, and nothing is written: with room, and without.
-pub fn silent(t0: Tally, text: &[u8], number: u8) -> Tally {
-    let t = unwritten(t0, text, ROOM, Named::Refused(number));
-    unwritten(t, text, 0, Named::Refused(number))
+pub fn silent(rt: &impl Print, t0: Tally, text: &[u8], number: u8) -> Tally {
+    let t = unwritten(rt, t0, text, ROOM, Named::Refused(number));
+    unwritten(rt, t, text, 0, Named::Refused(number))
 }
 
 // With these bytes lent for names the text is refused with this number and these faults, and the bytes are kept.
-fn listed(t: Tally, text: &[u8], out: &mut [u8], number: u8, faults: &[u8], kept: &[u8]) -> Tally {
+fn listed(
+    rt: &impl Print,
+    t: Tally,
+    text: &[u8],
+    out: &mut [u8],
+    number: u8,
+    faults: &[u8],
+    kept: &[u8],
+) -> Tally {
     let mut list = [7u8; FAULT_ROOM + PAST];
     let mut wanted = [7u8; FAULT_ROOM + PAST];
     bits::put_bytes(&mut wanted, 0, faults);
     let answer = Named::Faulty(number, faults.len() / FAULT_BYTES);
-    lent(t, text, &mut list, out, answer, &wanted, kept)
+    lent(rt, t, text, &mut list, out, answer, &wanted, kept)
 }
 
 // So it is with room for four names, and without.
-pub fn faulty(t0: Tally, text: &[u8], number: u8, faults: &[u8]) -> Tally {
+pub fn faulty(rt: &impl Print, t0: Tally, text: &[u8], number: u8, faults: &[u8]) -> Tally {
     let mut out = [7u8; 4 * ROSTER_BYTES];
     let kept = [7u8; 4 * ROSTER_BYTES];
     let mut none = [7u8; 0];
-    let t = listed(t0, text, &mut out, number, faults, &kept);
-    listed(t, text, &mut none, number, faults, b"")
+    let t = listed(rt, t0, text, &mut out, number, faults, &kept);
+    listed(rt, t, text, &mut none, number, faults, b"")
 }

@@ -47,6 +47,7 @@ fn mixed(every: usize) -> [f64; SLOTS]
 
 // Neither answer is a refusal, and all places of values v and w, and of derivatives d and e, have the same bits.
 fn alike(
+    rt: &impl Print,
     t0: Tally,
     a: Answer,
     b: Answer,
@@ -55,13 +56,14 @@ fn alike(
     d: &[f64; SLOTS],
     e: &[f64; SLOTS],
 ) -> Tally {
-    let mut t = right(t0, both_accepted(a, b));
-    t = right(t, same_bits(v, w));
-    right(t, same_bits(d, e))
+    let mut t = right(rt, t0, both_accepted(a, b));
+    t = right(rt, t, same_bits(v, w));
+    right(rt, t, same_bits(d, e))
 }
 
 // Both are stepped by h.
 fn step_both(
+    rt: &impl Print,
     t0: Tally,
     p: &[u8; PROGRAM],
     q: &[u8; PROGRAM],
@@ -73,33 +75,39 @@ fn step_both(
 ) -> Tally {
     let a = evaluator::step(p, h, &mut *v, &mut *d);
     let b = evaluator::step(q, h, &mut *w, &mut *e);
-    alike(t0, a, b, v, w, d, e)
+    alike(rt, t0, a, b, v, w, d, e)
 }
 
 // Both are evaluated from the same values, and then stepped from what that leaves.
-fn evaluate_both(t0: Tally, p: &[u8; PROGRAM], q: &[u8; PROGRAM], from: [f64; SLOTS]) -> Tally {
+fn evaluate_both(
+    rt: &impl Print,
+    t0: Tally,
+    p: &[u8; PROGRAM],
+    q: &[u8; PROGRAM],
+    from: [f64; SLOTS],
+) -> Tally {
     let mut v = from;
     let mut w = from;
     let mut d = sevens();
     let mut e = sevens();
     let a = evaluator::evaluate(p, &mut v, &mut d);
     let b = evaluator::evaluate(q, &mut w, &mut e);
-    let t = alike(t0, a, b, &v, &w, &d, &e);
-    step_both(t, p, q, 30.0, &mut v, &mut w, &mut d, &mut e)
+    let t = alike(rt, t0, a, b, &v, &w, &d, &e);
+    step_both(rt, t, p, q, 30.0, &mut v, &mut w, &mut d, &mut e)
 }
 
 // Both are started, and then stepped many times. They are compared after the start and after each step.
-fn run_both(t0: Tally, p: &[u8; PROGRAM], q: &[u8; PROGRAM], h: f64) -> Tally {
+fn run_both(rt: &impl Print, t0: Tally, p: &[u8; PROGRAM], q: &[u8; PROGRAM], h: f64) -> Tally {
     let mut v = sevens();
     let mut w = sevens();
     let mut d = sevens();
     let mut e = sevens();
     let a = evaluator::start(p, &mut v, &mut d);
     let b = evaluator::start(q, &mut w, &mut e);
-    let mut t = alike(t0, a, b, &v, &w, &d, &e);
+    let mut t = alike(rt, t0, a, b, &v, &w, &d, &e);
     let mut i: usize = 0;
     while i < STEPS {
-        t = step_both(t, p, q, h, &mut v, &mut w, &mut d, &mut e);
+        t = step_both(rt, t, p, q, h, &mut v, &mut w, &mut d, &mut e);
         i += 1;
     }
     t
@@ -107,12 +115,12 @@ fn run_both(t0: Tally, p: &[u8; PROGRAM], q: &[u8; PROGRAM], h: f64) -> Tally {
 
 // From 7 and from 0 at all places, and from mixed values; then a run past a reversal of the fire, and one of steps so
 // long that the flow of fuel swings ever wider.
-pub fn all(t0: Tally, p: &[u8; PROGRAM], q: &[u8; PROGRAM]) -> Tally {
-    let mut t = evaluate_both(t0, p, q, sevens());
-    t = evaluate_both(t, p, q, [0.0; SLOTS]);
-    t = evaluate_both(t, p, q, mixed(1));
-    t = evaluate_both(t, p, q, mixed(3));
-    t = evaluate_both(t, p, q, mixed(7));
-    t = run_both(t, p, q, 8.0);
-    run_both(t, p, q, 30.0)
+pub fn all(rt: &impl Print, t0: Tally, p: &[u8; PROGRAM], q: &[u8; PROGRAM]) -> Tally {
+    let mut t = evaluate_both(rt, t0, p, q, sevens());
+    t = evaluate_both(rt, t, p, q, [0.0; SLOTS]);
+    t = evaluate_both(rt, t, p, q, mixed(1));
+    t = evaluate_both(rt, t, p, q, mixed(3));
+    t = evaluate_both(rt, t, p, q, mixed(7));
+    t = run_both(rt, t, p, q, 8.0);
+    run_both(rt, t, p, q, 30.0)
 }

@@ -1,5 +1,7 @@
 // Puts the program of the furnace into other good orders, evaluates, starts and steps each beside the first, and
 // compares the bits of every place. One bad order is refused. The orders are data, which tools/good-orders finds.
+#![tactic(auto)]
+
 mod beside;
 mod lent;
 mod orders;
@@ -9,6 +11,9 @@ ghost use Rattle.std.specs.Prelude.{◌≤◌, length};
 use lent::{same_bits, sevens};
 use limits::{FAULT_ROOM, TEXT_BYTES};
 use orders::{COUNT, PROGRAM, UNITS, read_line, sort};
+use std::fs;
+use std::io::Read;
+use std::rt::Files;
 use tally::{Tally, number, right};
 use translator::Verdict;
 
@@ -21,24 +26,30 @@ const LINES: usize = 4096;
 // How many orders the file has, one to a line; that of the first line is the first.
 const ORDERS: usize = 7;
 
-// Reads a file to the front of a buffer; how many bytes, 0 where it can't be opened.
-fn read_file(path: &[u8], buf: &mut [u8]) -> usize
+// Reads a file to the front of a buffer, until that is full, the file ends or a read fails; how many bytes, 0 where it
+// can't be opened.
+fn read_file(rt: &impl Files, path: &str, buf: &mut [u8]) -> usize
     ensures { result ≤ length buf.new }
 {
-    let fd = os::open_read(path);
-    if fd < 0 {
+    let Ok(mut file) = fs::open(rt, path) else {
         return 0;
+    };
+    let mut done: usize = 0;
+    while done < buf.len() {
+        match file.read(&mut buf[done..]) {
+            Ok(0) => return done,
+            Ok(n) => done += n,
+            Err(_) => return done,
+        }
     }
-    let n = io::read_full(fd, &mut *buf);
-    libc::close(fd);
-    n
+    done
 }
 
 // Translates the furnace; how many records, 0 where it is refused.
-fn translate(program: &mut [u8]) -> usize {
+fn translate(rt: &impl Files, program: &mut [u8]) -> usize {
     let mut text = [0u8; READ];
     let mut faults = [0u8; FAULT_ROOM];
-    let n = read_file(b"furnace.deck", &mut text);
+    let n = read_file(rt, "furnace.deck", &mut text);
     let verdict = translator::translate(&text[..n], &mut faults, program);
     match verdict {
         Verdict::Refused(_) => 0,
@@ -48,28 +59,29 @@ fn translate(program: &mut [u8]) -> usize {
 }
 
 // Reads the order on the first line of a file; how many numbers it has.
-fn read_order(path: &[u8], order: &mut [u16; UNITS]) -> usize {
+fn read_order(rt: &impl Files, path: &str, order: &mut [u16; UNITS]) -> usize {
     let mut text = [0u8; LINES];
-    let n = read_file(path, &mut text);
+    let n = read_file(rt, path, &mut text);
     let line = read_line(&text[..n], 0, order);
     line.count
 }
 
 // Whether two programs have the same bytes.
 fn same(p: &[u8; PROGRAM], q: &[u8; PROGRAM]) -> bool {
-    check::same(p, q)
+    p == q
 }
 
 // The first order gives the program itself.
-fn first_order(t0: Tally, program: &[u8; PROGRAM], first: &[u16; UNITS]) -> Tally {
+fn first_order(rt: &impl Print, t0: Tally, program: &[u8; PROGRAM], first: &[u16; UNITS]) -> Tally {
     let mut sorted = [0u8; PROGRAM];
     let n = sort(program, first, first, &mut sorted);
-    let t = number(t0, n, PROGRAM);
-    right(t, same(&sorted, program))
+    let t = number(rt, t0, n, PROGRAM);
+    right(rt, t, same(&sorted, program))
 }
 
 // Another good order gives a program of other bytes and as many records, which does the same.
 fn good_order(
+    rt: &impl Print,
     t0: Tally,
     program: &[u8; PROGRAM],
     first: &[u16; UNITS],
@@ -77,13 +89,19 @@ fn good_order(
 ) -> Tally {
     let mut sorted = [0u8; PROGRAM];
     let n = sort(program, first, order, &mut sorted);
-    let mut t = number(t0, n, PROGRAM);
-    t = right(t, !same(&sorted, program));
-    beside::all(t, program, &sorted)
+    let mut t = number(rt, t0, n, PROGRAM);
+    t = right(rt, t, !same(&sorted, program));
+    beside::all(rt, t, program, &sorted)
 }
 
 // All orders of a text but the first: each has so many numbers, and nothing stands behind the last.
-fn each_order(t0: Tally, program: &[u8; PROGRAM], first: &[u16; UNITS], text: &[u8]) -> Tally {
+fn each_order(
+    rt: &impl Print,
+    t0: Tally,
+    program: &[u8; PROGRAM],
+    first: &[u16; UNITS],
+    text: &[u8],
+) -> Tally {
     let mut order = [0u16; UNITS];
     let head = read_line(text, 0, &mut order);
     let mut t = t0;
@@ -91,62 +109,72 @@ fn each_order(t0: Tally, program: &[u8; PROGRAM], first: &[u16; UNITS], text: &[
     let mut k: usize = 1;
     while k < ORDERS {
         let line = read_line(text, at, &mut order);
-        t = number(t, line.count, UNITS);
-        t = good_order(t, program, first, &order);
+        t = number(rt, t, line.count, UNITS);
+        t = good_order(rt, t, program, first, &order);
         at = line.next;
         k += 1;
     }
-    number(t, at, text.len())
+    number(rt, t, at, text.len())
 }
 
 // All orders of the file but the first.
-fn good_orders(t0: Tally, program: &[u8; PROGRAM], first: &[u16; UNITS]) -> Tally {
+fn good_orders(
+    rt: &(impl Print + Files),
+    t0: Tally,
+    program: &[u8; PROGRAM],
+    first: &[u16; UNITS],
+) -> Tally {
     let mut text = [0u8; LINES];
-    let n = read_file(b"furnace.orders", &mut text);
-    each_order(t0, program, first, &text[..n])
+    let n = read_file(rt, "furnace.orders", &mut text);
+    each_order(rt, t0, program, first, &text[..n])
 }
 
 // Evaluating, starting and stepping refuse a program for this record, and write nothing.
-fn refused(t0: Tally, p: &[u8; PROGRAM], place: usize) -> Tally {
+fn refused(rt: &impl Print, t0: Tally, p: &[u8; PROGRAM], place: usize) -> Tally {
     let mut v = sevens();
     let mut d = sevens();
     let lent = sevens();
     let a = evaluator::evaluate(p, &mut v, &mut d);
     let b = evaluator::start(p, &mut v, &mut d);
     let c = evaluator::step(p, 30.0, &mut v, &mut d);
-    let mut t = number(t0, a.number, 3);
-    t = number(t, a.place, place);
-    t = number(t, b.number, 3);
-    t = number(t, b.place, place);
-    t = number(t, c.number, 3);
-    t = number(t, c.place, place);
-    t = right(t, same_bits(&v, &lent));
-    right(t, same_bits(&d, &lent))
+    let mut t = number(rt, t0, a.number, 3);
+    t = number(rt, t, a.place, place);
+    t = number(rt, t, b.number, 3);
+    t = number(rt, t, b.place, place);
+    t = number(rt, t, c.number, 3);
+    t = number(rt, t, c.place, place);
+    t = right(rt, t, same_bits(&v, &lent));
+    right(rt, t, same_bits(&d, &lent))
 }
 
 // The bad order has the valve, the block of line 104, behind the derivative of TRIM, line 100, which uses its output
 // FREE. In the first order the block and all behind it have 37 + 6 + 6 + 2 + 4 + 4 = 59 records of 597, so 538
 // stand before them. There KI, ERR and their product come now, and at 541 FREE, which is not set yet.
-fn bad_order(t0: Tally, program: &[u8; PROGRAM], first: &[u16; UNITS]) -> Tally {
+fn bad_order(
+    rt: &(impl Print + Files),
+    t0: Tally,
+    program: &[u8; PROGRAM],
+    first: &[u16; UNITS],
+) -> Tally {
     let mut order = [0u16; UNITS];
     let mut sorted = [0u8; PROGRAM];
-    let count = read_order(b"furnace.bad", &mut order);
+    let count = read_order(rt, "furnace.bad", &mut order);
     let n = sort(program, first, &order, &mut sorted);
-    let mut t = number(t0, count, UNITS);
-    t = number(t, n, PROGRAM);
-    refused(t, &sorted, 541)
+    let mut t = number(rt, t0, count, UNITS);
+    t = number(rt, t, n, PROGRAM);
+    refused(rt, t, &sorted, 541)
 }
 
 // The program, the first order, the other good ones, the bad one, and the summary.
-fn main() {
+fn main(rt: HostRuntime) {
     let mut program = [0u8; PROGRAM];
     let mut first = [0u16; UNITS];
-    let count = translate(&mut program);
-    let units = read_order(b"furnace.orders", &mut first);
-    let mut t = number(tally::none(), count, COUNT);
-    t = number(t, units, UNITS);
-    t = first_order(t, &program, &first);
-    t = good_orders(t, &program, &first);
-    t = bad_order(t, &program, &first);
-    tally::finish(t);
+    let count = translate(&rt, &mut program);
+    let units = read_order(&rt, "furnace.orders", &mut first);
+    let mut t = number(&rt, tally::none(), count, COUNT);
+    t = number(&rt, t, units, UNITS);
+    t = first_order(&rt, t, &program, &first);
+    t = good_orders(&rt, t, &program, &first);
+    t = bad_order(&rt, t, &program, &first);
+    tally::finish(&rt, t);
 }

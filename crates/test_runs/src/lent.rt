@@ -6,15 +6,15 @@ use limits::{RECORD_BYTES, SLOTS};
 use tally::{Tally, right};
 
 // A float has the wanted bits. A NaN has those of the one NaN.
-pub fn float(t: Tally, got: f64, wanted: u64) -> Tally {
-    right(t, bits::bits_of(got) == wanted)
+pub fn float(rt: &impl Print, t: Tally, got: f64, wanted: u64) -> Tally {
+    right(rt, t, bits::bits_of(got) == wanted)
 }
 
 // A place of a lent buffer has the wanted bits.
-pub fn at(t: Tally, values: &[f64; SLOTS], i: usize, wanted: u64) -> Tally
+pub fn at(rt: &impl Print, t: Tally, values: &[f64; SLOTS], i: usize, wanted: u64) -> Tally
     requires { i < slots }
 {
-    float(t, values[i], wanted)
+    float(rt, t, values[i], wanted)
 }
 
 // What lent buffers hold: 7 at each place.

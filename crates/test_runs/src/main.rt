@@ -1,15 +1,17 @@
 // Evaluates, starts and steps small programs, compares the bits with values worked out by hand, and prints a line for
 // each that differs.
+#![tactic(auto)]
+
 mod accepted;
 mod lent;
 mod refused;
 mod tank;
 
 // All groups, and the summary.
-fn main() {
+fn main(rt: HostRuntime) {
     let mut t = tally::none();
-    t = tank::all(t);
-    t = accepted::all(t);
-    t = refused::all(t);
-    tally::finish(t);
+    t = tank::all(&rt, t);
+    t = accepted::all(&rt, t);
+    t = refused::all(&rt, t);
+    tally::finish(&rt, t);
 }

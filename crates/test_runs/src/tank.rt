@@ -32,95 +32,95 @@ fn program() -> [u8; 240] {
 }
 
 // A start writes TIME = 0 and H = 1, and nothing else.
-fn starts(t0: Tally) -> Tally {
+fn starts(rt: &impl Print, t0: Tally) -> Tally {
     let p = program();
     let mut v = sevens();
     let mut d = sevens();
     let a = evaluator::start(&p, &mut v, &mut d);
-    let mut t = number(t0, a.number, 0);
-    t = number(t, a.place, 0);
-    t = at(t, &v, 0, 0);
-    t = at(t, &v, 3, 0x3ff0_0000_0000_0000);
-    t = number(t, kept(&v), SLOTS - 2);
-    number(t, kept(&d), SLOTS)
+    let mut t = number(rt, t0, a.number, 0);
+    t = number(rt, t, a.place, 0);
+    t = at(rt, t, &v, 0, 0);
+    t = at(rt, t, &v, 3, 0x3ff0_0000_0000_0000);
+    t = number(rt, t, kept(&v), SLOTS - 2);
+    number(rt, t, kept(&d), SLOTS)
 }
 
 // At TIME = 0 and H = 1: K = 2, Q = 2 * 1 = 2, F = 0, which is neither below 0 nor above 3, and the derivative is
 // 0 - 2 = -2.
-fn evaluates(t0: Tally) -> Tally {
+fn evaluates(rt: &impl Print, t0: Tally) -> Tally {
     let p = program();
     let mut v = sevens();
     let mut d = sevens();
     v[0] = 0.0;
     v[3] = 1.0;
     let a = evaluator::evaluate(&p, &mut v, &mut d);
-    let mut t = number(t0, a.number, 0);
-    t = at(t, &v, 0, 0);
-    t = at(t, &v, 1, 0x4000_0000_0000_0000);
-    t = at(t, &v, 2, 0x4000_0000_0000_0000);
-    t = at(t, &v, 3, 0x3ff0_0000_0000_0000);
-    t = at(t, &v, 4, 0);
-    t = at(t, &d, 3, 0xc000_0000_0000_0000);
-    t = number(t, kept(&v), SLOTS - 5);
-    number(t, kept(&d), SLOTS - 1)
+    let mut t = number(rt, t0, a.number, 0);
+    t = at(rt, t, &v, 0, 0);
+    t = at(rt, t, &v, 1, 0x4000_0000_0000_0000);
+    t = at(rt, t, &v, 2, 0x4000_0000_0000_0000);
+    t = at(rt, t, &v, 3, 0x3ff0_0000_0000_0000);
+    t = at(rt, t, &v, 4, 0);
+    t = at(rt, t, &d, 3, 0xc000_0000_0000_0000);
+    t = number(rt, t, kept(&v), SLOTS - 5);
+    number(rt, t, kept(&d), SLOTS - 1)
 }
 
 // A first step of 0.5, from TIME = 0 and H = 1: the derivative is -2, H = 1 + 0.5 * -2 = 0, and TIME = 0.5.
-fn steps(t0: Tally) -> Tally {
+fn steps(rt: &impl Print, t0: Tally) -> Tally {
     let p = program();
     let mut v = sevens();
     let mut d = sevens();
     let a = evaluator::start(&p, &mut v, &mut d);
     let b = evaluator::step(&p, 0.5, &mut v, &mut d);
-    let mut t = number(t0, a.number, 0);
-    t = number(t, b.number, 0);
-    t = at(t, &v, 3, 0);
-    t = at(t, &v, 0, 0x3fe0_0000_0000_0000);
-    t = at(t, &d, 3, 0xc000_0000_0000_0000);
-    t = number(t, kept(&v), SLOTS - 5);
-    number(t, kept(&d), SLOTS - 1)
+    let mut t = number(rt, t0, a.number, 0);
+    t = number(rt, t, b.number, 0);
+    t = at(rt, t, &v, 3, 0);
+    t = at(rt, t, &v, 0, 0x3fe0_0000_0000_0000);
+    t = at(rt, t, &d, 3, 0xc000_0000_0000_0000);
+    t = number(rt, t, kept(&v), SLOTS - 5);
+    number(rt, t, kept(&d), SLOTS - 1)
 }
 
 // A second: Q = 2 * 0 = 0, F = 0.5, the derivative is 0.5, H = 0 + 0.5 * 0.5 = 0.25, and TIME = 1.
-fn steps_again(t0: Tally) -> Tally {
+fn steps_again(rt: &impl Print, t0: Tally) -> Tally {
     let p = program();
     let mut v = sevens();
     let mut d = sevens();
     v[0] = 0.5;
     v[3] = 0.0;
     let a = evaluator::step(&p, 0.5, &mut v, &mut d);
-    let mut t = number(t0, a.number, 0);
-    t = at(t, &v, 2, 0);
-    t = at(t, &v, 4, 0x3fe0_0000_0000_0000);
-    t = at(t, &d, 3, 0x3fe0_0000_0000_0000);
-    t = at(t, &v, 3, 0x3fd0_0000_0000_0000);
-    at(t, &v, 0, 0x3ff0_0000_0000_0000)
+    let mut t = number(rt, t0, a.number, 0);
+    t = at(rt, t, &v, 2, 0);
+    t = at(rt, t, &v, 4, 0x3fe0_0000_0000_0000);
+    t = at(rt, t, &d, 3, 0x3fe0_0000_0000_0000);
+    t = at(rt, t, &v, 3, 0x3fd0_0000_0000_0000);
+    at(rt, t, &v, 0, 0x3ff0_0000_0000_0000)
 }
 
 // What F is at a TIME.
-fn limited(t0: Tally, time: f64, wanted: u64) -> Tally {
+fn limited(rt: &impl Print, t0: Tally, time: f64, wanted: u64) -> Tally {
     let p = program();
     let mut v = sevens();
     let mut d = sevens();
     v[0] = time;
     let a = evaluator::evaluate(&p, &mut v, &mut d);
-    let t = number(t0, a.number, 0);
-    at(t, &v, 4, wanted)
+    let t = number(rt, t0, a.number, 0);
+    at(rt, t, &v, 4, wanted)
 }
 
 // F is 3 above 3, 0 below 0, TIME at 3, and follows a TIME that is NaN, which neither end stops.
-fn limits(t0: Tally) -> Tally {
-    let mut t = limited(t0, 7.0, 0x4008_0000_0000_0000);
-    t = limited(t, 3.0, 0x4008_0000_0000_0000);
-    t = limited(t, -7.0, 0);
-    limited(t, 0.0 / 0.0, 0x7ff8_0000_0000_0000)
+fn limits(rt: &impl Print, t0: Tally) -> Tally {
+    let mut t = limited(rt, t0, 7.0, 0x4008_0000_0000_0000);
+    t = limited(rt, t, 3.0, 0x4008_0000_0000_0000);
+    t = limited(rt, t, -7.0, 0);
+    limited(rt, t, 0.0 / 0.0, 0x7ff8_0000_0000_0000)
 }
 
 // All of these.
-pub fn all(t0: Tally) -> Tally {
-    let mut t = starts(t0);
-    t = evaluates(t);
-    t = steps(t);
-    t = steps_again(t);
-    limits(t)
+pub fn all(rt: &impl Print, t0: Tally) -> Tally {
+    let mut t = starts(rt, t0);
+    t = evaluates(rt, t);
+    t = steps(rt, t);
+    t = steps_again(rt, t);
+    limits(rt, t)
 }

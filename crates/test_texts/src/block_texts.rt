@@ -3,8 +3,9 @@ use crate::wanted::{blank, record, refused, translated};
 use tally::Tally;
 
 // Both words are reserved everywhere, and TIME is no input.
-fn ungrammatical(t: Tally) -> Tally {
+fn ungrammatical(rt: &impl Print, t: Tally) -> Tally {
     refused(
+        rt,
         t,
         5,
         b"1 18 1 12|PROCED A=P(TIME)|\
@@ -16,8 +17,9 @@ fn ungrammatical(t: Tally) -> Tally {
 }
 
 // Only assignments stand inside, and an output is named once.
-fn inside(t: Tally) -> Tally {
+fn inside(rt: &impl Print, t: Tally) -> Tally {
     refused(
+        rt,
         t,
         7,
         b"3 26 3 1|PROCED A=P(B)\nA=B\nX=INTGRL(0,1)\nENDPRO\nB=1|\
@@ -26,8 +28,9 @@ fn inside(t: Tally) -> Tally {
 }
 
 // As an initial an output is no constant, and a name of the block's own is not known.
-fn initials(t: Tally) -> Tally {
+fn initials(rt: &impl Print, t: Tally) -> Tally {
     refused(
+        rt,
         t,
         7,
         b"5 23 5 1|PROCED A=P(B)\nA=B\nENDPRO\nB=1\nX=INTGRL(A,1)|\
@@ -36,8 +39,9 @@ fn initials(t: Tally) -> Tally {
 }
 
 // Two blocks that set one name; and an input that is a name of another block's own.
-fn two_blocks(t: Tally) -> Tally {
+fn two_blocks(rt: &impl Print, t: Tally) -> Tally {
     refused(
+        rt,
         t,
         7,
         b"6 21 6 1|PROCED A=P(T)\nL=T\nA=L\nENDPRO\nPROCED B=Q(T)\nL=T\nB=L\nENDPRO\nT=1|\
@@ -46,7 +50,7 @@ fn two_blocks(t: Tally) -> Tally {
 }
 
 // A name of the block's own has its slot among the others; a header may go over lines.
-fn records(t0: Tally) -> Tally {
+fn records(rt: &impl Print, t0: Tally) -> Tally {
     let one = 0x3ff0_0000_0000_0000;
     let mut w = blank();
     record(&mut w, 0, 3, 0, 5, one);
@@ -59,20 +63,26 @@ fn records(t0: Tally) -> Tally {
     record(&mut w, 7, 13, 2, 3, 0);
     record(&mut w, 8, 4, 2, 6, 0);
     record(&mut w, 9, 13, 4, 6, 0);
-    let t = translated(t0, b"PROCED A=P(T)\nL=T\nA=L+L\nENDPRO\nT=1\nB=A", 10, &w);
+    let t = translated(
+        rt,
+        t0,
+        b"PROCED A=P(T)\nL=T\nA=L+L\nENDPRO\nT=1\nB=A",
+        10,
+        &w,
+    );
     let mut x = blank();
     record(&mut x, 0, 3, 0, 5, one);
     record(&mut x, 1, 13, 2, 5, 0);
     record(&mut x, 2, 4, 2, 3, 0);
     record(&mut x, 3, 13, 1, 3, 0);
-    translated(t, b"PROCED A=...\nP(T)\nA=T\nENDPRO\nT=1", 4, &x)
+    translated(rt, t, b"PROCED A=...\nP(T)\nA=T\nENDPRO\nT=1", 4, &x)
 }
 
 // All of these.
-pub fn all(t0: Tally) -> Tally {
-    let mut t = ungrammatical(t0);
-    t = inside(t);
-    t = initials(t);
-    t = two_blocks(t);
-    records(t)
+pub fn all(rt: &impl Print, t0: Tally) -> Tally {
+    let mut t = ungrammatical(rt, t0);
+    t = inside(rt, t);
+    t = initials(rt, t);
+    t = two_blocks(rt, t);
+    records(rt, t)
 }

@@ -4,8 +4,9 @@ use crate::wanted::{blank, faulty, faulty_front, record, refused, silent, transl
 use tally::Tally;
 
 // 11: the text ends behind dots, or behind comments that follow them. It comes before 12.
-fn unfinished(t: Tally) -> Tally {
+fn unfinished(rt: &impl Print, t: Tally) -> Tally {
     refused(
+        rt,
         t,
         5,
         b"1 11 1 6|A=3...\n*2|\
@@ -17,7 +18,7 @@ fn unfinished(t: Tally) -> Tally {
 
 // Comments between cards are no part of the statement, which keeps its first line; nor do their dots continue it, or
 // their lack of dots end it. A star behind a space multiplies.
-fn between(t0: Tally) -> Tally {
+fn between(rt: &impl Print, t0: Tally) -> Tally {
     let one = 0x3ff0_0000_0000_0000;
     let two = 0x4000_0000_0000_0000;
     let four = 0x4010_0000_0000_0000;
@@ -32,16 +33,17 @@ fn between(t0: Tally) -> Tally {
     record(&mut w, 7, 5, 0, 3, 0);
     record(&mut w, 8, 13, 2, 3, 0);
     let t = translated(
+        rt,
         t0,
         b"CONST C=2\n* B\nB=A...\n* PLUS\n*\n+C...\n*9 ...\n *4\n* A\nA=1\n",
         9,
         &w,
     );
-    faulty(t, b"A=1...\n*\n2", 5, b"1 18 3 1")
+    faulty(rt, t, b"A=1...\n*\n2", 5, b"1 18 3 1")
 }
 
 // Four cards with comments among them are not too many, and five are.
-fn cards(t0: Tally) -> Tally {
+fn cards(rt: &impl Print, t0: Tally) -> Tally {
     let one = 0x3ff0_0000_0000_0000;
     let mut w = blank();
     record(&mut w, 0, 3, 0, 1, one);
@@ -52,8 +54,9 @@ fn cards(t0: Tally) -> Tally {
     record(&mut w, 5, 3, 0, 1, one);
     record(&mut w, 6, 5, 0, 1, 0);
     record(&mut w, 7, 13, 1, 1, 0);
-    let t = translated(t0, b"A=1...\n*\n+1...\n*\n*...\n+1...\n*\n+1", 8, &w);
+    let t = translated(rt, t0, b"A=1...\n*\n+1...\n*\n*...\n+1...\n*\n+1", 8, &w);
     faulty(
+        rt,
         t,
         b"A=1...\n*\n+1...\n*\n+1...\n*\n+1...\n*\n+1\nB=1",
         5,
@@ -64,15 +67,15 @@ fn cards(t0: Tally) -> Tally {
 // A sum of two ones, with a comment of 100 bytes between its cards.
 fn long_comment() -> [u8; 110] {
     let mut text = [120u8; 110];
-    bytes::copy(b"A=1...\n*", &mut text);
-    bytes::copy(b"\n+1", &mut text[107..]);
+    bits::put_bytes(&mut text, 0, b"A=1...\n*");
+    bits::put_bytes(&mut text, 107, b"\n+1");
     text
 }
 
 // The same with a comment of one byte, the second card being of 73.
 fn long_card() -> [u8; 82] {
     let mut text = [32u8; 82];
-    bytes::copy(b"A=1...\n*\n+1", &mut text);
+    bits::put_bytes(&mut text, 0, b"A=1...\n*\n+1");
     text
 }
 
@@ -88,24 +91,24 @@ fn two_ones() -> [u8; 4096] {
 }
 
 // A comment inside may have any length, and a card beside it 72 bytes.
-fn lengths(t0: Tally) -> Tally {
-    let t = translated(t0, &long_comment(), 4, &two_ones());
-    faulty(t, &long_card(), 5, b"1 13 1 1")
+fn lengths(rt: &impl Print, t0: Tally) -> Tally {
+    let t = translated(rt, t0, &long_comment(), 4, &two_ones());
+    faulty(rt, t, &long_card(), 5, b"1 13 1 1")
 }
 
 // A card that continues, and a comment behind it up to the largest size of a text: it counts for that.
-fn largest(t0: Tally) -> Tally {
+fn largest(rt: &impl Print, t0: Tally) -> Tally {
     let mut text = [42u8; 32769];
-    bytes::copy(b"A=1...\n", &mut text);
-    let t = faulty_front(t0, &text, 32768, 5, b"1 11 1 6");
-    silent(t, &text, 2)
+    bits::put_bytes(&mut text, 0, b"A=1...\n");
+    let t = faulty_front(rt, t0, &text, 32768, 5, b"1 11 1 6");
+    silent(rt, t, &text, 2)
 }
 
 // A card that continues, and 1,024 lines of comments.
 fn many_comments() -> [u8; 2056] {
     let mut text = [0u8; 2056];
     fill(&mut text, Rule::Comment, 0, 1);
-    bytes::copy(b"A=1 ...\n", &mut text);
+    bits::put_bytes(&mut text, 0, b"A=1 ...\n");
     text
 }
 
@@ -113,21 +116,21 @@ fn many_comments() -> [u8; 2056] {
 fn far_card(last: u8) -> [u8; 2054] {
     let mut text = [0u8; 2054];
     fill(&mut text, Rule::Comment, 0, 1);
-    bytes::copy(b"A=1 ...\n", &mut text);
+    bits::put_bytes(&mut text, 0, b"A=1 ...\n");
     text[2052] = b'+';
     text[2053] = last;
     text
 }
 
 // That card is line 1,024. Comments inside count as lines, and one line more is too many.
-fn most_lines(t0: Tally) -> Tally {
-    let mut t = translated(t0, &far_card(b'1'), 4, &two_ones());
-    t = faulty(t, &far_card(b'#'), 5, b"1 14 1024 2");
-    silent(t, &many_comments(), 3)
+fn most_lines(rt: &impl Print, t0: Tally) -> Tally {
+    let mut t = translated(rt, t0, &far_card(b'1'), 4, &two_ones());
+    t = faulty(rt, t, &far_card(b'#'), 5, b"1 14 1024 2");
+    silent(rt, t, &many_comments(), 3)
 }
 
 // A blank line behind a comment ends the statement, and the next line starts another.
-fn blanks(t0: Tally) -> Tally {
+fn blanks(rt: &impl Print, t0: Tally) -> Tally {
     let one = 0x3ff0_0000_0000_0000;
     let two = 0x4000_0000_0000_0000;
     let mut w = blank();
@@ -135,12 +138,12 @@ fn blanks(t0: Tally) -> Tally {
     record(&mut w, 1, 13, 1, 1, 0);
     record(&mut w, 2, 3, 0, 4, two);
     record(&mut w, 3, 13, 2, 4, 0);
-    let t = translated(t0, b"A=1...\n* C\n\nB=2", 4, &w);
-    faulty(t, b"A=1...\n* C\n  \n+2", 5, b"4 18 4 1")
+    let t = translated(rt, t0, b"A=1...\n* C\n\nB=2", 4, &w);
+    faulty(rt, t, b"A=1...\n* C\n  \n+2", 5, b"4 18 4 1")
 }
 
 // Comments inside count as lines of the text; and the header, the end and a setting of a block may have them.
-fn numbered(t0: Tally) -> Tally {
+fn numbered(rt: &impl Print, t0: Tally) -> Tally {
     let one = 0x3ff0_0000_0000_0000;
     let mut w = blank();
     record(&mut w, 0, 3, 0, 10, one);
@@ -149,9 +152,10 @@ fn numbered(t0: Tally) -> Tally {
     record(&mut w, 3, 4, 2, 4, 0);
     record(&mut w, 4, 5, 0, 4, 0);
     record(&mut w, 5, 13, 1, 4, 0);
-    let mut t = faulty(t0, b"A=1...\n*\n*\n+2\nB=", 5, b"5 18 5 2");
-    t = faulty(t, b"A=1...\n*\n*\n+2\nA=3", 7, b"5 21 5 1");
+    let mut t = faulty(rt, t0, b"A=1...\n*\n*\n+2\nB=", 5, b"5 18 5 2");
+    t = faulty(rt, t, b"A=1...\n*\n*\n+2\nA=3", 7, b"5 21 5 1");
     translated(
+        rt,
         t,
         b"PROCED A...\n* OUT\n=F(C)\nA=C...\n* TWICE\n+C\nENDPRO...\n*\n\nC=1",
         6,
@@ -160,13 +164,13 @@ fn numbered(t0: Tally) -> Tally {
 }
 
 // All of these.
-pub fn all(t0: Tally) -> Tally {
-    let mut t = unfinished(t0);
-    t = between(t);
-    t = cards(t);
-    t = lengths(t);
-    t = largest(t);
-    t = most_lines(t);
-    t = blanks(t);
-    numbered(t)
+pub fn all(rt: &impl Print, t0: Tally) -> Tally {
+    let mut t = unfinished(rt, t0);
+    t = between(rt, t);
+    t = cards(rt, t);
+    t = lengths(rt, t);
+    t = largest(rt, t);
+    t = most_lines(rt, t);
+    t = blanks(rt, t);
+    numbered(rt, t)
 }

@@ -9,54 +9,61 @@ use limits::{FAULT_ROOM, PROGRAM_ROOM};
 use tally::Tally;
 
 // The first n bytes of a text have this program; a text that is shorter counts as one that differs.
-fn front(t: Tally, text: &[u8], n: usize, count: usize, wanted: &[u8; PROGRAM_ROOM]) -> Tally {
+fn front(
+    rt: &impl Print,
+    t: Tally,
+    text: &[u8],
+    n: usize,
+    count: usize,
+    wanted: &[u8; PROGRAM_ROOM],
+) -> Tally {
     if text.len() < n {
-        return tally::right(t, false);
+        return tally::right(rt, t, false);
     }
-    exact(t, &text[..n], count, wanted)
+    exact(rt, t, &text[..n], count, wanted)
 }
 
 // The first n bytes of a text are refused with this number, silently.
-fn front_silent(t: Tally, text: &[u8], n: usize, number: usize) -> Tally {
+fn front_silent(rt: &impl Print, t: Tally, text: &[u8], n: usize, number: usize) -> Tally {
     if text.len() < n {
-        return tally::right(t, false);
+        return tally::right(rt, t, false);
     }
-    silent(t, &text[..n], number)
+    silent(rt, t, &text[..n], number)
 }
 
 // One number is stored.
-fn stored(t: Tally, text: &[u8]) -> Tally {
+fn stored(rt: &impl Print, t: Tally, text: &[u8]) -> Tally {
     let w = sums_program(2, 2);
-    exact(t, text, 2, &w)
+    exact(rt, t, text, 2, &w)
 }
 
 // ---- lines
 
 // 513, 1,024 and 1,025 lines; a last line without byte 10 counts.
-fn lines(t0: Tally) -> Tally {
+fn lines(rt: &impl Print, t0: Tally) -> Tally {
     let mut text = [10u8; 1025];
-    let mut t = silent(t0, &text[..513], 0);
-    t = silent(t, &text[..1024], 0);
-    t = silent(t, &text, 3);
+    let mut t = silent(rt, t0, &text[..513], 0);
+    t = silent(rt, t, &text[..1024], 0);
+    t = silent(rt, t, &text, 3);
     text[1024] = 42;
-    t = silent(t, &text, 3);
+    t = silent(rt, t, &text, 3);
     text[1023] = 42;
-    silent(t, &text[..1024], 0)
+    silent(rt, t, &text[..1024], 0)
 }
 
 // A statement on line 1,024, without byte 10.
 fn late() -> [u8; 1026] {
     let mut text = [10u8; 1026];
-    bytes::copy(b"A=1", &mut text[1023..]);
+    bits::put_bytes(&mut text, 1023, b"A=1");
     text
 }
 
 // Both bytes of that line stand in its records.
-fn last_line(t: Tally) -> Tally {
+fn last_line(rt: &impl Print, t: Tally) -> Tally {
     let mut w = blank();
     record(&mut w, 0, 3, 0, 1024, 0x3ff0_0000_0000_0000);
     record(&mut w, 1, 13, 1, 1024, 0);
-    translated(t, &late(), 2, &w)
+    translated(rt, t, &late(), 2, &w)
 }
 
 // ---- statements
@@ -69,11 +76,11 @@ fn names() -> [u8; 3591] {
 }
 
 // 512 are translated into 1,024 records, and 257 into 514. 513 are refused.
-fn statements(t0: Tally) -> Tally {
+fn statements(rt: &impl Print, t0: Tally) -> Tally {
     let text = names();
-    let mut t = front(t0, &text, 1799, 514, &sums_program(514, 2));
-    t = front(t, &text, 3584, 1024, &sums_program(1024, 2));
-    silent(t, &text, 4)
+    let mut t = front(rt, t0, &text, 1799, 514, &sums_program(514, 2));
+    t = front(rt, t, &text, 3584, 1024, &sums_program(1024, 2));
+    silent(rt, t, &text, 4)
 }
 
 // The same with a bad byte in the 512th.
@@ -84,23 +91,23 @@ fn bad_names() -> [u8; 3591] {
 }
 
 // That is told of 512, and of 513 only that they are too many.
-fn bad_statements(t0: Tally) -> Tally {
+fn bad_statements(rt: &impl Print, t0: Tally) -> Tally {
     let text = bad_names();
-    let t = faulty_front(t0, &text, 3584, 5, b"512 14 512 1");
-    silent(t, &text, 4)
+    let t = faulty_front(rt, t0, &text, 3584, 5, b"512 14 512 1");
+    silent(rt, t, &text, 4)
 }
 
 // 512 statements, each but the last using the next.
 fn links() -> [u8; 5120] {
     let mut text = [0u8; 5120];
     fill(&mut text, Rule::Link, 0, 9);
-    bytes::copy(b"1   ", &mut text[5115..]);
+    bits::put_bytes(&mut text, 5115, b"1   ");
     text
 }
 
 // They are put the other way round.
-fn chain(t: Tally) -> Tally {
-    exact(t, &links(), 1024, &links_program())
+fn chain(rt: &impl Print, t: Tally) -> Tally {
+    exact(rt, t, &links(), 1024, &links_program())
 }
 
 // ---- definitions
@@ -123,13 +130,13 @@ fn renamed(place: usize, figure: u8) -> [u8; 7936]
 
 // 1,023 of them are translated, and so are 256. The last, B023, is one too many, also if it is B022 like the one before
 // it. Of 1,023 the last may not be B021.
-fn definitions(t0: Tally) -> Tally {
+fn definitions(rt: &impl Print, t0: Tally) -> Tally {
     let text = constants();
-    let mut t = front(t0, &text, 1984, 256, &constants_program(256));
-    t = front(t, &text, 7928, 1023, &constants_program(1023));
-    t = silent(t, &text, 6);
-    t = silent(t, &renamed(7932, b'2'), 6);
-    faulty_front(t, &renamed(7925, b'1'), 7928, 7, b"128 21 128 1")
+    let mut t = front(rt, t0, &text, 1984, 256, &constants_program(256));
+    t = front(rt, t, &text, 7928, 1023, &constants_program(1023));
+    t = silent(rt, t, &text, 6);
+    t = silent(rt, t, &renamed(7932, b'2'), 6);
+    faulty_front(rt, t, &renamed(7925, b'1'), 7928, 7, b"128 21 128 1")
 }
 
 // 129 such statements, the first with a bad byte.
@@ -141,8 +148,8 @@ fn bad_constants() -> [u8; 7998] {
 }
 
 // That is told, though the others have 1,024 definitions.
-fn bad_definitions(t: Tally) -> Tally {
-    faulty(t, &bad_constants(), 5, b"1 14 1 1")
+fn bad_definitions(rt: &impl Print, t: Tally) -> Tally {
+    faulty(rt, t, &bad_constants(), 5, b"1 14 1 1")
 }
 
 // 73 statements of eight constants, and 440 of one definition: 513 statements, and 1,024 definitions.
@@ -164,19 +171,19 @@ fn mixture_program() -> [u8; PROGRAM_ROOM] {
 fn with_last(last: &[u8]) -> [u8; 7606] {
     let mut text = mixture();
     if last.len() == 14 {
-        bytes::copy(last, &mut text[7592..]);
+        bits::put_bytes(&mut text, 7592, last);
     }
     text
 }
 
 // 512 statements with 1,023 definitions. A statement more is refused first; 1,024 definitions in 512 statements are too
 // many, and doubles count.
-fn both(t0: Tally) -> Tally {
+fn both(rt: &impl Print, t0: Tally) -> Tally {
     let text = mixture();
-    let mut t = front(t0, &text, 7599, 1462, &mixture_program());
-    t = silent(t, &text, 4);
-    t = silent(t, &with_last(b"CONST B=1,C=1\n"), 6);
-    silent(t, &with_last(b"CONST B=1,B=1\n"), 6)
+    let mut t = front(rt, t0, &text, 7599, 1462, &mixture_program());
+    t = silent(rt, t, &text, 4);
+    t = silent(rt, t, &with_last(b"CONST B=1,C=1\n"), 6);
+    silent(rt, t, &with_last(b"CONST B=1,B=1\n"), 6)
 }
 
 // ---- slots of two bytes
@@ -192,7 +199,7 @@ fn many_constants() -> [u8; 8000] {
 fn behind_constants(tail: &[u8]) -> [u8; 8000] {
     let mut text = many_constants();
     if tail.len() <= 126 {
-        bytes::copy(tail, &mut text[7874..]);
+        bits::put_bytes(&mut text, 7874, tail);
     }
     text
 }
@@ -211,9 +218,9 @@ fn last_slots_program() -> [u8; PROGRAM_ROOM] {
 }
 
 // Five constants more, and these two.
-fn last_slots(t: Tally) -> Tally {
+fn last_slots(rt: &impl Print, t: Tally) -> Tally {
     let text = behind_constants(b"CONST U=1,V=1,W=1,S=1,T=1\nY=X+A255\nX=INTGRL(2,Y)\n");
-    exact(t, &text, 1028, &last_slots_program())
+    exact(rt, t, &text, 1028, &last_slots_program())
 }
 
 // P of the block is slot 1,017, R is 1,018 and the state X is 1,019. A254, A255 and A256 are the slots 255 to 257.
@@ -236,44 +243,44 @@ fn block_slots_program() -> [u8; PROGRAM_ROOM] {
 }
 
 // The block, which sets P twice, stands behind R and before X.
-fn block_slots(t: Tally) -> Tally {
+fn block_slots(rt: &impl Print, t: Tally) -> Tally {
     let text = behind_constants(
         b"PROCED P=Q(R)\nP=R\nP=P-A254\nENDPRO\nR=A255*A256\nX=INTGRL(B015,P)\n",
     );
-    exact(t, &text, 1029, &block_slots_program())
+    exact(rt, t, &text, 1029, &block_slots_program())
 }
 
 // Each setting in a block counts: with seven there are 1,023, and with eight one too many.
-fn settings(t0: Tally) -> Tally {
+fn settings(rt: &impl Print, t0: Tally) -> Tally {
     let seven = behind_constants(b"PROCED P=Q(B015)\nP=1\nP=1\nP=1\nP=1\nP=1\nP=1\nP=Z\nENDPRO\n");
-    let t = faulty(t0, &seven, 7, b"135 26 135 1");
+    let t = faulty(rt, t0, &seven, 7, b"135 26 135 1");
     let eight = behind_constants(
         b"PROCED P=Q(B015)\nP=1\nP=1\nP=1\nP=1\nP=1\nP=1\nP=1\nP=Z\nENDPRO\n",
     );
-    silent(t, &eight, 6)
+    silent(rt, t, &eight, 6)
 }
 
 // ---- a statement
 
 // 72 and 73 bytes, spaces counted.
-fn bytes(t0: Tally) -> Tally {
+fn bytes(rt: &impl Print, t0: Tally) -> Tally {
     let mut text = [32u8; 73];
-    bytes::copy(b"A=1", &mut text);
-    let t = stored(t0, &text[..72]);
-    faulty(t, &text, 5, b"1 13 1 1")
+    bits::put_bytes(&mut text, 0, b"A=1");
+    let t = stored(rt, t0, &text[..72]);
+    faulty(rt, t, &text, 5, b"1 13 1 1")
 }
 
 // 4 and 5 lines, 6 and 7 letters.
-fn runs_and_names(t0: Tally) -> Tally {
+fn runs_and_names(rt: &impl Print, t0: Tally) -> Tally {
     let w = sums_program(8, 8);
-    let mut t = exact(t0, b"A=1...\n+1...\n+1...\n+1", 8, &w);
-    t = faulty(t, b"A=1...\n+1...\n+1...\n+1...\n+1", 5, b"1 12 1 1");
-    t = stored(t, b"ABCDEF=1");
-    faulty(t, b"ABCDEFG=1", 5, b"1 15 1 1")
+    let mut t = exact(rt, t0, b"A=1...\n+1...\n+1...\n+1", 8, &w);
+    t = faulty(rt, t, b"A=1...\n+1...\n+1...\n+1...\n+1", 5, b"1 12 1 1");
+    t = stored(rt, t, b"ABCDEF=1");
+    faulty(rt, t, b"ABCDEFG=1", 5, b"1 15 1 1")
 }
 
 // 16 and 17 levels, of parentheses and of calls; those of INTGRL are not counted.
-fn levels(t0: Tally) -> Tally {
+fn levels(rt: &impl Print, t0: Tally) -> Tally {
     let one = 0x3ff0_0000_0000_0000;
     let two = 0x4000_0000_0000_0000;
     let mut w = blank();
@@ -285,11 +292,24 @@ fn levels(t0: Tally) -> Tally {
     record(&mut x, 1, 3, 0, 1, two);
     record(&mut x, 2, 12, 0, 1, 0);
     record(&mut x, 3, 13, 1, 1, 0);
-    let mut t = stored(t0, b"A=((((((((((((((((1))))))))))))))))");
-    t = faulty(t, b"A=(((((((((((((((((1)))))))))))))))))", 5, b"1 19 1 19");
-    t = translated(t, b"A=INTGRL(1,((((((((((((((((1)))))))))))))))))", 3, &w);
-    t = translated(t, b"A=(((((((((((((((COMPAR(1,2))))))))))))))))", 4, &x);
+    let mut t = stored(rt, t0, b"A=((((((((((((((((1))))))))))))))))");
+    t = faulty(
+        rt,
+        t,
+        b"A=(((((((((((((((((1)))))))))))))))))",
+        5,
+        b"1 19 1 19",
+    );
+    t = translated(
+        rt,
+        t,
+        b"A=INTGRL(1,((((((((((((((((1)))))))))))))))))",
+        3,
+        &w,
+    );
+    t = translated(rt, t, b"A=(((((((((((((((COMPAR(1,2))))))))))))))))", 4, &x);
     faulty(
+        rt,
         t,
         b"A=((((((((((((((((COMPAR(1,2)))))))))))))))))",
         5,
@@ -300,11 +320,11 @@ fn levels(t0: Tally) -> Tally {
 // ---- bytes and records
 
 // 16,385, 32,768 and 32,769 bytes, of a comment.
-fn size(t0: Tally) -> Tally {
+fn size(rt: &impl Print, t0: Tally) -> Tally {
     let text = [42u8; 32769];
-    let mut t = silent(t0, &text[..16385], 0);
-    t = silent(t, &text[..32768], 0);
-    silent(t, &text, 2)
+    let mut t = silent(rt, t0, &text[..16385], 0);
+    t = silent(rt, t, &text[..32768], 0);
+    silent(rt, t, &text, 2)
 }
 
 // 449 sums, the last of which ends with byte 32,768.
@@ -315,10 +335,10 @@ fn crowd() -> [u8; 32769] {
 }
 
 // They have too many records. A byte more is refused first.
-fn crowded(t0: Tally) -> Tally {
+fn crowded(rt: &impl Print, t0: Tally) -> Tally {
     let text = crowd();
-    let t = front_silent(t0, &text, 32768, 8);
-    silent(t, &text, 2)
+    let t = front_silent(rt, t0, &text, 32768, 8);
+    silent(rt, t, &text, 2)
 }
 
 // 60 sums of 34 ones have 68 records each. A comment fills the largest text.
@@ -331,14 +351,14 @@ fn sixty() -> [u8; 32768] {
 // One of 8 ones has 16.
 fn sums() -> [u8; 32768] {
     let mut text = sixty();
-    bytes::copy(b"B=1+1+1+1+1+1+1+1\n", &mut text[4380..]);
+    bits::put_bytes(&mut text, 4380, b"B=1+1+1+1+1+1+1+1\n");
     text
 }
 
 // A constant has one more.
 fn sums_and_one() -> [u8; 32768] {
     let mut text = sums();
-    bytes::copy(b"CONST C=1\n", &mut text[4398..]);
+    bits::put_bytes(&mut text, 4398, b"CONST C=1\n");
     text
 }
 
@@ -350,21 +370,29 @@ fn fullest() -> [u8; PROGRAM_ROOM] {
 }
 
 // 4,096 records are the most.
-fn records(t0: Tally) -> Tally {
-    let t = exact(t0, &sums(), 4096, &fullest());
-    silent(t, &sums_and_one(), 8)
+fn records(rt: &impl Print, t0: Tally) -> Tally {
+    let t = exact(rt, t0, &sums(), 4096, &fullest());
+    silent(rt, t, &sums_and_one(), 8)
 }
 
 // ---- lent room
 
 // Each of 512 lines has a fault of this code and at this column, and they fill 4,096 bytes.
-fn full_list(t: Tally, text: &[u8], number: usize, code: u64, column: u64) -> Tally {
+fn full_list(
+    rt: &impl Print,
+    t: Tally,
+    text: &[u8],
+    number: usize,
+    code: u64,
+    column: u64,
+) -> Tally {
     let mut faults = [170u8; 4096];
     let mut program = [170u8; 64];
     let mut list = [170u8; 4096];
     put_each(&mut list, code, column);
     let kept = [170u8; 64];
     lent(
+        rt,
         t,
         text,
         &mut faults,
@@ -377,29 +405,30 @@ fn full_list(t: Tally, text: &[u8], number: usize, code: u64, column: u64) -> Ta
 }
 
 // 512 statements end behind their equals sign; 512 headers have no end; 512 statements are a loop.
-fn full_lists(t0: Tally) -> Tally {
+fn full_lists(rt: &impl Print, t0: Tally) -> Tally {
     let mut ends = [0u8; 3072];
     fill(&mut ends, Rule::Sum, 0, 5);
-    let mut t = full_list(t0, &ends, 5, 18, 5);
+    let mut t = full_list(rt, t0, &ends, 5, 18, 5);
     let mut headers = [0u8; 7168];
     fill(&mut headers, Rule::Header, 0, 13);
-    t = full_list(t, &headers, 7, 25, 1);
+    t = full_list(rt, t, &headers, 7, 25, 1);
     let mut links = [0u8; 5120];
     fill(&mut links, Rule::Link, 0, 9);
-    full_list(t, &links, 7, 24, 1)
+    full_list(rt, t, &links, 7, 24, 1)
 }
 
 // With n bytes lent for faults, a text with one has this number and count, and those bytes then hold what is wanted.
-fn with_room(t: Tally, n: usize, number: usize, count: usize, list: &[u8]) -> Tally
+fn with_room(rt: &impl Print, t: Tally, n: usize, number: usize, count: usize, list: &[u8]) -> Tally
     requires { n ≤ 4104 }
 {
     if list.len() < n {
-        return tally::right(t, false);
+        return tally::right(rt, t, false);
     }
     let mut faults = [170u8; 4104];
     let mut program = [170u8; 64];
     let kept = [170u8; 64];
     lent(
+        rt,
         t,
         b"A=#",
         &mut faults[..n],
@@ -412,30 +441,30 @@ fn with_room(t: Tally, n: usize, number: usize, count: usize, list: &[u8]) -> Ta
 }
 
 // Fewer than 4,096 bytes are too few, and nothing is written.
-fn fault_room(t: Tally, n: usize) -> Tally
+fn fault_room(rt: &impl Print, t: Tally, n: usize) -> Tally
     requires { n ≤ 4104 }
 {
     let mut list = [170u8; 4104];
     if n < 4096 {
-        return with_room(t, n, 1, 0, &list);
+        return with_room(rt, t, n, 1, 0, &list);
     }
     put_faults(b"1 14 1 3", &mut list);
-    with_room(t, n, 5, 1, &list)
+    with_room(rt, t, n, 5, 1, &list)
 }
 
 // Half of that, and every room from a fault less to a fault more.
-fn fault_rooms(t0: Tally) -> Tally {
-    let mut t = fault_room(t0, 2048);
+fn fault_rooms(rt: &impl Print, t0: Tally) -> Tally {
+    let mut t = fault_room(rt, t0, 2048);
     let mut n: usize = 4088;
     while n <= 4104 {
-        t = fault_room(t, n);
+        t = fault_room(rt, t, n);
         n += 1;
     }
     t
 }
 
 // 4,095 bytes for faults are too few for a text without fault too, and so are 63 for four records.
-fn short_rooms(t0: Tally) -> Tally {
+fn short_rooms(rt: &impl Print, t0: Tally) -> Tally {
     let mut faults = [170u8; 4095];
     let mut program = [170u8; 63];
     let mut list = [170u8; FAULT_ROOM];
@@ -443,6 +472,7 @@ fn short_rooms(t0: Tally) -> Tally {
     let kept = [170u8; 63];
     let whole = [170u8; FAULT_ROOM];
     let t = lent(
+        rt,
         t0,
         b"A=1\nB=2",
         &mut faults,
@@ -452,11 +482,21 @@ fn short_rooms(t0: Tally) -> Tally {
         &short,
         &kept,
     );
-    lent(t, b"A=1\nB=2", &mut list, &mut program, 8, 0, &whole, &kept)
+    lent(
+        rt,
+        t,
+        b"A=1\nB=2",
+        &mut list,
+        &mut program,
+        8,
+        0,
+        &whole,
+        &kept,
+    )
 }
 
 // 64 bytes hold four records, and so do 79, but not five.
-fn rooms(t0: Tally) -> Tally {
+fn rooms(rt: &impl Print, t0: Tally) -> Tally {
     let one = 0x3ff0_0000_0000_0000;
     let two = 0x4000_0000_0000_0000;
     let mut faults = [170u8; FAULT_ROOM];
@@ -468,6 +508,7 @@ fn rooms(t0: Tally) -> Tally {
     record(&mut wanted, 2, 3, 0, 2, two);
     record(&mut wanted, 3, 13, 2, 2, 0);
     let t = lent(
+        rt,
         t0,
         b"A=1\nB=2",
         &mut faults,
@@ -480,6 +521,7 @@ fn rooms(t0: Tally) -> Tally {
     let mut more = [170u8; 79];
     let kept = [170u8; 79];
     lent(
+        rt,
         t,
         b"A=1\nB=2\nCONST C=3",
         &mut faults,
@@ -492,26 +534,26 @@ fn rooms(t0: Tally) -> Tally {
 }
 
 // All of these.
-pub fn all(t0: Tally) -> Tally {
-    let mut t = lines(t0);
-    t = last_line(t);
-    t = statements(t);
-    t = bad_statements(t);
-    t = chain(t);
-    t = definitions(t);
-    t = bad_definitions(t);
-    t = both(t);
-    t = last_slots(t);
-    t = block_slots(t);
-    t = settings(t);
-    t = bytes(t);
-    t = runs_and_names(t);
-    t = levels(t);
-    t = size(t);
-    t = crowded(t);
-    t = records(t);
-    t = full_lists(t);
-    t = fault_rooms(t);
-    t = short_rooms(t);
-    rooms(t)
+pub fn all(rt: &impl Print, t0: Tally) -> Tally {
+    let mut t = lines(rt, t0);
+    t = last_line(rt, t);
+    t = statements(rt, t);
+    t = bad_statements(rt, t);
+    t = chain(rt, t);
+    t = definitions(rt, t);
+    t = bad_definitions(rt, t);
+    t = both(rt, t);
+    t = last_slots(rt, t);
+    t = block_slots(rt, t);
+    t = settings(rt, t);
+    t = bytes(rt, t);
+    t = runs_and_names(rt, t);
+    t = levels(rt, t);
+    t = size(rt, t);
+    t = crowded(rt, t);
+    t = records(rt, t);
+    t = full_lists(rt, t);
+    t = fault_rooms(rt, t);
+    t = short_rooms(rt, t);
+    rooms(rt, t)
 }

@@ -9,7 +9,7 @@ use limits::PROGRAM_ROOM;
 
 // What stands on each line: a sum of ones with a name of its own; eight constants of one; a name that is the next of
 // 512, and the last the first; a header; a comment.
-#[derive(Drop)]
+#[derive(Clone, Copy)]
 pub enum Rule {
     Sum,
     Constants,

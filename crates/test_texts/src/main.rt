@@ -2,6 +2,8 @@
 // slips to shut out, texts with procedural blocks, texts with comments inside statements, texts for the places of
 // faults, and texts at each limit. Verdict, faults, records and untouched bytes are compared with what the papers say.
 // Then arrays that no text gives.
+#![tactic(auto)]
+
 mod arrays;
 mod block_texts;
 mod comment_texts;
@@ -14,15 +16,15 @@ mod table;
 mod wanted;
 
 // All groups, and the summary.
-fn main() {
+fn main(rt: HostRuntime) {
     let mut t = tally::none();
-    t = table::all(t);
-    t = power_texts::all(t);
-    t = slips::all(t);
-    t = block_texts::all(t);
-    t = comment_texts::all(t);
-    t = place_texts::all(t);
-    t = limits_met::all(t);
-    t = arrays::all(t);
-    tally::finish(t);
+    t = table::all(&rt, t);
+    t = power_texts::all(&rt, t);
+    t = slips::all(&rt, t);
+    t = block_texts::all(&rt, t);
+    t = comment_texts::all(&rt, t);
+    t = place_texts::all(&rt, t);
+    t = limits_met::all(&rt, t);
+    t = arrays::all(&rt, t);
+    tally::finish(&rt, t);
 }

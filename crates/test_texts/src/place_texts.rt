@@ -9,8 +9,9 @@ use tally::Tally;
 
 // 14: the byte itself, at both ends of a card, behind spaces, names and numbers, on later cards, behind comments, which
 // may have such bytes.
-fn bad_bytes(t: Tally) -> Tally {
+fn bad_bytes(rt: &impl Print, t: Tally) -> Tally {
     refused(
+        rt,
         t,
         5,
         b"1 14 1 1|#=1|\
@@ -28,8 +29,9 @@ fn bad_bytes(t: Tally) -> Tally {
 
 // 15: the name's first byte. A name does not go on behind a card's end: there the next card's first token is one too
 // many.
-fn long_names(t: Tally) -> Tally {
+fn long_names(rt: &impl Print, t: Tally) -> Tally {
     refused(
+        rt,
         t,
         5,
         b"1 15 1 3|B=ABCDEFG|\
@@ -43,8 +45,9 @@ fn long_names(t: Tally) -> Tally {
 }
 
 // 16 and 17: the number's first byte, a point too. Of the dots at a card's end three close it.
-fn numbers(t: Tally) -> Tally {
+fn numbers(rt: &impl Print, t: Tally) -> Tally {
     refused(
+        rt,
         t,
         5,
         b"1 16 1 5|A=1+2X|\
@@ -60,8 +63,9 @@ fn numbers(t: Tally) -> Tally {
 }
 
 // 16 comes before 17 in one token; of two tokens the left one is at fault.
-fn either_number(t: Tally) -> Tally {
+fn either_number(rt: &impl Print, t: Tally) -> Tally {
     refused(
+        rt,
         t,
         5,
         b"1 16 1 5|A=1+1E23X|\
@@ -74,8 +78,9 @@ fn either_number(t: Tally) -> Tally {
 }
 
 // 18: the first token at which no statement can go on.
-fn stops(t: Tally) -> Tally {
+fn stops(rt: &impl Print, t: Tally) -> Tally {
     refused(
+        rt,
         t,
         5,
         b"1 18 1 1|=1|\
@@ -91,8 +96,9 @@ fn stops(t: Tally) -> Tally {
 }
 
 // The same on later cards: at both ends of them, behind comments, and behind a card of dots alone.
-fn later_stops(t: Tally) -> Tally {
+fn later_stops(rt: &impl Print, t: Tally) -> Tally {
     refused(
+        rt,
         t,
         5,
         b"1 18 2 1|A=1...\n2|\
@@ -105,8 +111,9 @@ fn later_stops(t: Tally) -> Tally {
 }
 
 // 19: the parenthesis, of a function too. A function's name opens nothing, and what is closed again does not count.
-fn openings(t: Tally) -> Tally {
+fn openings(rt: &impl Print, t: Tally) -> Tally {
     refused(
+        rt,
         t,
         5,
         b"1 19 1 19|A=(((((((((((((((((|\
@@ -124,8 +131,9 @@ fn openings(t: Tally) -> Tally {
 
 // 18 at an early end: the last byte of the last card, spaces included; column 1 if that card is empty. Comments behind
 // it are no cards.
-fn early_ends(t: Tally) -> Tally {
+fn early_ends(rt: &impl Print, t: Tally) -> Tally {
     refused(
+        rt,
         t,
         5,
         b"1 18 1 1|A|\
@@ -142,8 +150,9 @@ fn early_ends(t: Tally) -> Tally {
 }
 
 // A statement without tokens, of cards with dots or spaces alone, ends early too.
-fn tokenless(t: Tally) -> Tally {
+fn tokenless(rt: &impl Print, t: Tally) -> Tally {
     refused(
+        rt,
         t,
         5,
         b"1 18 2 3|...\n   |\
@@ -156,8 +165,9 @@ fn tokenless(t: Tally) -> Tally {
 
 // 11: the last byte of the last card, dots and spaces included. That card has dots, so it is never empty. Bytes are
 // counted, and not letters; bad ones come behind 11.
-fn unfinished(t: Tally) -> Tally {
+fn unfinished(rt: &impl Print, t: Tally) -> Tally {
     refused(
+        rt,
         t,
         5,
         b"1 11 1 6|A=1...|\
@@ -176,8 +186,9 @@ fn unfinished(t: Tally) -> Tally {
 // ---- the statement's first byte
 
 // 12: on the first card, space or not.
-fn many_cards(t: Tally) -> Tally {
+fn many_cards(rt: &impl Print, t: Tally) -> Tally {
     refused(
+        rt,
         t,
         5,
         b"1 12 1 1|  A=1...\n+1...\n+1...\n+1...\n+1|\
@@ -186,8 +197,9 @@ fn many_cards(t: Tally) -> Tally {
 }
 
 // The model's faults, on statements of two cards that begin with a space.
-fn models(t: Tally) -> Tally {
+fn models(rt: &impl Print, t: Tally) -> Tally {
     refused(
+        rt,
         t,
         7,
         b"2 21 2 1|A=1\n  A=...\n 2|\
@@ -204,8 +216,9 @@ fn models(t: Tally) -> Tally {
 // ---- many faults, lines and bytes
 
 // Each fault has its own place.
-fn several(t: Tally) -> Tally {
+fn several(rt: &impl Print, t: Tally) -> Tally {
     refused(
+        rt,
         t,
         5,
         b"2 14 3 1, 6 18 8 1|* C\nA=...\n#\n\nB=1\n  C=(2...\n* D\n=3|\
@@ -219,92 +232,99 @@ fn amid_blanks(blanks: usize, text: &[u8]) -> [u8; 1088]
     requires { (blanks ≤ 1024) × (length text.now ≤ 64) }
 {
     let mut whole = [10u8; 1088];
-    bytes::copy(text, &mut whole[blanks..]);
+    bits::put_bytes(&mut whole, blanks, text);
     whole
 }
 
 // A text behind so many blank lines is refused with this number and these faults.
-fn behind(t: Tally, blanks: usize, text: &[u8], number: usize, wanted: &[u8]) -> Tally {
+fn behind(
+    rt: &impl Print,
+    t: Tally,
+    blanks: usize,
+    text: &[u8],
+    number: usize,
+    wanted: &[u8],
+) -> Tally {
     if 1024 < blanks {
-        return tally::right(t, false);
+        return tally::right(rt, t, false);
     }
     if 64 < text.len() {
-        return tally::right(t, false);
+        return tally::right(rt, t, false);
     }
     let whole = amid_blanks(blanks, text);
-    faulty_front(t, &whole, blanks + text.len(), number, wanted)
+    faulty_front(rt, t, &whole, blanks + text.len(), number, wanted)
 }
 
 // Lines from 255 on: both bytes of a line.
-fn far_lines(t0: Tally) -> Tally {
-    let mut t = behind(t0, 254, b"A=1+...\n#", 5, b"255 14 256 1");
-    t = behind(t, 255, b"A=1+...\n* C\n  ", 5, b"256 18 258 2");
-    t = behind(t, 299, b" A=B", 7, b"300 22 300 1");
-    t = behind(t, 509, b" A=1...\n* C\n+2...", 5, b"510 11 512 5");
-    t = behind(t, 511, b"A=1+...\n#", 5, b"512 14 513 1");
-    t = behind(t, 767, b"A=#\nB=#", 5, b"768 14 768 3, 769 14 769 3");
-    t = behind(t, 1021, b" A=1...\n* C\n+2...", 5, b"1022 11 1024 5");
-    t = behind(t, 1022, b"A=1\nA=2", 7, b"1024 21 1024 1");
-    behind(t, 1023, b"A=#", 5, b"1024 14 1024 3")
+fn far_lines(rt: &impl Print, t0: Tally) -> Tally {
+    let mut t = behind(rt, t0, 254, b"A=1+...\n#", 5, b"255 14 256 1");
+    t = behind(rt, t, 255, b"A=1+...\n* C\n  ", 5, b"256 18 258 2");
+    t = behind(rt, t, 299, b" A=B", 7, b"300 22 300 1");
+    t = behind(rt, t, 509, b" A=1...\n* C\n+2...", 5, b"510 11 512 5");
+    t = behind(rt, t, 511, b"A=1+...\n#", 5, b"512 14 513 1");
+    t = behind(rt, t, 767, b"A=#\nB=#", 5, b"768 14 768 3, 769 14 769 3");
+    t = behind(rt, t, 1021, b" A=1...\n* C\n+2...", 5, b"1022 11 1024 5");
+    t = behind(rt, t, 1022, b"A=1\nA=2", 7, b"1024 21 1024 1");
+    behind(rt, t, 1023, b"A=#", 5, b"1024 14 1024 3")
 }
 
 // A text with spaces behind it, n bytes in all, has this statement fault.
-fn padded(t: Tally, text: &[u8], n: usize, wanted: &[u8]) -> Tally {
+fn padded(rt: &impl Print, t: Tally, text: &[u8], n: usize, wanted: &[u8]) -> Tally {
     let mut whole = [32u8; TEXT_BYTES];
     if TEXT_BYTES < text.len() {
-        return tally::right(t, false);
+        return tally::right(rt, t, false);
     }
-    bytes::copy(text, &mut whole);
-    faulty_front(t, &whole, n, 5, wanted)
+    bits::put_bytes(&mut whole, 0, text);
+    faulty_front(rt, t, &whole, n, 5, wanted)
 }
 
 // 11 on cards of 255 bytes and more, which comes before 13: both bytes of a column.
-fn far_columns(t0: Tally) -> Tally {
-    let mut t = padded(t0, b"A=1...", 255, b"1 11 1 255");
-    t = padded(t, b"A=1...", 256, b"1 11 1 256");
-    t = padded(t, b"A=1...\n* C\n+2...", 311, b"1 11 3 300");
-    t = padded(t, b"A=1...", 16385, b"1 11 1 16385");
-    padded(t, b"A=1...", 32768, b"1 11 1 32768")
+fn far_columns(rt: &impl Print, t0: Tally) -> Tally {
+    let mut t = padded(rt, t0, b"A=1...", 255, b"1 11 1 255");
+    t = padded(rt, t, b"A=1...", 256, b"1 11 1 256");
+    t = padded(rt, t, b"A=1...\n* C\n+2...", 311, b"1 11 3 300");
+    t = padded(rt, t, b"A=1...", 16385, b"1 11 1 16385");
+    padded(rt, t, b"A=1...", 32768, b"1 11 1 32768")
 }
 
 // Such a card behind 1,023 blank lines.
 fn late() -> [u8; 1029] {
     let mut text = [10u8; 1029];
-    bytes::copy(b"A=1...", &mut text[1023..]);
+    bits::put_bytes(&mut text, 1023, b"A=1...");
     text
 }
 
 // Its last column in the largest text is 32,768 - 1,023 = 31,745.
-fn far_corner(t: Tally) -> Tally {
-    padded(t, &late(), 32768, b"1024 11 1024 31745")
+fn far_corner(rt: &impl Print, t: Tally) -> Tally {
+    padded(rt, t, &late(), 32768, b"1024 11 1024 31745")
 }
 
 // An early end on a card of 72 bytes; and 13 on one of 73, which is told at the statement's first byte, space or not.
-fn widest(t0: Tally) -> Tally {
-    let mut t = padded(t0, b" A=1+", 72, b"1 18 1 72");
-    t = padded(t, b" A=1+...\n* C\n", 85, b"1 18 3 72");
-    t = padded(t, b" A=1", 73, b"1 13 1 1");
-    t = padded(t, b"* C\n\n A=#", 78, b"3 13 3 1");
-    padded(t, b" A=1+...\n* C\n2", 86, b"1 13 1 1")
+fn widest(rt: &impl Print, t0: Tally) -> Tally {
+    let mut t = padded(rt, t0, b" A=1+", 72, b"1 18 1 72");
+    t = padded(rt, t, b" A=1+...\n* C\n", 85, b"1 18 3 72");
+    t = padded(rt, t, b" A=1", 73, b"1 13 1 1");
+    t = padded(rt, t, b"* C\n\n A=#", 78, b"3 13 3 1");
+    padded(rt, t, b" A=1+...\n* C\n2", 86, b"1 13 1 1")
 }
 
 // All of these.
-pub fn all(t0: Tally) -> Tally {
-    let mut t = bad_bytes(t0);
-    t = long_names(t);
-    t = numbers(t);
-    t = either_number(t);
-    t = stops(t);
-    t = later_stops(t);
-    t = openings(t);
-    t = early_ends(t);
-    t = tokenless(t);
-    t = unfinished(t);
-    t = many_cards(t);
-    t = models(t);
-    t = several(t);
-    t = far_lines(t);
-    t = far_columns(t);
-    t = far_corner(t);
-    widest(t)
+pub fn all(rt: &impl Print, t0: Tally) -> Tally {
+    let mut t = bad_bytes(rt, t0);
+    t = long_names(rt, t);
+    t = numbers(rt, t);
+    t = either_number(rt, t);
+    t = stops(rt, t);
+    t = later_stops(rt, t);
+    t = openings(rt, t);
+    t = early_ends(rt, t);
+    t = tokenless(rt, t);
+    t = unfinished(rt, t);
+    t = many_cards(rt, t);
+    t = models(rt, t);
+    t = several(rt, t);
+    t = far_lines(rt, t);
+    t = far_columns(rt, t);
+    t = far_corner(rt, t);
+    widest(rt, t)
 }

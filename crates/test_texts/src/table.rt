@@ -3,23 +3,24 @@ use crate::wanted::{blank, record, refused, translated};
 use tally::Tally;
 
 // One number is stored: it is pushed, and kind 13 writes slot 1.
-fn stored(t: Tally, text: &[u8], bits: u64) -> Tally {
+fn stored(rt: &impl Print, t: Tally, text: &[u8], bits: u64) -> Tally {
     let mut w = blank();
     record(&mut w, 0, 3, 0, 1, bits);
     record(&mut w, 1, 13, 1, 1, 0);
-    translated(t, text, 2, &w)
+    translated(rt, t, text, 2, &w)
 }
 
 // Numbers at the ends of both ranges, with the bits of the nearest f64.
-fn numbers(t0: Tally) -> Tally {
-    let mut t = stored(t0, b"A=999999999999999", 0x430c_6bf5_2633_fff8);
-    t = stored(t, b"A=1E22", 0x4480_f0cf_064d_d592);
-    stored(t, b"A=1E-22", 0x3b5e_3920_1017_5ee6)
+fn numbers(rt: &impl Print, t0: Tally) -> Tally {
+    let mut t = stored(rt, t0, b"A=999999999999999", 0x430c_6bf5_2633_fff8);
+    t = stored(rt, t, b"A=1E22", 0x4480_f0cf_064d_d592);
+    stored(rt, t, b"A=1E-22", 0x3b5e_3920_1017_5ee6)
 }
 
 // 17: m or k out of range.
-fn ranges(t: Tally) -> Tally {
+fn ranges(rt: &impl Print, t: Tally) -> Tally {
     refused(
+        rt,
         t,
         5,
         b"1 17 1 3|A=1.000000000000000|\
@@ -29,8 +30,9 @@ fn ranges(t: Tally) -> Tally {
 }
 
 // 16: malformed numbers.
-fn malformed(t: Tally) -> Tally {
+fn malformed(rt: &impl Print, t: Tally) -> Tally {
     refused(
+        rt,
         t,
         5,
         b"1 16 1 3|A=2X|\
@@ -40,8 +42,9 @@ fn malformed(t: Tally) -> Tally {
 }
 
 // 18: the grammar.
-fn ungrammatical(t: Tally) -> Tally {
+fn ungrammatical(rt: &impl Print, t: Tally) -> Tally {
     refused(
+        rt,
         t,
         5,
         b"1 18 1 8|A=TIME*-2|\
@@ -51,8 +54,9 @@ fn ungrammatical(t: Tally) -> Tally {
 }
 
 // 14, 15 and 11, and two faults in line order.
-fn others(t: Tally) -> Tally {
+fn others(rt: &impl Print, t: Tally) -> Tally {
     refused(
+        rt,
         t,
         5,
         b"1 14 1 3|A=#|\
@@ -63,8 +67,9 @@ fn others(t: Tally) -> Tally {
 }
 
 // The model's faults, and which of them is sought while others stand.
-fn models(t: Tally) -> Tally {
+fn models(rt: &impl Print, t: Tally) -> Tally {
     refused(
+        rt,
         t,
         7,
         b"2 21 2 1|A=1\nA=B|\
@@ -77,7 +82,7 @@ fn models(t: Tally) -> Tally {
 }
 
 // The tank, record by record.
-fn tank(t: Tally) -> Tally {
+fn tank(rt: &impl Print, t: Tally) -> Tally {
     let one = 0x3ff0_0000_0000_0000;
     let two = 0x4000_0000_0000_0000;
     let three = 0x4008_0000_0000_0000;
@@ -98,6 +103,7 @@ fn tank(t: Tally) -> Tally {
     record(&mut w, 13, 6, 0, 4, 0);
     record(&mut w, 14, 14, 3, 4, 0);
     translated(
+        rt,
         t,
         b"* TANK\nPARAM K=2\nQ=K*H\nH=INTGRL(1,F-Q)\nF=LIMIT(0,3,TIME)\n",
         15,
@@ -106,7 +112,7 @@ fn tank(t: Tally) -> Tally {
 }
 
 // A minus in a constant and in an initial negates the value; a constant's name is resolved; INSW and COMPAR.
-fn records(t0: Tally) -> Tally {
+fn records(rt: &impl Print, t0: Tally) -> Tally {
     let one = 0x3ff0_0000_0000_0000;
     let minus_one = 0xbff0_0000_0000_0000;
     let mut w = blank();
@@ -123,6 +129,7 @@ fn records(t0: Tally) -> Tally {
     record(&mut w, 10, 10, 0, 3, 0);
     record(&mut w, 11, 14, 3, 3, 0);
     translated(
+        rt,
         t0,
         b"CONST A=-1\nX=INTGRL(-1,Y)\nY=INTGRL(A,INSW(COMPAR(TIME,A),X,1))",
         12,
@@ -131,13 +138,13 @@ fn records(t0: Tally) -> Tally {
 }
 
 // All of these.
-pub fn all(t0: Tally) -> Tally {
-    let mut t = numbers(t0);
-    t = ranges(t);
-    t = malformed(t);
-    t = ungrammatical(t);
-    t = others(t);
-    t = models(t);
-    t = tank(t);
-    records(t)
+pub fn all(rt: &impl Print, t0: Tally) -> Tally {
+    let mut t = numbers(rt, t0);
+    t = ranges(rt, t);
+    t = malformed(rt, t);
+    t = ungrammatical(rt, t);
+    t = others(rt, t);
+    t = models(rt, t);
+    t = tank(rt, t);
+    records(rt, t)
 }

@@ -47,8 +47,14 @@ pub fn blank() -> [u8; 4096] {
     [170u8; 4096]
 }
 
+// Whether two buffers have the same bytes, and as many.
+pub fn same(a: &[u8], b: &[u8]) -> bool {
+    a == b
+}
+
 // The text has this number and count with these buffers lent, and they then hold what is wanted.
 pub fn lent(
+    rt: &impl Print,
     t0: Tally,
     text: &[u8],
     faults: &mut [u8],
@@ -59,10 +65,10 @@ pub fn lent(
     records: &[u8],
 ) -> Tally {
     let r = told(translator::translate(text, &mut *faults, &mut *program));
-    let mut t = tally::number(t0, r.number, number);
-    t = tally::number(t, r.count, count);
-    t = tally::right(t, check::same(faults, list));
-    tally::right(t, check::same(program, records))
+    let mut t = tally::number(rt, t0, r.number, number);
+    t = tally::number(rt, t, r.count, count);
+    t = tally::right(rt, t, same(faults, list));
+    tally::right(rt, t, same(program, records))
 }
 
 // ---- faults, as a listing has them: line, code, line of the place and column of each, spaces between; and a comma
@@ -112,12 +118,13 @@ pub fn put_faults(wanted: &[u8], list: &mut [u8]) -> usize {
 }
 
 // The text is refused with this number and these faults, and nothing else is written.
-pub fn faulty(t: Tally, text: &[u8], number: usize, wanted: &[u8]) -> Tally {
+pub fn faulty(rt: &impl Print, t: Tally, text: &[u8], number: usize, wanted: &[u8]) -> Tally {
     let mut faults = [170u8; FAULT_ROOM + PAST];
     let mut program = [170u8; 4096];
     let mut list = [170u8; FAULT_ROOM + PAST];
     let count = put_faults(wanted, &mut list);
     lent(
+        rt,
         t,
         text,
         &mut faults,
@@ -130,11 +137,18 @@ pub fn faulty(t: Tally, text: &[u8], number: usize, wanted: &[u8]) -> Tally {
 }
 
 // The first n bytes of a text are refused so; a text that is shorter counts as one that differs.
-pub fn faulty_front(t: Tally, text: &[u8], n: usize, number: usize, wanted: &[u8]) -> Tally {
+pub fn faulty_front(
+    rt: &impl Print,
+    t: Tally,
+    text: &[u8],
+    n: usize,
+    number: usize,
+    wanted: &[u8],
+) -> Tally {
     if text.len() < n {
-        return tally::right(t, false);
+        return tally::right(rt, t, false);
     }
-    faulty(t, &text[..n], number, wanted)
+    faulty(rt, t, &text[..n], number, wanted)
 }
 
 // The place of the next bar from a place on, or the end.
@@ -154,20 +168,20 @@ fn next_bar(table: &[u8], at: usize) -> usize
 
 // Each text of a table is refused with this number. A row has the faults, a bar, the text and a bar; what is no row
 // counts as a text that differs.
-pub fn refused(t0: Tally, number: usize, table: &[u8]) -> Tally {
+pub fn refused(rt: &impl Print, t0: Tally, number: usize, table: &[u8]) -> Tally {
     let mut t = t0;
     let mut at: usize = 0;
     while at < table.len() {
         let bar = next_bar(table, at);
         if table.len() <= bar {
-            return tally::right(t, false);
+            return tally::right(rt, t, false);
         }
         let text = bar + 1;
         let end = next_bar(table, text);
         if table.len() <= end {
-            return tally::right(t, false);
+            return tally::right(rt, t, false);
         }
-        t = faulty(t, &table[text..end], number, &table[at..bar]);
+        t = faulty(rt, t, &table[text..end], number, &table[at..bar]);
         at = end + 1;
     }
     t
@@ -176,26 +190,68 @@ pub fn refused(t0: Tally, number: usize, table: &[u8]) -> Tally {
 // ---- programs, and nothing
 
 // The text is translated into so many records, these, and nothing else is written.
-pub fn translated(t: Tally, text: &[u8], count: usize, wanted: &[u8; 4096]) -> Tally {
+pub fn translated(
+    rt: &impl Print,
+    t: Tally,
+    text: &[u8],
+    count: usize,
+    wanted: &[u8; 4096],
+) -> Tally {
     let mut faults = [170u8; FAULT_ROOM];
     let mut program = [170u8; 4096];
     let kept = [170u8; FAULT_ROOM];
-    lent(t, text, &mut faults, &mut program, 0, count, &kept, wanted)
+    lent(
+        rt,
+        t,
+        text,
+        &mut faults,
+        &mut program,
+        0,
+        count,
+        &kept,
+        wanted,
+    )
 }
 
 // The text is translated into so many records, those of the whole program room, and nothing else is written.
-pub fn exact(t: Tally, text: &[u8], count: usize, wanted: &[u8; PROGRAM_ROOM]) -> Tally {
+pub fn exact(
+    rt: &impl Print,
+    t: Tally,
+    text: &[u8],
+    count: usize,
+    wanted: &[u8; PROGRAM_ROOM],
+) -> Tally {
     let mut faults = [170u8; FAULT_ROOM];
     let mut program = [170u8; PROGRAM_ROOM];
     let kept = [170u8; FAULT_ROOM];
-    lent(t, text, &mut faults, &mut program, 0, count, &kept, wanted)
+    lent(
+        rt,
+        t,
+        text,
+        &mut faults,
+        &mut program,
+        0,
+        count,
+        &kept,
+        wanted,
+    )
 }
 
 // The text is refused with this number or has no records, and nothing is written.
-pub fn silent(t: Tally, text: &[u8], number: usize) -> Tally {
+pub fn silent(rt: &impl Print, t: Tally, text: &[u8], number: usize) -> Tally {
     let mut faults = [170u8; FAULT_ROOM];
     let mut program = [170u8; PROGRAM_ROOM];
     let list = [170u8; FAULT_ROOM];
     let kept = [170u8; PROGRAM_ROOM];
-    lent(t, text, &mut faults, &mut program, number, 0, &list, &kept)
+    lent(
+        rt,
+        t,
+        text,
+        &mut faults,
+        &mut program,
+        number,
+        0,
+        &list,
+        &kept,
+    )
 }

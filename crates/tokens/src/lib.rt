@@ -1,4 +1,6 @@
 // Tokens: a name, a mark, or a number with its float value.
+#![tactic(auto)]
+
 mod bytes;
 mod name;
 mod number;

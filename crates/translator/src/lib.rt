@@ -1,4 +1,6 @@
 // The translator: from a text to a verdict, with the fault list or the program.
+#![tactic(auto)]
+
 ghost use Rattle.std.specs.Prelude.{◌≡◌, cond, ltb, length};
 ghost use Rattle.tokens.specs.Held.{held_row};
 ghost use Rattle.tokens.specs.Row.{symbols, row_of};

@@ -1,0 +1,30 @@
+-- The statements before j are taken, and what is noted from there on is noted in all.
+use Prim.Native.Nat.{◌-◌}
+use mathlib.Core.Path.{ap}
+use native.Mathlib.Omega.{arith}
+use borrow.Author.Rules.{rules}
+use Rattle.blocks.specs.Places.{bracket_kind}
+use Rattle.blocks.proofs.MatesNoted.{Mating, mating_first, mating_next, mating_last}
+use Rattle.blocks.proofs.pairing.note_mates.Goals as goal
+
+pub loop-j-init : goal.loop-j-init
+loop-j-init c =
+    let a = c.args in mating_first a.n a.bounds.now a.kinds.now a.mates.now
+
+pub leading_kind-kind-requires : goal.leading_kind-kind-requires
+leading_kind-kind-requires c =
+    c.requires.1 c.loop-j.j c.loop-j-test.true
+
+pub note_mate-depth-requires : goal.note_mate-depth-requires
+note_mate-depth-requires c =
+    let few = c.requires.0 in
+    (omega (arith, c.loop-j-test.true, few), c.loop-j.invariant.sound)
+
+pub loop-j-preserved : goal.loop-j-preserved
+loop-j-preserved c =
+    mating_next c.loop-j.invariant c.loop-j-test.true (ap bracket_kind c.leading_kind-kind.ensures)
+    c.note_mate-depth.auto.1.1.1.1.0 c.note_mate-depth.ensures
+
+pub returns : goal.returns
+returns c =
+    mating_last c.loop-j.invariant c.loop-j-test.false

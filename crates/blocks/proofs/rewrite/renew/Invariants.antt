@@ -1,0 +1,13 @@
+-- The kinds before place i are renewed.
+use Prim.Native.Nat.{◌-◌}
+use borrow.Author.Rules.{rules}
+use Rattle.blocks.proofs.KindsRenewed.{Renewing, renewing_first, renewing_next, renewing_last}
+use Rattle.blocks.proofs.rewrite.renew.Given as goal
+
+abbrev pub invariant-loop-i : goal.invariant-loop-i
+invariant-loop-i l =
+    Renewing l.role l.from l.end l.initial.kinds l.kinds l.i
+
+abbrev pub decreases-loop-i : goal.decreases-loop-i
+decreases-loop-i l =
+    l.end - l.i

@@ -1,0 +1,21 @@
+-- The kinds of the statements before statement j are renewed.
+use Prim.Native.Nat.{◌-◌}
+use borrow.Author.Rules.{rules}
+use Rattle.blocks.proofs.KindsRenewed.{RenewingAll, all_first, all_next, all_last}
+use Rattle.blocks.proofs.rewrite.renew_all.Goals as goal
+
+pub loop-j-init : goal.loop-j-init
+loop-j-init c =
+    all_first _ _ _ _ c.requires
+
+pub loop-j-preserved : goal.loop-j-preserved
+loop-j-preserved c =
+    all_next c.loop-j.invariant
+    c.loop-j-test.true
+    c.byte_at.ensures
+    c.short_at.ensures.0
+    c.short_at-in-loop-j.ensures.0 c.renew.ensures
+
+pub returns : goal.returns
+returns c =
+    all_last c.loop-j.invariant c.loop-j-test.false

@@ -1,0 +1,15 @@
+-- By the bracket that the kind is.
+use Rattle.blocks.proofs.BracketKinds.{bracket_opens, bracket_shuts, bracket_neither}
+use Rattle.blocks.proofs.units.is_inside.Goals as goal
+
+pub returns-then-kind-eq-OUTPUT : goal.returns-then-kind-eq-OUTPUT
+returns-then-kind-eq-OUTPUT c =
+    rw (bracket_opens _ c.if-kind-eq-OUTPUT.true)
+
+pub returns-then-kind-eq-ENDING : goal.returns-then-kind-eq-ENDING
+returns-then-kind-eq-ENDING c =
+    rw (bracket_shuts _ c.if-kind-eq-ENDING.true)
+
+pub returns : goal.returns
+returns c =
+    rw (bracket_neither _ c.if-kind-eq-OUTPUT.false c.if-kind-eq-ENDING.false)

@@ -1,0 +1,12 @@
+-- `deck::one_of` meets its contract.
+use native.Mathlib.Omega.{arith}
+use borrow.Author.Tests.{eq-eqb, ne_eqb}
+use Rattle.deck.proofs.counts.one_of.Goals as goal
+
+pub returns-then-b-eq10 : goal.returns-then-b-eq10
+returns-then-b-eq10 c =
+    (rw (eq-eqb _ _ c.if-b-eq10.true), omega arith)
+
+pub returns-else-b-eq10 : goal.returns-else-b-eq10
+returns-else-b-eq10 c =
+    (rw (ne_eqb _ _ c.if-b-eq10.false), omega arith)

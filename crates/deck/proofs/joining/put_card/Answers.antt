@@ -1,0 +1,22 @@
+-- By whether a space stands before the part.
+use native.Mathlib.Omega.{arith}
+use borrow.Author.Rules.{rules}
+use Rattle.deck.proofs.joining.put_card.Goals as goal
+
+pub put_spaced-requires : goal.put_spaced-requires
+put_spaced-requires c =
+    rw c.if-apart.true at c.requires
+
+pub returns-then-apart : goal.returns-then-apart
+returns-then-apart c =
+    let both = rw c.if-apart.true (omega (arith, c.put_spaced.ensures.value), c.put_spaced.ensures.written) in
+    record { value = both.0; written = both.1 }
+
+pub put_part-requires : goal.put_part-requires
+put_part-requires c =
+    search rules
+
+pub returns : goal.returns
+returns c =
+    let both = rw c.if-apart.false (c.put_part.ensures.value, c.put_part.ensures.written) in
+    record { value = both.0; written = both.1 }

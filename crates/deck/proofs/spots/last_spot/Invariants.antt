@@ -1,0 +1,15 @@
+-- The invariant: to search the lines that are left gives what to search all gave at first.
+use Prim.Native.Nat.{◌-◌}
+use mathlib.Core.Path.{sym, ◌∙◌}
+use borrow.Author.Rules.{rules}
+use Rattle.deck.proofs.Cutting.{LineAt, line_at}
+use Rattle.deck.proofs.Spotting.{LastLeft, last_first, last_none, last_end, last_comment, last_card}
+use Rattle.deck.proofs.spots.last_spot.Given as goal
+
+abbrev pub invariant-loop-down : goal.invariant-loop-down
+invariant-loop-down l =
+    LastLeft l.text l.start l.lines l.at l.down l.last
+
+abbrev pub decreases-loop-down : goal.decreases-loop-down
+decreases-loop-down l =
+    l.lines - l.down

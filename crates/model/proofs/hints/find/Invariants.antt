@@ -1,0 +1,15 @@
+-- The key sought is the one that the hint or link leads to, or one behind it. Each link leads on.
+use native.Mathlib.Omega.{arith}
+use borrow.Author.Rules.{rules}
+use lib.ListN.{length}
+use Rattle.model.proofs.KeysFound.{Sought, ahead, sought_first, sought_there, sought_next, sought_less}
+use Rattle.model.proofs.KeysFound.{sought_none}
+use Rattle.model.proofs.hints.find.Given as goal
+
+abbrev pub invariant-loop-h : goal.invariant-loop-h
+invariant-loop-h l =
+    Sought l.keys l.key l.h
+
+abbrev pub decreases-loop-h : goal.decreases-loop-h
+decreases-loop-h l =
+    ahead (length l.keys) l.h

@@ -1,0 +1,12 @@
+-- The hints and links of the keys from the last down to the present one are noted.
+use borrow.Author.Rules.{rules}
+use Rattle.model.proofs.KeysFound.{Hinting, hinting_first, hinting_next, hinting_last}
+use Rattle.model.proofs.hints.note_hints.Given as goal
+
+abbrev pub invariant-loop-d : goal.invariant-loop-d
+invariant-loop-d l =
+    Hinting l.keys l.initial.links l.d l.hints l.links
+
+abbrev pub decreases-loop-d : goal.decreases-loop-d
+decreases-loop-d l =
+    l.d

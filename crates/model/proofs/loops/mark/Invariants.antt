@@ -1,0 +1,14 @@
+-- The first k that are placed are marked.
+use Prim.Native.Nat.{◌-◌}
+use borrow.Author.Rules.{rules}
+use lib.ListN.{length}
+use Rattle.model.proofs.LoopMarks.{Marking, marking_first, marking_next, marking_last}
+use Rattle.model.proofs.loops.mark.Given as goal
+
+abbrev pub invariant-loop-k : goal.invariant-loop-k
+invariant-loop-k l =
+    Marking l.placed l.k l.marks
+
+abbrev pub decreases-loop-k : goal.decreases-loop-k
+decreases-loop-k l =
+    length l.placed - l.k

@@ -1,0 +1,16 @@
+-- The equations before statement j are stored.
+use Prim.Native.Nat.{◌-◌}
+use native.Mathlib.Omega.{arith}
+use borrow.Author.Rules.{rules}
+use Rattle.model.specs.Places.{is_ordered, ordered_in}
+use Rattle.model.proofs.UnitReads.{Listing, listing_first, listing_next, listing_last}
+use Rattle.model.proofs.units.collect_ordered.Given as goal
+
+abbrev pub invariant-loop-j : goal.invariant-loop-j
+invariant-loop-j l =
+    Listing
+    (is_ordered l.bounds l.kinds) l.n l.j l.count l.initial.equated l.equated
+
+abbrev pub decreases-loop-j : goal.decreases-loop-j
+decreases-loop-j l =
+    l.n - l.j

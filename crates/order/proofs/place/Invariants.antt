@@ -1,0 +1,19 @@
+-- The loop keeps `Going`, and the arrays their lengths.
+use mathlib.Core.Path.{◌≡◌, refl, ◌∙◌}
+use Prim.Native.Nat.{◌-◌, ◌<◌}
+use native.Mathlib.Omega.{arith}
+use borrow.Author.Rules.{rules}
+use lib.ListN.{length, length-set}
+use Rattle.order.proofs.Arrays.{SameLengths, lengths_same, lengths_then}
+use Rattle.order.proofs.Placing.{Going, going_start, going_found, going_long, going_end, going_stop, going_woken}
+use Rattle.order.proofs.Placing.{going_step}
+use Rattle.order.proofs.place.Given as goal
+
+abbrev pub invariant-loop-k : goal.invariant-loop-k
+invariant-loop-k l =
+    Going l.n l.starts l.used l.initial.out l.out l.marks l.ready l.cursors l.heads l.links l.waits l.from l.k × (length l.marks ≡ length l.initial.marks)
+    × SameLengths l.initial.ready l.initial.cursors l.initial.heads l.initial.links l.initial.waits l.ready l.cursors l.heads l.links l.waits
+
+abbrev pub decreases-loop-k : goal.decreases-loop-k
+decreases-loop-k l =
+    l.n - l.k

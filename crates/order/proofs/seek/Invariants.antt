@@ -1,0 +1,17 @@
+-- The loop: the search from `from` on is the search from i on.
+use mathlib.Core.Path.{◌≡◌, refl, sym, ◌∙◌}
+use Prim.Native.Nat.{◌+◌, ◌-◌, ◌≤◌}
+use native.Mathlib.Omega.{arith}
+use borrow.Author.Rules.{rules}
+use Rattle.order.specs.Greedy.{first}
+use Rattle.order.specs.Marks.{flag}
+use Rattle.order.proofs.Seeking.{skip_clear}
+use Rattle.order.proofs.seek.Given as goal
+
+abbrev pub invariant-loop-i : goal.invariant-loop-i
+invariant-loop-i l =
+    (first (flag l.ready) (l.n - l.from) l.from ≡ first (flag l.ready) (l.n - l.i) l.i) × (l.i ≤ l.n)
+
+abbrev pub decreases-loop-i : goal.decreases-loop-i
+decreases-loop-i l =
+    l.n - l.i

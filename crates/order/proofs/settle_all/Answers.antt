@@ -1,0 +1,39 @@
+-- One statement after the other is settled.
+use mathlib.Core.Logic.{⊎_elim}
+use Prim.Native.Nat.{◌-◌}
+use native.Mathlib.Omega.{arith}
+use borrow.Author.Rules.{rules}
+use Rattle.order.proofs.Settling.{Begun, begun_first, begun_room, begun_flags, begun_ready, begun_wait}
+use Rattle.order.proofs.Settling.{begun_last}
+use Rattle.order.proofs.settle_all.Goals as goal
+
+pub loop-i-init : goal.loop-i-init
+loop-i-init c =
+    let p = c.requires in
+    begun_first p.0.few p.1
+
+pub settle_first-requires : goal.settle_first-requires
+settle_first-requires c =
+    (c.requires.0, c.loop-i-test.true, begun_room c.loop-i.invariant)
+
+pub bounds-ready-i : goal.bounds-ready-i
+bounds-ready-i c =
+    omega (arith, begun_flags c.loop-i.invariant, c.loop-i-test.true)
+
+pub loop-i-preserved : goal.loop-i-preserved
+loop-i-preserved c =
+    let p = c.requires in
+    let g = c.loop-i.invariant in
+    let h = c.loop-i-test.true in
+    let w = c.settle_first in
+    let kept = w.auto.1.1.1.1 in
+    ⊎_elim
+    (λ b. rw b.1
+    (begun_ready g p.0 h kept.0 kept.1.0 kept.1.1.0 (rw b.0.taken at w.ensures)))
+    (λ b. rw b.1
+    (begun_wait g p.0 h kept.0 kept.1.0 kept.1.1.0 (rw b.0.left at w.ensures)))
+    c.if-settle_first.branch
+
+pub returns : goal.returns
+returns c =
+    begun_last c.loop-i.invariant c.loop-i-test.false

@@ -1,0 +1,17 @@
+-- The loop counts on what each kind adds.
+use Prim.Native.Nat.{◌+◌, ◌-◌, ◌≤◌}
+use mathlib.Core.Path.{◌≡◌, ap, ◌∙◌}
+use native.Mathlib.Omega.{arith}
+use borrow.Author.Rules.{rules}
+use lib.ListN.{length, drop, drop_of_length-le}
+use Rattle.program.specs.Written.{record_count}
+use Rattle.program.proofs.StepCases.{counted}
+use Rattle.program.proofs.count_records.Given as goal
+
+abbrev pub invariant-loop-i : goal.invariant-loop-i
+invariant-loop-i l =
+    (l.i ≤ length l.kinds) × (l.n ≤ l.i) × (l.n + record_count (drop l.i l.kinds) ≡ record_count l.kinds)
+
+abbrev pub decreases-loop-i : goal.decreases-loop-i
+decreases-loop-i l =
+    length l.kinds - l.i

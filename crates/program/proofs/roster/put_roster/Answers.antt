@@ -1,0 +1,21 @@
+-- The loop goes over the statements.
+use Prim.Native.Nat.{◌-◌}
+use borrow.Author.Rules.{rules}
+use lib.ListN.{length}
+use Rattle.program.specs.Written.{entries_of}
+use Rattle.program.proofs.RosterFilled.{Entering, entering_first, entering_next, roster_put}
+use Rattle.program.proofs.roster.put_roster.Goals as goal
+
+pub loop-j-init : goal.loop-j-init
+loop-j-init c =
+    entering_first _ _ _ _ _
+
+pub loop-j-preserved : goal.loop-j-preserved
+loop-j-preserved c =
+    entering_next c.loop-j.invariant c.loop-j-test.true c.enter_statement-n.ensures
+
+pub returns : goal.returns
+returns c =
+    let a = c.args in
+    roster_put a.lines.now a.bounds.now a.kinds.now a.args.now c.loop-j.invariant
+    c.loop-j-test.false

@@ -1,0 +1,6 @@
+use borrow.Author.Rules.{rules}
+use Rattle.records.proofs.allowed.Goals as goal
+
+pub returns-else-used : goal.returns-else-used
+returns-else-used c =
+    rw c.if-used.false

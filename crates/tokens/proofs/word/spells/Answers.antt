@@ -1,0 +1,37 @@
+-- The invariant: from here on the bytes agree where they agree as a whole.
+use Prim.Native.Nat.{◌-◌, ◌≤◌}
+use mathlib.Core.Path.{◌≡◌, refl, sym, ◌∙◌}
+use native.Mathlib.Omega.{arith}
+use borrow.Author.Rules.{rules}
+use lib.ListN.{length, drop}
+use Rattle.laws.specs.Lists.{same_bytes}
+use Rattle.laws.proofs.SameBytes.{other_length, same_stop, same_pass, same_end}
+use Rattle.tokens.proofs.word.spells.Goals as goal
+
+pub returns-then-name-word : goal.returns-then-name-word
+returns-then-name-word c =
+    let args = c.args in sym (other_length args.name.now args.word.now c.if-name-word.true)
+
+pub loop-i-init : goal.loop-i-init
+loop-i-init c =
+    (c.if-name-word.false, omega arith, refl)
+
+pub returns-then-name-i : goal.returns-then-name-i
+returns-then-name-i c =
+    let args = c.args in
+    let within = c.loop-i-test.true in
+    sym (same_stop args.name.now args.word.now c.loop-i.i (omega arith) within c.if-name-i.true)
+    ∙ c.loop-i.invariant.2
+
+pub loop-i-preserved : goal.loop-i-preserved
+loop-i-preserved c =
+    let args = c.args in
+    let within = c.loop-i-test.true in
+    let pass = same_pass args.name.now args.word.now c.loop-i.i (omega arith) within c.if-name-i.false in
+    (c.loop-i.invariant.0, search rules, sym pass ∙ c.loop-i.invariant.2)
+
+pub returns : goal.returns
+returns c =
+    let args = c.args in
+    sym (same_end args.name.now args.word.now c.loop-i.i (omega arith) c.loop-i-test.false)
+    ∙ c.loop-i.invariant.2

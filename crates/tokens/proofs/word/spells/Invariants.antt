@@ -1,0 +1,17 @@
+-- The invariant: from here on the bytes agree where they agree as a whole.
+use Prim.Native.Nat.{◌-◌, ◌≤◌}
+use mathlib.Core.Path.{◌≡◌, refl, sym, ◌∙◌}
+use native.Mathlib.Omega.{arith}
+use borrow.Author.Rules.{rules}
+use lib.ListN.{length, drop}
+use Rattle.laws.specs.Lists.{same_bytes}
+use Rattle.laws.proofs.SameBytes.{other_length, same_stop, same_pass, same_end}
+use Rattle.tokens.proofs.word.spells.Given as goal
+
+abbrev pub invariant-loop-i : goal.invariant-loop-i
+invariant-loop-i l =
+    (length l.name ≡ length l.word) × (l.i ≤ length l.word) × (same_bytes (drop l.i l.name) (drop l.i l.word) ≡ same_bytes l.name l.word)
+
+abbrev pub decreases-loop-i : goal.decreases-loop-i
+decreases-loop-i l =
+    length l.word - l.i

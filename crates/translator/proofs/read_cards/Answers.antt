@@ -1,0 +1,44 @@
+-- The joined text stands in front of an array that has room for it.
+use Prim.Native.Nat.{ℕ, ◌≤◌}
+use mathlib.Core.Path.{◌≡◌, sym, ap}
+use mathlib.Core.List.{List}
+use native.Mathlib.Omega.{arith}
+use borrow.Author.Rules.{rules}
+use lib.ListN.{length, take, replicate}
+use lib.Seq.{length-take-le}
+use Rattle.deck.specs.Joined.{joined}
+use Rattle.deck.specs.Codes.{joined_room}
+use Rattle.deck.specs.Next.{cards_at}
+use Rattle.tokens.specs.Row.{row_of}
+use Rattle.sheet.specs.Reader.{tokened}
+use Rattle.translator.proofs.Telling.{tells_of, taken}
+use Rattle.translator.proofs.read_cards.Goals as goal
+
+pub slice_bounds-body-end : goal.slice_bounds-body-end
+slice_bounds-body-end c =
+    let within : c.join-n.result ≤ length c.join-n.new.1.1.1.0 = omega (arith, c.requires.short, c.join-n.ensures.0, c.join-n.auto) in
+    within
+
+pub slice_bounds-read_joined-end : goal.slice_bounds-read_joined-end
+slice_bounds-read_joined-end c =
+    let within : c.join-n.result ≤ length c.join-n.new.1.1.1.0 = omega (arith, c.requires.short, c.join-n.ensures.0, c.join-n.auto) in
+    sym (length-take-le c.join-n.result c.join-n.new.1.1.1.0 within)
+
+pub read_joined-requires : goal.read_joined-requires
+read_joined-requires c =
+    let body : take c.join-n.result c.join-n.new.1.1.1.0 ≡ (let a = c.args in joined (cards_at a.text.now a.start a.lines)) = taken (replicate joined_room 0) (let a = c.args in joined (cards_at a.text.now a.start a.lines)) c.join-n.new.1.1.1.0 c.join-n.ensures.0 c.requires.short
+    c.join-n.ensures.1 in
+    let l = ap length body in
+    let p = c.requires.room in
+    record {
+      row_kinds = omega (arith, p.row_kinds);
+      row_args = omega (arith, p.row_args);
+      room_kinds = omega (arith, p.room_kinds);
+      room_args = omega (arith, p.room_args);
+    }
+
+pub returns : goal.returns
+returns c =
+    let body : take c.join-n.result c.join-n.new.1.1.1.0 ≡ (let a = c.args in joined (cards_at a.text.now a.start a.lines)) = taken (replicate joined_room 0) (let a = c.args in joined (cards_at a.text.now a.start a.lines)) c.join-n.new.1.1.1.0 c.join-n.ensures.0 c.requires.short
+    c.join-n.ensures.1 in
+    tells_of (ap (λ (b : List ℕ). tokened (row_of b)) (sym body)) c.read_joined.ensures
