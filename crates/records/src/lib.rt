@@ -62,6 +62,7 @@ fn word(p: &[u8], o: usize) -> u64
 }
 
 // The instruction of a kind, its slot and the bits of its value: kinds 1 to 15, and all others.
+#[tactic(auto, unfolding(crate::specs::Fields::by_kind))]
 fn by_kind(kind: u64, slot: u16, bits: u64) -> Instr
     ensures { result ≡ by_kind kind slot (of_bits binary64 bits) }
 {
@@ -108,6 +109,7 @@ fn allowed(used: bool, field: u64) -> bool
 }
 
 // The instruction of a kind with its operand and bits, of which it uses these, or the refusal.
+#[tactic(auto, using(crate::proofs::Decoding::operand_unused, crate::proofs::Decoding::bits_unused, crate::proofs::Decoding::no_slot, crate::proofs::Decoding::in_order_holds))]
 fn with_fields(slotted: bool, valued: bool, kind: u64, slot: u64, bits: u64) -> Instr
     ensures { result ≡ with_fields slotted valued kind slot bits }
 {

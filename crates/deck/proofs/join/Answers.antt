@@ -20,20 +20,20 @@ returns-then-text-at c =
 
 pub loop-left-preserved-then-is_comment : goal.loop-left-preserved-then-is_comment
 loop-left-preserved-then-is_comment c =
-    let line : LineAt (start c.args.text.now c.loop-left.at
+    let line : LineAt c.args.text.now c.loop-left.at
     c.line_end-e.result = line_at _ c.loop-left.at c.line_end-e.result c.if-text-at.false c.line_end-e.ensures.value in
     joining_over _ _ _ _ _ _ _ _ _ c.loop-left.invariant c.line_end-e.result c.loop-left-test.true
     line (sym c.is_comment.ensures ∙ c.if-is_comment.true)
 
 pub put_card-w-requires : goal.put_card-w-requires
 put_card-w-requires c =
-    let line : LineAt (start c.args.text.now c.loop-left.at
+    let line : LineAt c.args.text.now c.loop-left.at
     c.line_end-e.result = line_at _ c.loop-left.at c.line_end-e.result c.if-text-at.false c.line_end-e.ensures.value in
     omega (arith, c.loop-left.invariant, line.from, line.upto, line.long)
 
 pub loop-left-preserved : goal.loop-left-preserved
 loop-left-preserved c =
-    let line : LineAt (start c.args.text.now c.loop-left.at
+    let line : LineAt c.args.text.now c.loop-left.at
     c.line_end-e.result = line_at _ c.loop-left.at c.line_end-e.result c.if-text-at.false c.line_end-e.ensures.value in
     joining_next _ _ _ _ _ _ _ _ _ c.loop-left.invariant c.line_end-e.result _ c.put_card-w.result
     c.loop-left-test.true line (sym c.is_comment.ensures ∙ c.if-is_comment.false)

@@ -6,7 +6,7 @@ use Rattle.drafts.proofs.is_closing.Goals as goal
 -- none of them
 pub returns-in_default : goal.returns-in_default
 returns-in_default c =
-    let none = c.in_default-own.rest in
+    let none = c.in_default.in_default-own.rest in
     rw (
       ne_eqb _ kind_store none.0.0.1,
       ne_eqb _ kind_rate none.0.1,

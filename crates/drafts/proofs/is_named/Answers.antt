@@ -7,7 +7,7 @@ use Rattle.drafts.proofs.is_named.Goals as goal
 -- none of them
 pub returns-in_default : goal.returns-in_default
 returns-in_default c =
-    let none = c.in_default-own.rest in
+    let none = c.in_default.in_default-own.rest in
     rw (
       ne_eqb _ kind_constant none.0.0.0.0.0.0.0.0.0.0.0.1,
       ne_eqb _ kind_initial none.0.0.0.0.0.0.0.0.0.0.1,

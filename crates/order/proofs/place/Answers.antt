@@ -31,7 +31,7 @@ returns-then-i-n c =
 
 pub overflow_cast-out : goal.overflow_cast-out
 overflow_cast-out c =
-    let below : c.find-i.result < (S c.args.n = let g = c.loop-k.invariant.0 in
+    let below : c.find-i.result < c.args.n = let g = c.loop-k.invariant.0 in
     going_found g c.find-i.result c.find-i.ensures c.if-i-n.false in
     omega (arith, below, c.loop-k.invariant.0.fit.few)
 
@@ -42,13 +42,13 @@ bounds-out-k c =
 
 pub bounds-marks-i : goal.bounds-marks-i
 bounds-marks-i c =
-    let below : c.find-i.result < (S c.args.n = let g = c.loop-k.invariant.0 in
+    let below : c.find-i.result < c.args.n = let g = c.loop-k.invariant.0 in
     going_found g c.find-i.result c.find-i.ensures c.if-i-n.false in
     omega (arith, below, c.loop-k.invariant.0.state.moved.marks_size)
 
 pub bounds-ready-i : goal.bounds-ready-i
 bounds-ready-i c =
-    let below : c.find-i.result < (S c.args.n = let g = c.loop-k.invariant.0 in
+    let below : c.find-i.result < c.args.n = let g = c.loop-k.invariant.0 in
     going_found g c.find-i.result c.find-i.ensures c.if-i-n.false in
     omega (arith, below, c.loop-k.invariant.0.state.known.flags_size)
 
@@ -60,7 +60,7 @@ wake-from-requires c =
 
 pub loop-k-preserved : goal.loop-k-preserved
 loop-k-preserved c =
-    let w = c.wake-from.auto.1.1.1.1.1 in
+    let w = c.wake-from.auto in
     let i = c.loop-k.invariant in
     let g = i.0 in
     let l = going_found g c.find-i.result c.find-i.ensures c.if-i-n.false in (
@@ -68,9 +68,9 @@ loop-k-preserved c =
       simp length-set i.1,
       lengths_then i.2
           (record {
-            flags = w.0 ∙ simp length-set;
-            cursors = w.1.0;
-            lists = record { heads = w.1.1.0; links = w.1.1.1.0; waits = w.1.1.1.1.0 };
+            flags = w.ready ∙ simp length-set;
+            cursors = w.cursors;
+            lists = record { heads = w.heads; links = w.links; waits = w.waits };
           }),
     )
 

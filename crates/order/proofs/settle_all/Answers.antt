@@ -6,6 +6,7 @@ use borrow.Author.Rules.{rules}
 use Rattle.order.proofs.Settling.{Begun, begun_first, begun_room, begun_flags, begun_ready, begun_wait}
 use Rattle.order.proofs.Settling.{begun_last}
 use Rattle.order.proofs.settle_all.Goals as goal
+use Rattle.order.proofs.settle_all.Goals.{then-settle_first, else-settle_first}
 
 pub loop-i-init : goal.loop-i-init
 loop-i-init c =
@@ -26,13 +27,13 @@ loop-i-preserved c =
     let g = c.loop-i.invariant in
     let h = c.loop-i-test.true in
     let w = c.settle_first in
-    let kept = w.auto.1.1.1.1 in
-    ⊎_elim
-    (λ b. rw b.1
-    (begun_ready g p.0 h kept.0 kept.1.0 kept.1.1.0 (rw b.0.taken at w.ensures)))
-    (λ b. rw b.1
-    (begun_wait g p.0 h kept.0 kept.1.0 kept.1.1.0 (rw b.0.left at w.ensures)))
-    c.if-settle_first.branch
+    let kept = w.auto in
+    elim c.if-settle_first.branch [
+      | then-settle_first b ↦ rw b.ready-is
+          (begun_ready g p.0 h kept.heads kept.links kept.waits (rw b.if-settle_first.true at w.ensures))
+      | else-settle_first b ↦ rw b.ready-is
+          (begun_wait g p.0 h kept.heads kept.links kept.waits (rw b.if-settle_first.false at w.ensures))
+    ]
 
 pub returns : goal.returns
 returns c =

@@ -19,5 +19,5 @@ past (suc n) k h z = omega (arith, past n k h.0 z, h.1)
 
 pub returns-in-0-2 : goal.returns-in-0-2
 returns-in-0-2 c =
-    let others = c.in-0-own.rest in
+    let others = c.in-0.in-0-own.rest in
     sym (unknown _ _ _ (inr (past 15 c.args.kind others.0 others.1)))

@@ -9,8 +9,10 @@ put_spaced-requires c =
 
 pub returns-then-apart : goal.returns-then-apart
 returns-then-apart c =
-    let both = rw c.if-apart.true (omega (arith, c.put_spaced.ensures.value), c.put_spaced.ensures.written) in
-    record { value = both.0; written = both.1 }
+    record {
+      value = rw c.if-apart.true (omega (arith, c.put_spaced.ensures.value));
+      written = rw c.if-apart.true c.put_spaced.ensures.written;
+    }
 
 pub put_part-requires : goal.put_part-requires
 put_part-requires c =
@@ -18,5 +20,7 @@ put_part-requires c =
 
 pub returns : goal.returns
 returns c =
-    let both = rw c.if-apart.false (c.put_part.ensures.value, c.put_part.ensures.written) in
-    record { value = both.0; written = both.1 }
+    record {
+      value = rw c.if-apart.false c.put_part.ensures.value;
+      written = rw c.if-apart.false c.put_part.ensures.written;
+    }

@@ -17,8 +17,10 @@ returns-then-text-i-eq10 c =
     let w = c.loop-i.invariant in
     let m = width_ten c.args.text.now c.loop-i.i
     c.loop-i-test.true c.if-text-i-eq10.true in
-let both = omega (arith, w.same, w.from, w.upto, m) in
-    record { value = both.0; within = both.1; }
+    record {
+      value = omega (arith, w.same, w.from, w.upto, m);
+      within = (omega (arith, w.from), omega (arith, w.upto));
+    }
 
 pub loop-i-preserved : goal.loop-i-preserved
 loop-i-preserved c =
@@ -32,5 +34,7 @@ returns c =
     let w = c.loop-i.invariant in
     let e = width_end c.args.text.now c.loop-i.i
     c.loop-i-test.false in
-let both = omega (arith, w.same, w.from, w.upto, e) in
-    record { value = both.0; within = both.1; }
+    record {
+      value = omega (arith, w.same, w.from, w.upto, e);
+      within = (omega (arith, w.from), omega (arith, w.upto));
+    }

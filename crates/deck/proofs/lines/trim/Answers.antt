@@ -16,8 +16,8 @@ loop-n-init c =
 pub returns-then-line-n-ne32 : goal.returns-then-line-n-ne32
 returns-then-line-n-ne32 c =
     let z = c.loop-n-test.true in
-let both = omega (arith, trimmed_at_other c.args.line.now c.loop-n.n z c.loop-n.invariant.0 c.if-line-n-ne32.true) in
-    record { value = both.0; within = both.1; }
+    let e = trimmed_at_other c.args.line.now c.loop-n.n z c.loop-n.invariant.0 c.if-line-n-ne32.true in
+    record { value = omega (arith, c.loop-n.invariant.1, e); within = omega (arith, c.loop-n.invariant.0) }
 
 pub loop-n-preserved : goal.loop-n-preserved
 loop-n-preserved c =

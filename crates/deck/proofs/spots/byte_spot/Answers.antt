@@ -17,25 +17,25 @@ returns-then-text-at c =
 
 pub loop-down-preserved-then-is_comment : goal.loop-down-preserved-then-is_comment
 loop-down-preserved-then-is_comment c =
-    let line : LineAt (start c.args.text.now c.loop-down.at
+    let line : LineAt c.args.text.now c.loop-down.at
     c.line_end-e.result = line_at _ c.loop-down.at c.line_end-e.result c.if-text-at.false c.line_end-e.ensures.value in
     byte_comment _ _ _ _ _ _ _ c.loop-down.invariant c.line_end-e.result c.loop-down-test.true
     line (sym c.is_comment.ensures ∙ c.if-is_comment.true)
 
 pub returns-then-left-part : goal.returns-then-left-part
 returns-then-left-part c =
-    let line : LineAt (start c.args.text.now c.loop-down.at
+    let line : LineAt c.args.text.now c.loop-down.at
     c.line_end-e.result = line_at _ c.loop-down.at c.line_end-e.result c.if-text-at.false c.line_end-e.ensures.value in
-    byte_found _ _ _ _ _ _ _ c.loop-down.invariant c.line_end-e.result c.loop-down-test.taken
+    byte_found _ _ _ _ _ _ _ c.loop-down.invariant c.line_end-e.result c.loop-down-test.true
     line (sym c.is_comment.ensures ∙ c.if-is_comment.false)
     (omega (arith, c.part_len-part.ensures, c.if-left-part.true))
 
 pub loop-down-preserved : goal.loop-down-preserved
 loop-down-preserved c =
-    let line : LineAt (start c.args.text.now c.loop-down.at
+    let line : LineAt c.args.text.now c.loop-down.at
     c.line_end-e.result = line_at _ c.loop-down.at c.line_end-e.result c.if-text-at.false c.line_end-e.ensures.value in
     rw (c.past-left.ensures, c.part_len-part.ensures)
-    (byte_card _ _ _ _ _ _ _ c.loop-down.invariant c.line_end-e.result c.loop-down-test.taken
+    (byte_card _ _ _ _ _ _ _ c.loop-down.invariant c.line_end-e.result c.loop-down-test.true
     line (sym c.is_comment.ensures ∙ c.if-is_comment.false)
     (omega (arith, c.part_len-part.ensures, c.if-left-part.false)))
 

@@ -16,17 +16,17 @@ returns-then-text-at c =
 
 pub loop-down-preserved-then-is_comment : goal.loop-down-preserved-then-is_comment
 loop-down-preserved-then-is_comment c =
-    let line : LineAt (start c.args.text.now c.loop-down.at
+    let line : LineAt c.args.text.now c.loop-down.at
     c.line_end-e.result = line_at _ c.loop-down.at c.line_end-e.result c.if-text-at.false c.line_end-e.ensures.value in
     last_comment _ _ _ _ _ _ c.loop-down.invariant c.line_end-e.result c.loop-down-test.true
     line (sym c.is_comment.ensures ∙ c.if-is_comment.true)
 
 pub loop-down-preserved : goal.loop-down-preserved
 loop-down-preserved c =
-    let line : LineAt (start c.args.text.now c.loop-down.at
+    let line : LineAt c.args.text.now c.loop-down.at
     c.line_end-e.result = line_at _ c.loop-down.at c.line_end-e.result c.if-text-at.false c.line_end-e.ensures.value in
     last_card _ _ _ _ _ _ c.loop-down.invariant c.line_end-e.result c.loop-down-test.true
-    line (sym c.is_comment.ensures ∙ c.if-is_comment.false) _ c.last_column_holds.ensures
+    line (sym c.is_comment.ensures ∙ c.if-is_comment.false) _ c.last_column.ensures
 
 pub returns : goal.returns
 returns c =

@@ -1,7 +1,6 @@
 -- The invariant: what is read from the present line on is what is read from the first.
 use Prim.Native.Nat.{◌-◌}
 use borrow.Author.Rules.{rules}
-use borrow.Author.Tests.{not-true, not-false}
 use lib.ListN.{length}
 use Rattle.deck.proofs.Steps.{Running, running_first, running_next, running_stop, running_end}
 use Rattle.deck.proofs.statements.run.Goals as goal
@@ -16,7 +15,7 @@ returns-then-not-more c =
     running_stop _ _ _ _ _ _ _ _ c.loop-start.invariant asked.result c.is_dotted.result
     c.one_if-cards.result
     asked.ensures c.one_if-cards.ensures.0 c.is_dotted.ensures c.answer.result
-    (not-true _ c.if-not-more.true) c.answer.ensures
+    c.if-not-more.true c.answer.ensures
 
 pub returns-then-text-at : goal.returns-then-text-at
 returns-then-text-at c =
@@ -24,7 +23,7 @@ returns-then-text-at c =
     running_end _ _ _ _ _ _ _ _ c.loop-start.invariant asked.result c.is_dotted.result
     c.one_if-cards.result
     asked.ensures c.one_if-cards.ensures.0 c.is_dotted.ensures c.answer-then-text-at.result
-    (not-false _ c.if-not-more.false) c.if-text-at.true c.answer-then-text-at.ensures
+    c.if-not-more.false c.if-text-at.true c.answer-then-text-at.ensures
 
 pub loop-start-preserved : goal.loop-start-preserved
 loop-start-preserved c =
@@ -32,4 +31,4 @@ loop-start-preserved c =
     running_next _ _ _ _ _ _ _ _ c.loop-start.invariant asked.result c.is_dotted.result
     c.one_if-cards.result
     asked.ensures c.one_if-cards.ensures.0 c.is_dotted.ensures c.line_end-e.result
-    (not-false _ c.if-not-more.false) c.if-text-at.false c.line_end-e.ensures.value
+    c.if-not-more.false c.if-text-at.false c.line_end-e.ensures.value

@@ -10,7 +10,7 @@ use Rattle.tokens.proofs.number.read_mantissa.Goals as goal
 
 pub overflow_add-p : goal.overflow_add-p
 overflow_add-p c =
-    let within : c.digits-w.result.end < length (c.args.body.now = held 46 c.args.body.now c.digits-w.result.end refl
+    let within : c.digits-w.result.end < length c.args.body.now = held 46 c.args.body.now c.digits-w.result.end refl
     (sym (behinds c.args.body.now c.args.at 0 c.digits-w.result c.digits-w.ensures) ∙ c.if-w-eq46.true) in
     omega (arith, within)
 
@@ -20,7 +20,7 @@ digits-f-requires c =
 
 pub overflow_add-after : goal.overflow_add-after
 overflow_add-after c =
-    let within : c.digits-w.result.end < length (c.args.body.now = held 46 c.args.body.now c.digits-w.result.end refl
+    let within : c.digits-w.result.end < length c.args.body.now = held 46 c.args.body.now c.digits-w.result.end refl
     (sym (behinds c.args.body.now c.args.at 0 c.digits-w.result c.digits-w.ensures) ∙ c.if-w-eq46.true) in
     omega (arith, within)
 
@@ -30,7 +30,7 @@ overflow_sub-after c =
 
 pub overflow_add-result : goal.overflow_add-result
 overflow_add-result c =
-    let within : c.digits-w.result.end < length (c.args.body.now = held 46 c.args.body.now c.digits-w.result.end refl
+    let within : c.digits-w.result.end < length c.args.body.now = held 46 c.args.body.now c.digits-w.result.end refl
     (sym (behinds c.args.body.now c.args.at 0 c.digits-w.result c.digits-w.ensures) ∙ c.if-w-eq46.true) in
     omega (arith, within, ends c.digits-w.ensures)
 

@@ -1,12 +1,11 @@
-use mathlib.Core.Logic.{⊎_elim}
-use native.Mathlib.Omega.{arith}
-use borrow.Author.Rules.{rules}
+use Rattle.std.proofs.Common.{arith}
 use Rattle.tokens.proofs.number.with_digit.Goals as goal
+use Rattle.tokens.proofs.number.with_digit.Goals.{then-b-ge48, else-b-ge48}
 
 pub returns-then-w-le-MOST_DIGITS : goal.returns-then-w-le-MOST_DIGITS
 returns-then-w-le-MOST_DIGITS c =
-    ⊎_elim (λ w. omega arith) (λ w. omega arith) c.if-b-ge48.branch
+    elim c.if-b-ge48.branch [ then-b-ge48 w ↦ omega arith | else-b-ge48 w ↦ omega arith ]
 
 pub returns-else-w-le-MOST_DIGITS : goal.returns-else-w-le-MOST_DIGITS
 returns-else-w-le-MOST_DIGITS c =
-    ⊎_elim (λ w. omega arith) (λ w. omega arith) c.if-b-ge48.branch
+    elim c.if-b-ge48.branch [ then-b-ge48 w ↦ omega arith | else-b-ge48 w ↦ omega arith ]
