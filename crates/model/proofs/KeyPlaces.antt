@@ -160,7 +160,8 @@ outside_defined k ds h = omega (arith, count_outside k ds)
 count_one : (j k : ℕ) (w : What) (os cs ss vs : List ℕ)
     → count j os ≡ count j cs + count j ss + count j vs
     → count j (outside_key k w ++ os)
-    ≡ count j (constant_key k w ++ cs) + count j (only_if (is_state w) k ++ ss) + count j (only_if (is_assigned w) k ++ vs)
+    ≡ count j (constant_key k w ++ cs) + count j (only_if (is_state w) k ++ ss)
+    + count j (only_if (is_assigned w) k ++ vs)
 unfolding count
 count_one j k (constant x) os cs ss vs e = omega arith
 count_one j k assigned os cs ss vs e = omega arith

@@ -23,7 +23,8 @@ module _ (k : ℕ) (l : List ℕ) (i : ℕ) where
   pub place_stop : i < length l → get_or l i 0 ≡ k → i + place_in k (drop i l) ≡ i
   place_stop h e = rw (place_step h, eq-eqb k (get_or l i 0) (sym e)) (omega arith)
 
-  pub place_pass : i < length l → (get_or l i 0 ≡ k → ⊥) → i + place_in k (drop i l) ≡ i + 1 + place_in k (drop (i + 1) l)
+  pub place_pass : i < length l → (get_or l i 0 ≡ k → ⊥)
+      → i + place_in k (drop i l) ≡ i + 1 + place_in k (drop (i + 1) l)
   place_pass h e = rw (place_step h, ne_eqb k (get_or l i 0) (λ z. e (sym z))) (omega arith)
 
   pub place_done : length l ≤ i → i + place_in k (drop i l) ≡ i

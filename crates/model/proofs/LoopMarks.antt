@@ -74,7 +74,8 @@ pub unmarked_single : (marks equated lines : List ℕ) (r : ℕ) → length (unm
 unmarked_single marks equated lines r = if_length (eqb (get_or marks r 0) 0) (get_or lines (get_or equated r 0) 0) 24
 
 -- 24 at equation r, as it was found
-pub unmarked_found : (marks equated lines : List ℕ) (r : ℕ) {b line j : ℕ} → b ≡ get_or marks r 0 → j ≡ get_or equated r 0
+pub unmarked_found : (marks equated lines : List ℕ) (r : ℕ) {b line j : ℕ} → b ≡ get_or marks r 0
+    → j ≡ get_or equated r 0
     → line ≡ get_or lines j 0
     → fault_if (eqb b 0) line 24 ≡ unmarked_at marks equated lines r
 unmarked_found marks equated lines r p q l =
@@ -88,5 +89,6 @@ unfolding loops
 unmarked_loops {placed} {marks} equated lines m h reported =
     let same : unmarked marks equated lines ≡ loops placed equated lines =
     gather_same _ _ (length equated) 0
-    (λ r _ l. ap (λ (b : Bool). fault_if b (get_or lines (get_or equated r 0) 0) 24) (m.mark r (omega (arith, m.long)))) in
+    (λ r _ l. ap (λ (b : Bool). fault_if b (get_or lines (get_or equated r 0) 0) 24)
+    (m.mark r (omega (arith, m.long)))) in
     rw same at reported

@@ -127,7 +127,8 @@ module _ {keys kinds places owners args₁ used₁ args used : List ℕ} {from e
         → Walking keys kinds places owners args₁ used₁ from end n r after (i + 1) args' used'
     walking_flawed t y z = listed (λ args₀ wide k. resolving_flawed k (omega arith) wide s t y a z)
 
-    pub walking_clear : {b after : Bool} → b ≡ flawed_by places kinds (get_or kinds i 0) slot → b ≡ false → after ≡ flawed
+    pub walking_clear : {b after : Bool} → b ≡ flawed_by places kinds (get_or kinds i 0) slot → b ≡ false
+        → after ≡ flawed
         → Walking keys kinds places owners args₁ used₁ from end n r after (i + 1) args' used'
     walking_clear t y z = listed (λ args₀ wide k. resolving_clear k (omega arith) wide s t y a z)
 

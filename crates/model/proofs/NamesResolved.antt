@@ -64,7 +64,8 @@ unfolding resolved
 resolved_at_holds keys [] args i h l = absurd (omega arith)
 resolved_at_holds keys (k ∷ kinds) [] i h l = absurd (omega arith)
 resolved_at_holds keys (k ∷ kinds) (a ∷ args) zero h l = refl
-resolved_at_holds keys (k ∷ kinds) (a ∷ args) (suc i) h l = resolved_at_holds keys kinds args i (omega arith) (omega arith)
+resolved_at_holds keys (k ∷ kinds) (a ∷ args) (suc i) h l =
+    resolved_at_holds keys kinds args i (omega arith) (omega arith)
 
 -- the slot of a name, found before it is resolved; n is the kind
 pub slot_ahead : (keys kinds args : List ℕ) (i n : ℕ) {kind r a : ℕ} → is_named n ≡ true → eqb 0 n ≡ false
@@ -73,7 +74,8 @@ pub slot_ahead : (keys kinds args : List ℕ) (i n : ℕ) {kind r a : ℕ} → i
 slot_ahead keys kinds args i n {kind} {r} {a} t z l k e p q =
     let here : get_or kinds i 0 ≡ n = sym k ∙ e in
     let value : get_or (resolved keys kinds args) i 0 ≡ suc (place_in (get_or args i 0) keys) =
-    resolved_at_holds keys kinds args i (stands n kinds i z here) l ∙ ap (λ (j : ℕ). resolved_at keys j (get_or args i 0)) here
+    resolved_at_holds keys kinds args i (stands n kinds i z here) l
+    ∙ ap (λ (j : ℕ). resolved_at keys j (get_or args i 0)) here
     ∙ ap (λ (b : Bool). cond b (suc (place_in (get_or args i 0) keys)) (get_or args i 0)) t in
     let same : r ≡ place_in (get_or args i 0) keys = q ∙ ap (λ (x : ℕ). place_in x keys) p in
     omega (arith, value, same)

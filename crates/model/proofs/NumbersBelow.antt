@@ -249,7 +249,8 @@ module _ (b : ℕ) where
       (omega (arith, spot_within ls p some), omega (arith, spot_column ls p))
 
   -- of a text's reports
-  pub sheet_below : (text : List ℕ) → length (lines_of text) < b → length text + 2 < b → Every ReportBelow (sheet_of text)
+  pub sheet_below : (text : List ℕ) → length (lines_of text) < b → length text + 2 < b
+      → Every ReportBelow (sheet_of text)
   unfolding sheet_of told
   sheet_below text h few =
       every_mapped (Covered (1 + length (lines_of text)) (length text + 1)) ReportBelow (report told)

@@ -268,7 +268,8 @@ slotted keys kinds args n h l = record { slot = λ i k. small i k }
 keys_few : (kinds args : List ℕ) → length (keys_in kinds args) ≤ length kinds
 unfolding keys_in
 keys_few kinds args =
-    gather_short (defined_at kinds args) (λ i. only_length (defines (get_or kinds i 0)) (get_or args i 0)) (length kinds) 0
+    gather_short (defined_at kinds args) (λ i. only_length (defines (get_or kinds i 0)) (get_or args i 0))
+    (length kinds) 0
 
 -- as many keys as places
 as_many_keys : (kinds args : List ℕ) → length (keys_in kinds args) ≡ length (places_in kinds)

@@ -179,7 +179,8 @@ module _ (kinds args : List ℕ) where
   none_before b zero i h = refl
   none_before b (suc k) i h = go (defines (get_or kinds i 0)) (none_before b k (suc i) (omega arith))
     where
-      go : (t : Bool) → before b (gather place_at k (suc i)) ≡ 0 → before b (only_if t i ++ gather place_at k (suc i)) ≡ 0
+      go : (t : Bool) → before b (gather place_at k (suc i)) ≡ 0
+          → before b (only_if t i ++ gather place_at k (suc i)) ≡ 0
       go true r = rw (le-ltb i b h)
       go false r = r
 
@@ -201,7 +202,8 @@ module _ (kinds args : List ℕ) where
           go false = r
 
   -- as many as the keys there
-  pub before_keys : (b : ℕ) → b ≤ length kinds → before b (places_in kinds) ≡ length (gather (defined_at kinds args) b 0)
+  pub before_keys : (b : ℕ) → b ≤ length kinds
+      → before b (places_in kinds) ≡ length (gather (defined_at kinds args) b 0)
   unfolding places_in
   before_keys b h = before_count b (length kinds) 0 (omega arith) (omega arith)
       ∙ ap (λ (n : ℕ). length (gather place_at n 0)) (sub-zero b) ∙ as_many b 0

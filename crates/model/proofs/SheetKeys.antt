@@ -70,7 +70,8 @@ module _ (us : List TextUnit) where
   abbrev pub home_at : ℕ → Home
   home_at i = home (get_or all i no_draft) (get_or all (i + 1) no_draft)
 
-  homes_at_holds : (i : ℕ) → map home_at (only_if (defines (get_or (sheet_kinds us) i 0)) i) ≡ homes_at (drop i (all ++ []))
+  homes_at_holds : (i : ℕ) → map home_at (only_if (defines (get_or (sheet_kinds us) i 0)) i)
+      ≡ homes_at (drop i (all ++ []))
   homes_at_holds i =
       rw (append-nil all, get_or-drop i all 0 no_draft, get_or-drop i all 1 no_draft, add-zero i)
       (rw (kind_at all i) (map_only home_at (defines (get_or all i no_draft).kind) i))
@@ -81,7 +82,8 @@ module _ (us : List TextUnit) where
   homes_of =
       rw (length-map all (λ (d : Draft). d.kind))
       (map_gather home_at (λ i. only_if (defines (get_or (sheet_kinds us) i 0)) i) (length all) 0
-      ∙ gather_along homes_at (λ i. map home_at (only_if (defines (get_or (sheet_kinds us) i 0)) i)) [] all [] homes_at_holds
+      ∙ gather_along homes_at (λ i. map home_at (only_if (defines (get_or (sheet_kinds us) i 0)) i)) [] all []
+      homes_at_holds
       ∙ along_parts homes_at drafts_by (λ t. map home_of_def (defined_in t))
       (λ t q. defined_homes t.line t.stood q) (stated_in us) []
       ∙ sym (map_concat home_of_def defined_in (stated_in us)))
@@ -108,4 +110,5 @@ module _ (us : List TextUnit) where
       rw (length-map (stated_in us) (λ (t : Stated). t.line))
       (gather_fronts (double_at (stated_lines us) (sheet_bounds us) (sheet_kinds us) (sheet_args us))
       (λ a b. faults21 (keys (defined_all a)) b) (stated_in us) (λ a. refl)
-      (λ a t b p. ap₂ (λ x y. x ++ faults21 y b) (sym (double_at_holds a t b p)) (sym (keys_snoc a t))) [] (stated_in us) refl)
+      (λ a t b p. ap₂ (λ x y. x ++ faults21 y b) (sym (double_at_holds a t b p)) (sym (keys_snoc a t))) []
+      (stated_in us) refl)

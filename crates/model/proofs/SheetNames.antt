@@ -66,7 +66,8 @@ not_not true = refl
 not_not false = refl
 
 -- ---- the kind of a home says whether the name is a constant or a block's own
-home_kind_holds : (k z : ℕ) → eqb kind_given z ≡ false → eqb (home_kind kind_given) z ≡ false → eqb k z ≡ eqb (home_kind k) z
+home_kind_holds : (k z : ℕ) → eqb kind_given z ≡ false → eqb (home_kind kind_given) z ≡ false
+    → eqb k z ≡ eqb (home_kind k) z
 home_kind_holds k z p q =
     ⊎_elim (λ (e : k ≡ kind_given). rw e (p ∙ sym q)) (λ (n : k ≡ kind_given → ⊥). rw (ne_eqb k kind_given n))
     (eq_or_ne k kind_given)
@@ -181,7 +182,8 @@ module _ (us : List TextUnit) where
         nowhere : has k ks ≡ false → lost_name k ≡ not (has k (outside_keys ds))
         nowhere f =
             let none : has k (outside_keys ds) ≡ false =
-            ⊎_elim (λ t. absurd (omega (arith, outside_defined k ds (has_true k (outside_keys ds) t), has_false k ks f)))
+            ⊎_elim
+            (λ t. absurd (omega (arith, outside_defined k ds (has_true k (outside_keys ds) t), has_false k ks f)))
             (λ t. t) (bool_cases (has k (outside_keys ds))) in
             rw (past, f, none)
 

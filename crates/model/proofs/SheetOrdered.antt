@@ -1,5 +1,5 @@
 -- Which units are those of the order, and what stands there.
-use Prim.Native.Nat.{ℕ, suc, ◌+◌, ◌-◌, ◌≤◌, ◌<◌}
+use Prim.Native.Nat.{ℕ, suc, ◌≤◌, ◌<◌}
 use mathlib.Core.Path.{◌≡◌, refl, sym, ap, ◌∙◌}
 use mathlib.Core.Bool.{Bool, true, false, cond}
 use mathlib.Core.List.{List, [], ◌∷◌, ◌++◌, map, append-nil, append_assoc}
@@ -120,7 +120,8 @@ module _ (ks : List ℕ) where
   setting_kind anew = refl
 
   front_inside : (is : List ℕ) (ns : List Inner)
-      → front_slots ks (map (draft kind_input) is ++ (drafts_stated (map stated_inner ns) ++ (draft kind_ending 0 ∷ [])))
+      → front_slots ks
+      (map (draft kind_input) is ++ (drafts_stated (map stated_inner ns) ++ (draft kind_ending 0 ∷ [])))
       ≡ []
   unfolding front_slots concat_map
   front_inside (k ∷ is) ns = refl
@@ -301,7 +302,13 @@ module _ (us : List TextUnit) where
         front_slots_holds ks (sheet_kinds us) (sheet_slots us) before (drafts_unit u) behind
         (λ i. kind_at all i ∙ ap (λ (l : List Draft). (get_or l i no_draft).kind) split)
         (λ i. slot_at_holds ks all i ∙ ap (λ (l : List Draft). draft_slot ks (get_or l i no_draft)) split) in
-        rw (span w a u b p, begins_at w a u b p, last_kind_holds a u b p m z e, slot_at_holds ks all _, last_at w a u b p m z e)
+        rw (
+          span w a u b p,
+          begins_at w a u b p,
+          last_kind_holds a u b p m z e,
+          slot_at_holds ks all _,
+          last_at w a u b p m z e,
+        )
         (ap (λ (r : List ℕ). r ++ only_if (eqb z.kind kind_store) (draft_slot ks z)) (front ∙ ap (front_slots ks) e))
 
     assigned_unit : (x : UnitBody) → u.body ≡ x
@@ -343,7 +350,8 @@ module _ (us : List TextUnit) where
         → concat_map used_by_draft (drafts_stated (stated_by l x)) ≡ used_by_names assigned ks (spoken x)
     used_unit l x =
         unit_names used_by_draft used_by_name (λ k. []) (λ k. refl) (λ k. refl) (λ k. refl) (λ k a p q. rw p) l x
-        ∙ ap (λ (r : List ℕ). r ++ used_by_names assigned ks (spoken x)) (concat_none (λ k. []) (λ k. refl) (initial_of x))
+        ∙ ap (λ (r : List ℕ). r ++ used_by_names assigned ks (spoken x))
+        (concat_none (λ k. []) (λ k. refl) (initial_of x))
 
     -- of the units that are laid out
     used_at_holds : (a : List TextUnit) (u : TextUnit) (b : List TextUnit) → us ≡ a ++ u ∷ b

@@ -31,7 +31,8 @@ use Rattle.model.proofs.KeyPlaces.{Once, place_same, count_keys}
 use Rattle.model.proofs.UnitKeys.{assigns_same, assigns_defined}
 use Rattle.model.proofs.UsesFit.{assigned_of, uses_of, used_of, table_equated}
 use Rattle.model.proofs.SheetWalk.{sheet_kinds, unit_lines, sheet_slots, sheet_ordered}
-use Rattle.model.proofs.SheetOrdered.{slot_by, slots_for, used_by_names, ordered_lines_holds, ordered_length, ordered_at}
+use Rattle.model.proofs.SheetOrdered.{slot_by, slots_for, used_by_names, ordered_lines_holds, ordered_length}
+use Rattle.model.proofs.SheetOrdered.{ordered_at}
 use Rattle.model.proofs.SheetOrdered.{ordered_slots, uses_ordered}
 
 -- a number below m that may be taken is the one taken

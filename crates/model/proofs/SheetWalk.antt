@@ -72,7 +72,8 @@ pub arg_at : (ds : List Draft) (i : ℕ) → get_or (draft_args ds) i 0 ≡ (get
 arg_at ds i = get_or-map (λ (d : Draft). d.arg) ds i no_draft
 
 -- the argument with its name resolved
-pub slot_at_holds : (ks : List ℕ) (ds : List Draft) (i : ℕ) → get_or (draft_slots ks ds) i 0 ≡ draft_slot ks (get_or ds i no_draft)
+pub slot_at_holds : (ks : List ℕ) (ds : List Draft) (i : ℕ)
+    → get_or (draft_slots ks ds) i 0 ≡ draft_slot ks (get_or ds i no_draft)
 unfolding resolved
 slot_at_holds ks [] i = refl
 slot_at_holds ks (d ∷ ds) zero = refl

@@ -139,7 +139,8 @@ owner_used : (assigned : List (List ℕ)) (owners : List ℕ) (s : ℕ) → get_
     → used_owner owners s ≡ used_by assigned s
 owner_used assigned owners s e = rw e (go (ltb (place_among s assigned) (length assigned)))
   where
-    go : (b : Bool) → only_if (ltb 0 (cond b (place_among s assigned + 1) 0)) (cond b (place_among s assigned + 1) 0 - 1)
+    go : (b : Bool) → only_if (ltb 0 (cond b (place_among s assigned + 1) 0))
+        (cond b (place_among s assigned + 1) 0 - 1)
         ≡ only_if b (place_among s assigned)
     go true =
         let p : place_among s assigned + 1 - 1 ≡ place_among s assigned = omega arith in

@@ -17,7 +17,8 @@ use Rattle.drafts.specs.Tree.{three, names, Constant, plain, from}
 use Rattle.drafts.specs.Items.{Item, push, fetch, clock, negate, apply_two, apply_three, postfix}
 use Rattle.drafts.specs.Drafts.{Draft, draft, draft_item, constant_drafts}
 use Rattle.drafts.specs.Kinds.{kind_number, kind_constant, kind_initial, kind_push, kind_fetch, kind_clock, kind_two}
-use Rattle.drafts.specs.Kinds.{kind_negate, kind_three, kind_store, kind_rate, kind_from, kind_given, kind_own, kind_read}
+use Rattle.drafts.specs.Kinds.{kind_negate, kind_three, kind_store, kind_rate, kind_from, kind_given, kind_own}
+use Rattle.drafts.specs.Kinds.{kind_read}
 use Rattle.drafts.specs.Kinds.{kind_output, kind_input, kind_ending, defines, is_use}
 use Rattle.blocks.specs.Units.{Single, constants, assignment, state, Sets, given, own, anew, Inner, UnitBody, single}
 use Rattle.blocks.specs.Units.{block, Stood, alone, heading, inner, closing, stated, stated_inner, stated_by}

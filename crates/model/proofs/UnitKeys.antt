@@ -221,7 +221,8 @@ module _ (us : List TextUnit) where
 
   module _ (one : Once (keys (definitions us))) where
     -- no two units store one name
-    pub stored_same : (i j k : ℕ) → i < unit_count us → j < unit_count us → k ∈ stored_at us i → k ∈ stored_at us j → i ≡ j
+    pub stored_same : (i j k : ℕ) → i < unit_count us → j < unit_count us → k ∈ stored_at us i → k ∈ stored_at us j
+        → i ≡ j
     stored_same =
         part_same (λ (o : OrderUnit). stored_keys o.runs) (order_units us) no_unit
         (rw (← all_stored) (λ k. omega (arith, one k, (units_matched k us).stored, count_keys k (definitions us))))
@@ -383,7 +384,8 @@ module _ (us : List TextUnit) (sound : UnitsSound us) where
   pub assigns_defined : (i k : ℕ) → i < unit_count us → k ∈ (unit_at us i).assigns
       → k ∈ keys_with is_assigned (definitions us)
   assigns_defined i k h m =
-      (all_assigns (free_names us) us sound k).0 (part_in (λ (o : OrderUnit). o.assigns) (order_units us) no_unit i k h m)
+      (all_assigns (free_names us) us sound k).0
+      (part_in (λ (o : OrderUnit). o.assigns) (order_units us) no_unit i k h m)
 
   -- and what is assigned by its definition some unit assigns
   pub assigned_by : (k : ℕ) → k ∈ keys_with is_assigned (definitions us)

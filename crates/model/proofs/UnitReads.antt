@@ -22,7 +22,8 @@ use Rattle.model.proofs.DefinitionsCollected.{only_length, put_one, put_unless}
 
 module _ (bounds kinds : List ℕ) (j : ℕ) where
   -- the kind of the last draft, as it was read
-  pub last_kind_holds : {kind last : ℕ} → kind ≡ get_or kinds last 0 → last ≡ ends bounds j - 1 → kind ≡ last_kind bounds kinds j
+  pub last_kind_holds : {kind last : ℕ} → kind ≡ get_or kinds last 0 → last ≡ ends bounds j - 1
+      → kind ≡ last_kind bounds kinds j
   last_kind_holds k l = k ∙ ap (λ (i : ℕ). get_or kinds i 0) l
 
   -- a unit without drafts is none of the order

@@ -116,7 +116,8 @@ module _ (assigned : List (List ℕ)) (bounds kinds slots : List ℕ) where
       last = let e : suc i + k ≡ i + suc k = omega arith in ap (begins bounds) e
 
       short : length row ≤ ends bounds i - begins bounds i
-      short = gather_short (used_at assigned kinds slots) used_single (ends bounds i - begins bounds i) (begins bounds i)
+      short = gather_short (used_at assigned kinds slots) used_single (ends bounds i - begins bounds i)
+          (begins bounds i)
 
       go : (b : Bool) → begins bounds (suc i) + length rest ≤ begins bounds (suc i + k)
           → begins bounds i + length

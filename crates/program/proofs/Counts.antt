@@ -17,7 +17,8 @@ use Rattle.drafts.specs.Items.{Item, push, fetch, clock, negate, apply_two, appl
 use Rattle.drafts.specs.Drafts.{Draft, draft, draft_item}
 use Rattle.sheet.specs.Layout.{draft_kinds}
 use Rattle.blocks.specs.Units.{constants, assignment, state, Sets, given, own, anew, TextUnit, Stood, alone, heading}
-use Rattle.blocks.specs.Units.{inner, closing, Stated, stated_in, stores, rates, Equation, equation, OrderUnit, target_of}
+use Rattle.blocks.specs.Units.{inner, closing, Stated, stated_in, stores, rates, Equation, equation, OrderUnit}
+use Rattle.blocks.specs.Units.{target_of}
 use Rattle.blocks.specs.Units.{order_units}
 use Rattle.blocks.specs.Layout.{inner_item, sets_kind, drafts_stood, drafts_stated}
 use Rattle.records.specs.Record.{Rec, rec}

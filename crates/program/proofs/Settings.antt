@@ -49,7 +49,8 @@ use Rattle.program.specs.Program.{constant_value, value_in, initial_value, const
 use Rattle.program.specs.Written.{field_bytes, setting_at, reach, settings_of}
 
 -- the value of a constant is the one of its definition
-value_of_holds : (ds : List Def) (k : ℕ) (x : Float) → k ∈ keys ds → (definition_of ds k).what ≡ constant x → value_in ds k ≡ x
+value_of_holds : (ds : List Def) (k : ℕ) (x : Float) → k ∈ keys ds → (definition_of ds k).what ≡ constant x
+    → value_in ds k ≡ x
 unfolding value_in count
 value_of_holds [] k x h e = absurd (omega arith)
 value_of_holds (d ∷ ds) k x h e =
@@ -84,7 +85,8 @@ home_constant k =
 
 -- no more drafts can be a setting than there are; of one or more, one can be an initial
 reach_le : (phase n : ℕ) → reach phase n ≤ n
-reach_le phase n = cond_ind (λ (r : ℕ). r ≤ n) (eqb phase kind_initial) (min 1 n) n (λ _. omega arith) (λ _. omega arith)
+reach_le phase n = cond_ind (λ (r : ℕ). r ≤ n) (eqb phase kind_initial) (min 1 n) n (λ _. omega arith)
+    (λ _. omega arith)
 
 reach_first : (n : ℕ) → reach kind_initial (suc n) ≡ 1
 reach_first n = omega arith
@@ -321,7 +323,8 @@ module _ (us : List TextUnit) where
   -- ---- where names stand once and there is no 22 and no 23
   module _ (distinct : Once ks) (clean : name_faults ds us ≡ []) where
     -- behind a name's home stands the value of its constant
-    named_value : (c : ℕ) → c ∈ ks → c ∈ constant_keys ds → value_of (draft kind_from c) ≡ to_bits binary64 (value_in ds c)
+    named_value : (c : ℕ) → c ∈ ks → c ∈ constant_keys ds
+        → value_of (draft kind_from c) ≡ to_bits binary64 (value_in ds c)
     named_value c h m =
         let at = home_of (sheet_places us) (suc (place_in c ks)) in
         let d = definition_of ds c in

@@ -15,7 +15,8 @@ use Rattle.laws.specs.Places.{gather}
 use Rattle.laws.proofs.Tests.{eq_or_ne, cond_ind}
 use Rattle.laws.proofs.Gathers.{gather_shift}
 use Rattle.drafts.specs.Places.{begins, ends}
-use Rattle.drafts.specs.Kinds.{kind_push, kind_fetch, kind_clock, kind_store, kind_again, kind_given, kind_own, kind_read}
+use Rattle.drafts.specs.Kinds.{kind_push, kind_fetch, kind_clock, kind_store, kind_again, kind_given, kind_own}
+use Rattle.drafts.specs.Kinds.{kind_read}
 use Rattle.drafts.specs.Kinds.{is_step, step_kind, writes}
 use Rattle.program.specs.Written.{field_bytes, record_count, value_at, setting_at, reach, settings_of, step_bytes}
 use Rattle.program.specs.Written.{step_at, steps_of, unit_steps, ordered_steps}

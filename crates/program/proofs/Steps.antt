@@ -87,7 +87,8 @@ module _ (ds : List Def) (l : ℕ) where
       let left = concat_append step_of (map f xs) (z ∷ []) in
       let items =
       concat_mapped step_of f xs ∙ concat_same (λ x. step_of (f x)) item_rec same xs
-      ∙ sym (concat_mapped rec_bytes (rec l) is ∙ concat_mapped (λ j. rec_bytes (rec l j)) (instr_item (slot_in ds)) xs) in
+      ∙ sym (concat_mapped rec_bytes (rec l) is
+      ∙ concat_mapped (λ j. rec_bytes (rec l j)) (instr_item (slot_in ds)) xs) in
       let right =
       ap (λ n. concat_map rec_bytes (map (rec n) (code ds e) ++ [])) at
       ∙ ap (concat_map rec_bytes) (append-nil (map (rec l) (code ds e)) ∙ map_append (rec l) is (i ∷ []))
@@ -233,7 +234,8 @@ module _ (us : List TextUnit) where
       → ordered_steps (sheet_ordered us) firsts (stated_lines us) (sheet_bounds us) (sheet_kinds us) (sheet_slots us) q
       ≡ concat_map rec_bytes (concat_map (λ i. unit_recs ds (unit_at us i)) q)
   steps_of_holds q b =
-      ordered_steps_holds (sheet_ordered us) firsts (stated_lines us) (sheet_bounds us) (sheet_kinds us) (sheet_slots us) q
+      ordered_steps_holds (sheet_ordered us) firsts (stated_lines us) (sheet_bounds us) (sheet_kinds us)
+      (sheet_slots us) q
       ∙ concat_same_in (λ r. unit_steps_in (get_or (sheet_ordered us) r 0)) (λ r. bytes_of (unit_at us r).runs) q
       (λ r h. ordered_at us unit_steps_in (λ (o : OrderUnit). bytes_of o.runs) ordered_recs r (b r h))
       ∙ sym (concat_concat rec_bytes (λ i. unit_recs ds (unit_at us i)) q)

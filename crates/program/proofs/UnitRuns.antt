@@ -5,7 +5,8 @@ use mathlib.Core.List.{List, [], ◌∷◌, ◌++◌, map, append-nil}
 use Rattle.laws.specs.Lists.{concat_map}
 use Rattle.laws.proofs.Concats.{concat_concat, concat_same}
 use Rattle.blocks.specs.Units.{constants, assignment, state, Inner, UnitBody, single, block, TextUnit, Stood, alone}
-use Rattle.blocks.specs.Units.{heading, inner, closing, Stated, stated, stated_inner, stated_by, stated_in, stores, rates}
+use Rattle.blocks.specs.Units.{heading, inner, closing, Stated, stated, stated_inner, stated_by, stated_in, stores}
+use Rattle.blocks.specs.Units.{rates}
 use Rattle.blocks.specs.Units.{Equation, equation, OrderUnit, target_of, inner_equation, order_unit_of}
 use Rattle.model.proofs.UnitKeys.{runs_in}
 

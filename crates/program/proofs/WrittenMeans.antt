@@ -38,7 +38,8 @@ program_of us distinct clean q b =
     let x = concat_map (λ (d : Def). constant_recs ds d d.what) ds in
     let y = concat_map (λ (d : Def). initial_recs ds d d.what) ds in
     let z = concat_map (λ (i : ℕ). unit_recs ds (unit_at us i)) q in
-    ap₂ ◌++◌ (constants_of us) (ap₂ ◌++◌ (initials_of us distinct clean) (steps_of_holds us q (rw (ordered_length us) b)))
+    ap₂ ◌++◌ (constants_of us) (ap₂ ◌++◌ (initials_of us distinct clean)
+    (steps_of_holds us q (rw (ordered_length us) b)))
     ∙ sym (concat_append rec_bytes x (y ++ z) ∙ ap (λ r. concat_map rec_bytes x ++ r) (concat_append rec_bytes y z))
 
 -- ---- of arrays that hold the units us, which have no model fault

@@ -1,4 +1,3 @@
-use borrow.Author.Rules.{rules}
 use lib.Ieee
 use lib.Ieee.Compare.{differs_from_itself}
 use Rattle.bits.proofs.Nans.{no_nan}

@@ -1,8 +1,7 @@
 -- The loop reads from the last byte to the first.
 use Prim.Native.Nat.{◌<◌, ◌^◌, ◌≤◌, min}
 use native.Mathlib.Omega.{arith}
-use borrow.Author.Rules.{rules}
-use Rattle.bits.proofs.Lows.{Reading, reading_first, reading_next, reading_fits, reading_last}
+use Rattle.bits.proofs.Lows.{reading_first, reading_next, reading_fits, reading_last}
 use Rattle.bits.proofs.get_low.Goals as goal
 
 pub loop-i-init : goal.loop-i-init

@@ -1,8 +1,6 @@
 -- The loop reads from the last byte to the first.
-use Prim.Native.Nat.{◌<◌, ◌^◌, ◌≤◌, min}
-use native.Mathlib.Omega.{arith}
-use borrow.Author.Rules.{rules}
-use Rattle.bits.proofs.Lows.{Reading, reading_first, reading_next, reading_fits, reading_last}
+use Prim.Native.Nat.{min}
+use Rattle.bits.proofs.Lows.{Reading}
 use Rattle.bits.proofs.get_low.Given as goal
 
 abbrev pub invariant-loop-i : goal.invariant-loop-i

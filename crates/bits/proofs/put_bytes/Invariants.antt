@@ -1,10 +1,8 @@
 -- The loop copies from the first byte to the last for which there is a place.
 use Prim.Native.Nat.{◌-◌, ◌≤◌, min}
 use mathlib.Core.Path.{◌≡◌}
-use native.Mathlib.Omega.{arith}
-use borrow.Author.Rules.{rules}
 use lib.ListN.{length}
-use Rattle.laws.proofs.Copies.{Copied, copied_first, copied_next, copied_last}
+use Rattle.laws.proofs.Copies.{Copied}
 use Rattle.bits.proofs.put_bytes.Given as goal
 
 abbrev pub invariant-loop-i : goal.invariant-loop-i

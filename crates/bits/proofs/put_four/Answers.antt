@@ -1,6 +1,5 @@
 use Prim.Native.Nat.{◌+◌, ◌≤◌}
 use native.Mathlib.Omega.{arith}
-use borrow.Author.Rules.{rules}
 use lib.ListN.{length}
 use Rattle.bits.proofs.Lows.{room_is, low_both}
 use Rattle.bits.proofs.put_four.Goals as goal

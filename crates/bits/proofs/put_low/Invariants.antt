@@ -1,10 +1,8 @@
 -- The loop writes from the first byte to the last for which there is a place.
 use Prim.Native.Nat.{◌-◌, min}
 use mathlib.Core.Path.{◌≡◌}
-use native.Mathlib.Omega.{arith}
-use borrow.Author.Rules.{rules}
 use lib.ListN.{length}
-use Rattle.bits.proofs.Lows.{Writing, writing_first, writing_next, writing_last}
+use Rattle.bits.proofs.Lows.{Writing}
 use Rattle.bits.proofs.put_low.Given as goal
 
 abbrev pub invariant-loop-i : goal.invariant-loop-i

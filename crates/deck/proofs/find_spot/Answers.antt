@@ -1,6 +1,5 @@
 -- By the place.
 use mathlib.Core.Path.{sym, ap, ◌∙◌}
-use borrow.Author.Rules.{rules}
 use Rattle.deck.specs.Next.{lines_at}
 use Rattle.deck.specs.Spots.{spot_of}
 use Rattle.deck.proofs.find_spot.Goals as goal

@@ -1,9 +1,8 @@
 -- The invariant: to write what is left, on the buffer as it is, gives what to write all gave at first.
 use mathlib.Core.Path.{sym, ◌∙◌}
 use native.Mathlib.Omega.{arith}
-use borrow.Author.Rules.{rules}
 use Rattle.deck.proofs.Cutting.{LineAt, line_at}
-use Rattle.deck.proofs.Writes.{cards_none, cards_end, Joining, joining_first, joining_over, joining_next}
+use Rattle.deck.proofs.Writes.{cards_none, cards_end, joining_first, joining_over, joining_next}
 use Rattle.deck.proofs.Writes.{joining_last}
 use Rattle.deck.proofs.join.Goals as goal
 

@@ -1,7 +1,6 @@
 -- A line for each byte 10, and one more where the last byte is another.
 use mathlib.Core.Path.{sym, ◌∙◌}
 use native.Mathlib.Omega.{arith}
-use borrow.Author.Rules.{rules}
 use Rattle.deck.proofs.Ends.{lines_none, lines_closed, lines_open}
 use Rattle.deck.proofs.line_count.Goals as goal
 

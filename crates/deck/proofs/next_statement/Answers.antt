@@ -1,10 +1,7 @@
 -- The invariant: what is found from the present line on is what is found from the cursor.
-use Prim.Native.Nat.{◌-◌}
 use mathlib.Core.Path.{sym, ◌∙◌}
-use borrow.Author.Rules.{rules}
-use lib.ListN.{length}
 use Rattle.deck.proofs.Cutting.{LineAt, line_at}
-use Rattle.deck.proofs.Steps.{Seeking, seeking_first, seeking_next, seeking_run, seeking_end, found_none}
+use Rattle.deck.proofs.Steps.{seeking_first, seeking_next, seeking_run, seeking_end, found_none}
 use Rattle.deck.proofs.Steps.{found_end}
 use Rattle.deck.proofs.Walking.{found_both}
 use Rattle.deck.proofs.next_statement.Goals as goal

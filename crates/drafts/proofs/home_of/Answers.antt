@@ -1,4 +1,3 @@
-use borrow.Author.Rules.{rules}
 use Rattle.drafts.proofs.home_of.Goals as goal
 
 pub returns-then-slot-eq0 : goal.returns-then-slot-eq0

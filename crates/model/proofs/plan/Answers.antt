@@ -1,6 +1,5 @@
 -- The arrays fit, and the stages follow; or they do not.
 use mathlib.Core.Path.{sym, ◌∙◌}
-use borrow.Author.Rules.{rules}
 use lib.ListN.{length}
 use Rattle.model.specs.Plan.{lent}
 use Rattle.model.proofs.PlanStages.{fit_sound, planned_fit, planned_unfit}
@@ -9,7 +8,7 @@ use Rattle.model.proofs.plan.Goals as goal
 pub run-requires : goal.run-requires
 run-requires c =
     let a = c.args in
-    let fitting = sym c.fits2.ensures ∙ c.if-fits.true in
+    let fitting = sym c.fits.ensures ∙ c.if-fits.true in
     fit_sound a.lines.now a.bounds.now a.ulines.now a.ubounds.now a.kinds.now a.used.now
     a.equated.now a.order.now
     (length a.args.now) (length a.faults.now)
@@ -18,7 +17,7 @@ run-requires c =
 pub returns-then-fits : goal.returns-then-fits
 returns-then-fits c =
     let a = c.args in
-    let fitting = sym c.fits2.ensures ∙ c.if-fits.true in
+    let fitting = sym c.fits.ensures ∙ c.if-fits.true in
     planned_fit a.lines.now a.bounds.now a.ulines.now a.ubounds.now a.kinds.now
     a.args.now a.used.now a.faults.now
     (lent a.places.now a.equated.now a.order.now) fitting c.run.ensures
@@ -28,5 +27,5 @@ returns c =
     let a = c.args in
     planned_unfit a.lines.now a.bounds.now a.ulines.now a.ubounds.now a.kinds.now
     a.args.now a.used.now a.faults.now
-    (lent a.places.now a.equated.now a.order.now) (sym c.fits2.ensures ∙ c.if-fits.false)
+    (lent a.places.now a.equated.now a.order.now) (sym c.fits.ensures ∙ c.if-fits.false)
     c.refusal.ensures

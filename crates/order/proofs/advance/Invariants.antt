@@ -1,12 +1,8 @@
 -- The loop: the search from `from` on is the search from k on.
-use mathlib.Core.Path.{◌≡◌, sym, ◌∙◌}
+use mathlib.Core.Path.{◌≡◌}
 use Prim.Native.Nat.{◌-◌}
-use native.Mathlib.Omega.{arith}
-use borrow.Author.Rules.{rules}
 use Rattle.order.specs.Greedy.{first}
 use Rattle.order.specs.Marks.{open_at}
-use Rattle.order.proofs.Searches.{first_stop, first_pass, first_none}
-use Rattle.order.proofs.Marking.{open_yes, open_no}
 use Rattle.order.proofs.advance.Given as goal
 
 abbrev pub invariant-loop-k : goal.invariant-loop-k

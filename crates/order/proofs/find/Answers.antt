@@ -1,6 +1,5 @@
 -- The flag at the first place is set, or the search goes on.
 use mathlib.Core.Path.{sym}
-use borrow.Author.Rules.{rules}
 use Rattle.order.specs.Marks.{flag}
 use Rattle.order.proofs.Searches.{first_stop}
 use Rattle.order.proofs.Seeking.{flag_set}

@@ -1,7 +1,6 @@
 -- Each test answers one part of `fits`.
 use mathlib.Core.Path.{sym, ◌∙◌}
 use borrow.Author.Tests.{lt-ltb, le-ltb, le-leb, lt-leb}
-use borrow.Author.Rules.{rules}
 use Rattle.order.specs.Table.{fits}
 use Rattle.order.proofs.fit.Goals as goal
 

@@ -1,8 +1,5 @@
 -- The invariant: one was found, or one stands among those that are left.
-use Prim.Native.Nat.{◌-◌}
-use borrow.Author.Rules.{rules}
-use lib.ListN.{length}
-use Rattle.order.proofs.Seeking.{Finds, finds_first, finds_next, finds_last}
+use Rattle.order.proofs.Seeking.{finds_first, finds_next, finds_last}
 use Rattle.order.proofs.has_one.Goals as goal
 
 pub loop-i-init : goal.loop-i-init

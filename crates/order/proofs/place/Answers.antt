@@ -1,11 +1,10 @@
 -- The loop keeps `Going`, and the arrays their lengths.
-use mathlib.Core.Path.{◌≡◌, refl, ◌∙◌}
-use Prim.Native.Nat.{◌-◌, ◌<◌}
+use mathlib.Core.Path.{refl, ◌∙◌}
+use Prim.Native.Nat.{◌<◌}
 use native.Mathlib.Omega.{arith}
-use borrow.Author.Rules.{rules}
-use lib.ListN.{length, length-set}
-use Rattle.order.proofs.Arrays.{SameLengths, lengths_same, lengths_then}
-use Rattle.order.proofs.Placing.{Going, going_start, going_found, going_long, going_end, going_stop, going_woken}
+use lib.ListN.{length-set}
+use Rattle.order.proofs.Arrays.{lengths_same, lengths_then}
+use Rattle.order.proofs.Placing.{going_start, going_found, going_long, going_end, going_stop, going_woken}
 use Rattle.order.proofs.Placing.{going_step}
 use Rattle.order.proofs.place.Goals as goal
 

@@ -1,12 +1,9 @@
 -- The loop keeps `Going`, and the arrays their lengths.
-use mathlib.Core.Path.{◌≡◌, refl, ◌∙◌}
-use Prim.Native.Nat.{◌-◌, ◌<◌}
-use native.Mathlib.Omega.{arith}
-use borrow.Author.Rules.{rules}
-use lib.ListN.{length, length-set}
-use Rattle.order.proofs.Arrays.{SameLengths, lengths_same, lengths_then}
-use Rattle.order.proofs.Placing.{Going, going_start, going_found, going_long, going_end, going_stop, going_woken}
-use Rattle.order.proofs.Placing.{going_step}
+use mathlib.Core.Path.{◌≡◌}
+use Prim.Native.Nat.{◌-◌}
+use lib.ListN.{length}
+use Rattle.order.proofs.Arrays.{SameLengths}
+use Rattle.order.proofs.Placing.{Going}
 use Rattle.order.proofs.place.Given as goal
 
 abbrev pub invariant-loop-k : goal.invariant-loop-k

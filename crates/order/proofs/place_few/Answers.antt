@@ -1,5 +1,4 @@
 -- There is a place for each of few statements.
-use borrow.Author.Rules.{rules}
 use Rattle.order.specs.Marks.{few_statements}
 use Rattle.order.proofs.Arrays.{zeros, blank}
 use Rattle.order.proofs.place_few.Goals as goal

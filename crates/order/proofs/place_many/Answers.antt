@@ -1,5 +1,4 @@
 -- There is a place for each of as many as there may be.
-use borrow.Author.Rules.{rules}
 use Rattle.limits.specs.Limits.{most_statements}
 use Rattle.order.proofs.Arrays.{zeros, blank}
 use Rattle.order.proofs.place_many.Goals as goal

@@ -2,9 +2,6 @@
 use mathlib.Core.Path.{◌≡◌, refl, sym, ◌∙◌}
 use Prim.Native.Nat.{◌+◌, ◌-◌, ◌≤◌}
 use native.Mathlib.Omega.{arith}
-use borrow.Author.Rules.{rules}
-use Rattle.order.specs.Greedy.{first}
-use Rattle.order.specs.Marks.{flag}
 use Rattle.order.proofs.Seeking.{skip_clear}
 use Rattle.order.proofs.seek.Goals as goal
 

@@ -1,11 +1,8 @@
 -- The loop: the search from `from` on is the search from i on.
-use mathlib.Core.Path.{◌≡◌, refl, sym, ◌∙◌}
-use Prim.Native.Nat.{◌+◌, ◌-◌, ◌≤◌}
-use native.Mathlib.Omega.{arith}
-use borrow.Author.Rules.{rules}
+use mathlib.Core.Path.{◌≡◌}
+use Prim.Native.Nat.{◌-◌, ◌≤◌}
 use Rattle.order.specs.Greedy.{first}
 use Rattle.order.specs.Marks.{flag}
-use Rattle.order.proofs.Seeking.{skip_clear}
 use Rattle.order.proofs.seek.Given as goal
 
 abbrev pub invariant-loop-i : goal.invariant-loop-i

@@ -1,8 +1,5 @@
 -- The loop: the search from `from` on is the search from i on.
-use mathlib.Core.Path.{◌≡◌, refl, sym, ◌∙◌}
-use Prim.Native.Nat.{◌-◌}
-use borrow.Author.Rules.{rules}
-use Rattle.order.specs.Greedy.{first}
+use mathlib.Core.Path.{refl, sym, ◌∙◌}
 use Rattle.order.specs.Marks.{flag}
 use Rattle.order.proofs.Searches.{first_stop, first_pass, first_none}
 use Rattle.order.proofs.Seeking.{flag_set, flag_clear}

@@ -1,11 +1,8 @@
 -- The loop: the search from `from` on is the search from i on.
-use mathlib.Core.Path.{◌≡◌, refl, sym, ◌∙◌}
+use mathlib.Core.Path.{◌≡◌}
 use Prim.Native.Nat.{◌-◌}
-use borrow.Author.Rules.{rules}
 use Rattle.order.specs.Greedy.{first}
 use Rattle.order.specs.Marks.{flag}
-use Rattle.order.proofs.Searches.{first_stop, first_pass, first_none}
-use Rattle.order.proofs.Seeking.{flag_set, flag_clear}
 use Rattle.order.proofs.seek_one.Given as goal
 
 abbrev pub invariant-loop-i : goal.invariant-loop-i

@@ -1,7 +1,6 @@
 -- The place that the cursor moves to says whether the statement is ready, or what it waits for.
 use Prim.Native.Nat.{◌+◌, ◌-◌}
 use native.Mathlib.Omega.{arith}
-use borrow.Author.Rules.{rules}
 use Rattle.order.specs.Marks.{open_at}
 use Rattle.order.proofs.Searches.{first_from}
 use Rattle.order.proofs.Flagging.{settled_ready, settled_wait, wait_below}

@@ -1,10 +1,6 @@
 -- One statement after the other is settled.
-use mathlib.Core.Logic.{⊎_elim}
 use Prim.Native.Nat.{◌-◌}
-use native.Mathlib.Omega.{arith}
-use borrow.Author.Rules.{rules}
-use Rattle.order.proofs.Settling.{Begun, begun_first, begun_room, begun_flags, begun_ready, begun_wait}
-use Rattle.order.proofs.Settling.{begun_last}
+use Rattle.order.proofs.Settling.{Begun}
 use Rattle.order.proofs.settle_all.Given as goal
 
 abbrev pub invariant-loop-i : goal.invariant-loop-i

@@ -1,6 +1,5 @@
 -- It uses nothing, or it waits for the first that it uses.
 use native.Mathlib.Omega.{arith}
-use borrow.Author.Rules.{rules}
 use Rattle.order.proofs.Flagging.{start_ready, start_below, start_wait}
 use Rattle.order.proofs.settle_first.Goals as goal
 

@@ -1,11 +1,9 @@
 -- The loop goes from the last place down: all places have statements below n exactly if the first k do.
-use mathlib.Core.Path.{◌≡◌, sym, ◌∙◌}
-use Prim.Native.Nat.{◌-◌, ◌≤◌}
+use mathlib.Core.Path.{sym, ◌∙◌}
+use Prim.Native.Nat.{◌-◌}
 use native.Mathlib.Omega.{arith}
 use borrow.Author.Tests.{lt-ltb, le-ltb}
-use borrow.Author.Rules.{rules}
-use lib.ListN.{length, get_or}
-use Rattle.order.specs.Greedy.{all}
+use lib.ListN.{get_or}
 use Rattle.order.specs.Table.{below_at}
 use Rattle.order.proofs.Tables.{all_stop, all_pass, all_done}
 use Rattle.order.proofs.used_below.Goals as goal

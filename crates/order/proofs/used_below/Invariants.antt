@@ -1,13 +1,9 @@
 -- The loop goes from the last place down: all places have statements below n exactly if the first k do.
-use mathlib.Core.Path.{◌≡◌, sym, ◌∙◌}
-use Prim.Native.Nat.{◌-◌, ◌≤◌}
-use native.Mathlib.Omega.{arith}
-use borrow.Author.Tests.{lt-ltb, le-ltb}
-use borrow.Author.Rules.{rules}
-use lib.ListN.{length, get_or}
+use mathlib.Core.Path.{◌≡◌}
+use Prim.Native.Nat.{◌≤◌}
+use lib.ListN.{length}
 use Rattle.order.specs.Greedy.{all}
 use Rattle.order.specs.Table.{below_at}
-use Rattle.order.proofs.Tables.{all_stop, all_pass, all_done}
 use Rattle.order.proofs.used_below.Given as goal
 
 abbrev pub invariant-loop-k : goal.invariant-loop-k

@@ -1,13 +1,8 @@
 -- The loop goes from the last statement down: the uses of all end inside exactly if those of the first i do.
-use mathlib.Core.Path.{◌≡◌, sym, ◌∙◌}
-use Prim.Native.Nat.{◌+◌, ◌-◌, ◌≤◌}
-use native.Mathlib.Omega.{arith}
-use borrow.Author.Tests.{le-leb, lt-leb}
-use borrow.Author.Rules.{rules}
-use lib.ListN.{get_or}
+use mathlib.Core.Path.{◌≡◌}
+use Prim.Native.Nat.{◌≤◌}
 use Rattle.order.specs.Greedy.{all}
 use Rattle.order.specs.Table.{ends_in}
-use Rattle.order.proofs.Tables.{all_stop, all_pass, all_done}
 use Rattle.order.proofs.uses_end.Given as goal
 
 abbrev pub invariant-loop-i : goal.invariant-loop-i

@@ -2,11 +2,9 @@
 use mathlib.Core.Path.{refl, ◌∙◌}
 use mathlib.Core.Bool.{true, false}
 use native.Mathlib.Omega.{arith}
-use borrow.Author.Rules.{rules}
 use lib.ListN.{length-set}
-use Rattle.laws.specs.Counts.{count}
-use Rattle.order.proofs.Arrays.{SameLengths, lengths_same, lengths_then}
-use Rattle.order.proofs.Settling.{Waking, waking_first, waking_last, waking_one, waking_open, waking_ready}
+use Rattle.order.proofs.Arrays.{lengths_same, lengths_then}
+use Rattle.order.proofs.Settling.{waking_first, waking_last, waking_one, waking_open, waking_ready}
 use Rattle.order.proofs.Settling.{waking_wait, waking_less, waking_room}
 use Rattle.order.proofs.wake.Goals as goal
 
@@ -53,15 +51,15 @@ loop-x-smaller-then-settle c =
 
 pub loop-x-preserved-then-settle : goal.loop-x-preserved-then-settle
 loop-x-preserved-then-settle c =
-    let kept = c.settle.auto.1.1.1.1.1 in
+    let kept = c.settle.auto in
     let g = c.loop-x.invariant in (
       waking_ready g.0 c.loop-x-test.true (rw c.if-settle.true at c.settle.ensures)
           c.index-next.ensures.0 c.least-least_ready.ensures,
       lengths_then g.1
           (record {
             flags = simp length-set;
-            cursors = kept.0;
-            lists = record { heads = kept.1.0; links = kept.1.1.0; waits = kept.1.1.1.0 ∙ simp length-set };
+            cursors = kept.cursors;
+            lists = record { heads = kept.heads; links = kept.links; waits = kept.waits ∙ simp length-set };
           }),
     )
 
@@ -72,14 +70,14 @@ loop-x-smaller c =
 
 pub loop-x-preserved : goal.loop-x-preserved
 loop-x-preserved c =
-    let kept = c.settle.auto.1.1.1.1.1 in
+    let kept = c.settle.auto in
     let g = c.loop-x.invariant in (
       waking_wait g.0 c.loop-x-test.true (rw c.if-settle.false at c.settle.ensures) c.index-next.ensures.0,
       lengths_then g.1
           (record {
             flags = refl;
-            cursors = kept.0;
-            lists = record { heads = kept.1.0; links = kept.1.1.0; waits = kept.1.1.1.0 ∙ simp length-set };
+            cursors = kept.cursors;
+            lists = record { heads = kept.heads; links = kept.links; waits = kept.waits ∙ simp length-set };
           }),
     )
 

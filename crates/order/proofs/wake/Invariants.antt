@@ -1,13 +1,7 @@
 -- One after the other of those that wait is settled; each time one less waits for the statement that is placed.
-use mathlib.Core.Path.{refl, ◌∙◌}
-use mathlib.Core.Bool.{true, false}
-use native.Mathlib.Omega.{arith}
-use borrow.Author.Rules.{rules}
-use lib.ListN.{length-set}
 use Rattle.laws.specs.Counts.{count}
-use Rattle.order.proofs.Arrays.{SameLengths, lengths_same, lengths_then}
-use Rattle.order.proofs.Settling.{Waking, waking_first, waking_last, waking_one, waking_open, waking_ready}
-use Rattle.order.proofs.Settling.{waking_wait, waking_less, waking_room}
+use Rattle.order.proofs.Arrays.{SameLengths}
+use Rattle.order.proofs.Settling.{Waking}
 use Rattle.order.proofs.wake.Given as goal
 
 abbrev pub invariant-loop-x : goal.invariant-loop-x

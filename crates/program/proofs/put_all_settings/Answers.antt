@@ -1,9 +1,5 @@
 -- The loop goes over the statements.
-use Prim.Native.Nat.{◌-◌}
-use borrow.Author.Rules.{rules}
-use lib.ListN.{length}
-use Rattle.program.specs.Written.{settings_of}
-use Rattle.program.proofs.RoomFilled.{Filling, filling_first, filling_next, filling_whole}
+use Rattle.program.proofs.RoomFilled.{filling_first, filling_next, filling_whole}
 use Rattle.program.proofs.StepCases.{whole_settings}
 use Rattle.program.proofs.put_all_settings.Goals as goal
 

@@ -1,9 +1,6 @@
 -- The loop goes over the places of the order.
-use Prim.Native.Nat.{◌-◌}
 use borrow.Author.Rules.{rules}
-use lib.ListN.{length, get_or}
-use Rattle.program.specs.Written.{unit_steps}
-use Rattle.program.proofs.RoomFilled.{fill_as, Filling, filling_first, filling_next, filling_whole}
+use Rattle.program.proofs.RoomFilled.{fill_as, filling_first, filling_next, filling_whole}
 use Rattle.program.proofs.StepCases.{whole_unit, ordered_gather}
 use Rattle.program.proofs.put_ordered.Goals as goal
 

@@ -1,7 +1,6 @@
 -- There is no room for it, or it fills a part of sixteen bytes.
 use mathlib.Core.Path.{refl}
 use native.Mathlib.Omega.{arith}
-use borrow.Author.Rules.{rules}
 use Rattle.program.specs.Written.{field_bytes}
 use Rattle.program.proofs.RoomFilled.{length_record, fill_part, fill_no_room}
 use Rattle.program.proofs.put_record.Goals as goal

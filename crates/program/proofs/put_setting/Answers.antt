@@ -1,6 +1,5 @@
 use mathlib.Core.Path.{◌≡◌, sym, ◌∙◌}
 use borrow.Author.Tests.{eq-eqb, ne_eqb}
-use borrow.Author.Rules.{rules}
 use lib.ListN.{get_or}
 use Rattle.program.specs.Written.{field_bytes, value_at, setting_at}
 use Rattle.program.proofs.RoomFilled.{fill_as, fill_none}
@@ -8,10 +7,11 @@ use Rattle.program.proofs.put_setting.Goals as goal
 
 pub returns-then-byte_at-phase : goal.returns-then-byte_at-phase
 returns-then-byte_at-phase c =
-    let here : let a = c.args in
-    setting_at a.phase a.places.now a.kinds.now a.slots.now a.line a.i
+    let a = c.args in
+    let here : setting_at a.phase a.places.now a.kinds.now a.slots.now a.line a.i
     ≡ field_bytes a.phase (get_or a.slots.now a.i 0) a.line
-    (value_at a.places.now a.kinds.now a.slots.now a.i) = rw (eq-eqb _ _ (sym c.byte_at.ensures ∙ c.if-byte_at-phase.true)) in
+    (value_at a.places.now a.kinds.now a.slots.now a.i) =
+    rw (eq-eqb _ _ (sym c.byte_at.ensures ∙ c.if-byte_at-phase.true)) in
     fill_as here
     (rw (← c.value_at-bits.ensures, ← c.word_at-slot.ensures) c.put_record.ensures)
 

@@ -2,10 +2,9 @@
 use Prim.Native.Nat.{◌-◌}
 use mathlib.Core.Path.{◌≡◌, sym, ◌∙◌}
 use native.Mathlib.Omega.{arith}
-use borrow.Author.Rules.{rules}
 use Rattle.laws.specs.Places.{gather}
 use Rattle.program.specs.Written.{setting_at, settings_of}
-use Rattle.program.proofs.RoomFilled.{fill_as, fill_none, Filling, filling_first, filling_next, filling_all}
+use Rattle.program.proofs.RoomFilled.{fill_as, fill_none, filling_first, filling_next, filling_all}
 use Rattle.program.proofs.StepCases.{whole_setting, settings_none, settings_some}
 use Rattle.program.proofs.put_settings.Goals as goal
 
@@ -33,11 +32,11 @@ loop-i-preserved c =
 
 pub returns : goal.returns
 returns c =
-    let here : let a = c.args in
+    let a = c.args in
     let i = c.short_at-i.result in
-    settings_of a.phase a.places.now a.lines.now a.bounds.now a.kinds.now a.slots.now a.j
+    let here : settings_of a.phase a.places.now a.lines.now a.bounds.now a.kinds.now a.slots.now a.j
     ≡ gather (setting_at a.phase a.places.now a.kinds.now a.slots.now c.short_at-line.result)
-    (c.setting_end-end.result - i) i = let a = c.args in
+    (c.setting_end-end.result - i) i =
     settings_some a.phase a.places.now a.lines.now a.bounds.now a.kinds.now a.slots.now a.j
     c.short_at-i.ensures.0 c.setting_end-end.result c.short_at-line.ensures.0
     c.short_at.ensures.0

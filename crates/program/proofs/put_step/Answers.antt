@@ -1,7 +1,6 @@
 -- The record of each kind of draft, by ranges.
 use mathlib.Core.Path.{◌≡◌}
 use native.Mathlib.Omega.{arith}
-use borrow.Author.Rules.{rules}
 use Rattle.drafts.specs.Kinds.{kind_from}
 use Rattle.program.proofs.RoomFilled.{fill_as, fill_none}
 use Rattle.program.proofs.StepCases.{step_plain, step_first, step_below, step_above}

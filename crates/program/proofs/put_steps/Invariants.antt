@@ -1,9 +1,7 @@
 -- The loop goes over the places of the statement.
 use Prim.Native.Nat.{◌-◌}
-use borrow.Author.Rules.{rules}
 use Rattle.program.specs.Written.{step_at}
-use Rattle.program.proofs.RoomFilled.{Filling, filling_first, filling_next, filling_all}
-use Rattle.program.proofs.StepCases.{whole_step_at}
+use Rattle.program.proofs.RoomFilled.{Filling}
 use Rattle.program.proofs.put_steps.Given as goal
 
 abbrev pub invariant-loop-i : goal.invariant-loop-i

@@ -1,8 +1,6 @@
 -- The loop goes over the statements of the unit.
-use Prim.Native.Nat.{◌-◌}
 use borrow.Author.Rules.{rules}
-use Rattle.program.specs.Written.{steps_of}
-use Rattle.program.proofs.RoomFilled.{Filling, filling_first, filling_next, filling_all}
+use Rattle.program.proofs.RoomFilled.{filling_first, filling_next, filling_all}
 use Rattle.program.proofs.StepCases.{whole_steps}
 use Rattle.program.proofs.put_unit.Goals as goal
 

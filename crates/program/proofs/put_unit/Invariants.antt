@@ -1,9 +1,7 @@
 -- The loop goes over the statements of the unit.
 use Prim.Native.Nat.{◌-◌}
-use borrow.Author.Rules.{rules}
 use Rattle.program.specs.Written.{steps_of}
-use Rattle.program.proofs.RoomFilled.{Filling, filling_first, filling_next, filling_all}
-use Rattle.program.proofs.StepCases.{whole_steps}
+use Rattle.program.proofs.RoomFilled.{Filling}
 use Rattle.program.proofs.put_unit.Given as goal
 
 abbrev pub invariant-loop-i : goal.invariant-loop-i

@@ -2,7 +2,6 @@
 use native.Mathlib.Omega.{arith}
 use Rattle.drafts.specs.Kinds.{kind_initial}
 use borrow.Author.Tests.{eq-eqb, ne_eqb}
-use borrow.Author.Rules.{rules}
 use Rattle.program.proofs.setting_end.Goals as goal
 
 pub returns-then-phase-ne-INITIAL : goal.returns-then-phase-ne-INITIAL

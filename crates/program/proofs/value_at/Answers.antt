@@ -1,7 +1,6 @@
 use mathlib.Core.Path.{sym, ◌∙◌}
 use borrow.Author.Tests.{eq-eqb, ne_eqb}
 use Rattle.drafts.specs.Kinds.{kind_from}
-use borrow.Author.Rules.{rules}
 use Rattle.program.proofs.value_at.Goals as goal
 
 pub returns-then-byte_at-eq-FROM : goal.returns-then-byte_at-eq-FROM
@@ -9,7 +8,7 @@ returns-then-byte_at-eq-FROM c =
     rw (
       eq-eqb _ kind_from (sym c.byte_at.ensures ∙ c.if-byte_at-eq-FROM.true),
       ← c.word_at-v.ensures,
-      ← c.home_of_holds.ensures.0,
+      ← c.home_of.ensures.0,
     )
     c.word_at.ensures
 

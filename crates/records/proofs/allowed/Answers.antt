@@ -1,4 +1,3 @@
-use borrow.Author.Rules.{rules}
 use Rattle.records.proofs.allowed.Goals as goal
 
 pub returns-else-used : goal.returns-else-used

@@ -2,8 +2,6 @@ use Prim.Native.Nat.{ℕ, zero, suc, ◌<◌}
 use mathlib.Core.Path.{◌≡◌, sym}
 use mathlib.Core.Logic.{inr}
 use native.Mathlib.Omega.{arith}
-use borrow.Author.Rules.{rules}
-use Rattle.records.specs.Fields.{by_kind}
 use Rattle.records.proofs.Decoding.{unknown}
 use Rattle.records.proofs.by_kind.Goals as goal
 

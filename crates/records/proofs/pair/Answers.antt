@@ -1,5 +1,4 @@
 use native.Mathlib.Omega.{arith}
-use borrow.Author.Rules.{rules}
 use Rattle.records.proofs.FieldParts.{field_two}
 use Rattle.records.proofs.pair.Goals as goal
 

@@ -1,9 +1,7 @@
 use Prim.Native.Nat.{◌/◌}
-use borrow.Author.Rules.{rules}
 use borrow.Author.Tests.{lt-ltb}
 use lib.ListN.{length}
 use Rattle.limits.specs.Limits.{record_bytes}
-use Rattle.records.proofs.Decoding.{none_read}
 use Rattle.records.proofs.read.Goals as goal
 
 pub returns : goal.returns

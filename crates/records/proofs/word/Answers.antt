@@ -1,5 +1,4 @@
 use native.Mathlib.Omega.{arith}
-use borrow.Author.Rules.{rules}
 use Rattle.records.proofs.FieldParts.{field_parts}
 use Rattle.records.proofs.word.Goals as goal
 

@@ -1,7 +1,4 @@
-use Prim.Native.Nat.{ℕ}
 use mathlib.Core.Path.{sym, ◌∙◌}
-use mathlib.Core.List.{List}
-use borrow.Author.Rules.{rules}
 use Rattle.tokens.proofs.Cuts.{at_end, at_letter, at_figure, at_mark, at_other}
 use Rattle.tokens.proofs.take_cut.Goals as goal
 

@@ -1,7 +1,5 @@
 -- The invariant: the token is so many further on from here.
-use mathlib.Core.Path.{◌≡◌, refl, ◌∙◌}
-use borrow.Author.Rules.{rules}
-use Rattle.tokens.specs.Skips.{place_behind}
+use mathlib.Core.Path.{◌∙◌}
 use Rattle.tokens.proofs.Skips.{behind_here, behind_next}
 use Rattle.tokens.proofs.token_place.Goals as goal
 

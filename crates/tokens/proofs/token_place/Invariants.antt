@@ -1,8 +1,6 @@
 -- The invariant: the token is so many further on from here.
-use mathlib.Core.Path.{◌≡◌, refl, ◌∙◌}
-use borrow.Author.Rules.{rules}
+use mathlib.Core.Path.{◌≡◌}
 use Rattle.tokens.specs.Skips.{place_behind}
-use Rattle.tokens.proofs.Skips.{behind_here, behind_next}
 use Rattle.tokens.proofs.token_place.Given as goal
 
 abbrev pub invariant-loop-left : goal.invariant-loop-left

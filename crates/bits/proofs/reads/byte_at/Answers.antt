@@ -1,6 +1,5 @@
 -- Past the end the byte is 0.
 use mathlib.Core.Path.{sym}
-use borrow.Author.Rules.{rules}
 use lib.ListN.{get_or-eq_default}
 use Rattle.bits.proofs.reads.byte_at.Goals as goal
 

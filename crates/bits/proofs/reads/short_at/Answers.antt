@@ -1,7 +1,6 @@
 -- Past the end the number is 0; two bytes are below 65536.
 use mathlib.Core.Path.{refl, sym}
 use native.Mathlib.Omega.{arith}
-use borrow.Author.Rules.{rules}
 use lib.ListN.{get_or-eq_default}
 use Rattle.bits.proofs.reads.short_at.Goals as goal
 

@@ -1,6 +1,5 @@
 -- Past the end the word is 0.
 use mathlib.Core.Path.{sym}
-use borrow.Author.Rules.{rules}
 use lib.ListN.{get_or-eq_default}
 use Rattle.bits.proofs.reads.word_at.Goals as goal
 

@@ -1,9 +1,6 @@
 -- The invariant: what is counted and what is left to count are all.
-use Prim.Native.Nat.{◌-◌}
 use native.Mathlib.Omega.{arith}
-use borrow.Author.Rules.{rules}
-use lib.ListN.{length}
-use Rattle.deck.proofs.Ends.{Counts, counts_first, counts_part, counts_rest}
+use Rattle.deck.proofs.Ends.{counts_first, counts_part, counts_rest}
 use Rattle.deck.proofs.counts.count_ends.Goals as goal
 
 pub loop-i-init : goal.loop-i-init

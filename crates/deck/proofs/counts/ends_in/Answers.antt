@@ -1,8 +1,5 @@
 -- The invariant: what is counted and what is left to count are all.
-use Prim.Native.Nat.{◌-◌}
-use borrow.Author.Rules.{rules}
-use lib.ListN.{length}
-use Rattle.deck.proofs.Ends.{Counts, counts_first, counts_next, counts_last}
+use Rattle.deck.proofs.Ends.{counts_first, counts_next, counts_last}
 use Rattle.deck.proofs.counts.ends_in.Goals as goal
 
 pub loop-i-init : goal.loop-i-init

@@ -1,8 +1,7 @@
 -- The invariant: what is counted and what is left to count are all.
 use Prim.Native.Nat.{◌-◌}
-use borrow.Author.Rules.{rules}
 use lib.ListN.{length}
-use Rattle.deck.proofs.Ends.{Counts, counts_first, counts_next, counts_last}
+use Rattle.deck.proofs.Ends.{Counts}
 use Rattle.deck.proofs.counts.ends_in.Given as goal
 
 abbrev pub invariant-loop-i : goal.invariant-loop-i

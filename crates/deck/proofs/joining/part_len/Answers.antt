@@ -2,7 +2,6 @@
 use mathlib.Core.Path.{◌≡◌, sym, ap, ◌∙◌}
 use mathlib.Core.Bool.{Bool}
 use native.Mathlib.Omega.{arith}
-use borrow.Author.Rules.{rules}
 use Rattle.deck.specs.Lines.{dots_at, dotted}
 use Rattle.deck.proofs.Parts.{dots_three, part_dotted, part_plain}
 use Rattle.deck.proofs.joining.part_len.Goals as goal

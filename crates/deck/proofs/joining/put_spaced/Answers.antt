@@ -1,7 +1,6 @@
 -- The space and the part are one run of stores.
 use mathlib.Core.Path.{◌∙◌}
 use native.Mathlib.Numerals.{add-one}
-use borrow.Author.Rules.{rules}
 use Rattle.deck.proofs.joining.put_spaced.Goals as goal
 
 pub returns : goal.returns

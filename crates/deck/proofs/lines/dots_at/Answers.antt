@@ -1,5 +1,4 @@
 -- At each return the tests that led there decide the conjunction.
-use borrow.Author.Rules.{rules}
 use borrow.Author.Tests.{lt-leb, le-leb, eq-eqb, ne_eqb}
 use Rattle.deck.proofs.lines.dots_at.Goals as goal
 

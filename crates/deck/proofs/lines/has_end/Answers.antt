@@ -1,8 +1,5 @@
 -- The invariant: one was found, or one stands among those that are left.
-use Prim.Native.Nat.{◌-◌}
-use borrow.Author.Rules.{rules}
-use lib.ListN.{length}
-use Rattle.deck.proofs.Ends.{Finds, finds_first, finds_next, finds_last}
+use Rattle.deck.proofs.Ends.{finds_first, finds_next, finds_last}
 use Rattle.deck.proofs.lines.has_end.Goals as goal
 
 pub loop-i-init : goal.loop-i-init

@@ -1,8 +1,7 @@
 -- The invariant: one was found, or one stands among those that are left.
 use Prim.Native.Nat.{◌-◌}
-use borrow.Author.Rules.{rules}
 use lib.ListN.{length}
-use Rattle.deck.proofs.Ends.{Finds, finds_first, finds_next, finds_last}
+use Rattle.deck.proofs.Ends.{Finds}
 use Rattle.deck.proofs.lines.has_end.Given as goal
 
 abbrev pub invariant-loop-i : goal.invariant-loop-i

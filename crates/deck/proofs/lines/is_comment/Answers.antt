@@ -1,5 +1,4 @@
 -- An empty line has no first byte.
-use borrow.Author.Rules.{rules}
 use Rattle.deck.proofs.Cutting.{starred_none}
 use Rattle.deck.proofs.lines.is_comment.Goals as goal
 

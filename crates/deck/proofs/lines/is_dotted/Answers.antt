@@ -1,6 +1,5 @@
 -- The points stand before the place that trailing spaces leave.
 use mathlib.Core.Path.{ap, ◌∙◌}
-use borrow.Author.Rules.{rules}
 use Rattle.deck.specs.Lines.{dots_at, dotted}
 use Rattle.deck.proofs.lines.is_dotted.Goals as goal
 

@@ -1,7 +1,6 @@
 -- A line with no bytes but spaces passes either way; any other by its first byte alone.
 use mathlib.Core.Path.{sym}
 use mathlib.Core.Bool.{or-true, or-false}
-use borrow.Author.Rules.{rules}
 use borrow.Author.Tests.{eq-eqb, ne_eqb}
 use Rattle.deck.specs.Lines.{starred, passed}
 use Rattle.deck.proofs.lines.is_passed.Goals as goal

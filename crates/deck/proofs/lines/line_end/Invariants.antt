@@ -1,11 +1,7 @@
 -- The invariant: where the line ends is the same from every place that the loop passed.
 use Prim.Native.Nat.{◌-◌}
-use native.Mathlib.Omega.{arith}
-use borrow.Author.Rules.{rules}
 use lib.ListN.{length}
 use Rattle.deck.specs.Next.{SameEnd}
-use Rattle.deck.proofs.Ends.{passes_both}
-use Rattle.deck.proofs.Cutting.{width_ten, width_more, width_end}
 use Rattle.deck.proofs.lines.line_end.Given as goal
 
 abbrev pub invariant-loop-i : goal.invariant-loop-i

@@ -1,11 +1,7 @@
 -- The invariant: from each place that was passed it is the same line's end.
 use Prim.Native.Nat.{◌-◌}
-use mathlib.Core.Path.{sym, ◌∙◌}
-use native.Mathlib.Omega.{arith}
-use borrow.Author.Rules.{rules}
 use lib.ListN.{length}
 use Rattle.deck.specs.Next.{SameEnd}
-use Rattle.deck.proofs.Ends.{passes_first, passes_on}
 use Rattle.deck.proofs.lines.pass.Given as goal
 
 abbrev pub invariant-loop-i : goal.invariant-loop-i

@@ -1,9 +1,8 @@
 -- The invariant: the front of n bytes has the line's length, trailing spaces aside.
-use Prim.Native.Nat.{◌≤◌}
 use mathlib.Core.Path.{◌≡◌, ap, sym, ◌∙◌}
 use native.Mathlib.Omega.{arith}
 use borrow.Author.Rules.{rules}
-use lib.ListN.{length, take}
+use lib.ListN.{take}
 use lib.Seq.{take-length}
 use Rattle.deck.specs.Lines.{trimmed}
 use Rattle.deck.proofs.Cutting.{trimmed_at_space, trimmed_at_other}

@@ -1,10 +1,8 @@
 -- The invariant: to search the lines that are left gives what to search all gave at first.
-use Prim.Native.Nat.{◌-◌}
 use mathlib.Core.Path.{sym, ◌∙◌}
 use native.Mathlib.Omega.{arith}
-use borrow.Author.Rules.{rules}
 use Rattle.deck.proofs.Cutting.{LineAt, line_at}
-use Rattle.deck.proofs.Spotting.{ByteLeft, byte_first, byte_none, byte_end, byte_comment, byte_found, byte_card}
+use Rattle.deck.proofs.Spotting.{byte_first, byte_none, byte_end, byte_comment, byte_found, byte_card}
 use Rattle.deck.proofs.spots.byte_spot.Goals as goal
 
 pub loop-down-init : goal.loop-down-init

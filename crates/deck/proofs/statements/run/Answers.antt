@@ -1,8 +1,5 @@
 -- The invariant: what is read from the present line on is what is read from the first.
-use Prim.Native.Nat.{◌-◌}
-use borrow.Author.Rules.{rules}
-use lib.ListN.{length}
-use Rattle.deck.proofs.Steps.{Running, running_first, running_next, running_stop, running_end}
+use Rattle.deck.proofs.Steps.{running_first, running_next, running_stop, running_end}
 use Rattle.deck.proofs.statements.run.Goals as goal
 
 pub loop-start-init : goal.loop-start-init

@@ -1,9 +1,7 @@
 -- The invariant: what is read from the present line on is what is read from the first.
 use Prim.Native.Nat.{◌-◌}
-use borrow.Author.Rules.{rules}
-use borrow.Author.Tests.{not-true, not-false}
 use lib.ListN.{length}
-use Rattle.deck.proofs.Steps.{Running, running_first, running_next, running_stop, running_end}
+use Rattle.deck.proofs.Steps.{Running}
 use Rattle.deck.proofs.statements.run.Given as goal
 
 abbrev pub invariant-loop-start : goal.invariant-loop-start

@@ -1,9 +1,7 @@
 -- The loop goes over the drafts.
 use Prim.Native.Nat.{◌-◌}
-use mathlib.Core.Path.{refl}
-use borrow.Author.Rules.{rules}
 use lib.ListN.{length}
-use Rattle.model.proofs.DefinitionsCollected.{Collecting, collecting_first, collecting_next, collecting_last}
+use Rattle.model.proofs.DefinitionsCollected.{Collecting}
 use Rattle.model.proofs.collect.collect.Given as goal
 
 abbrev pub invariant-loop-i : goal.invariant-loop-i

@@ -1,6 +1,5 @@
 -- A draft that defines a name is stored, another is not.
 use mathlib.Core.Path.{sym, ◌∙◌}
-use borrow.Author.Rules.{rules}
 use Rattle.model.proofs.DefinitionsCollected.{noted, not_noted}
 use Rattle.model.proofs.collect.note.Goals as goal
 

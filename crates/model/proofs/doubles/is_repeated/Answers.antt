@@ -1,9 +1,6 @@
 -- A key repeats from the present place on exactly if one does from the start on.
-use Prim.Native.Nat.{◌-◌}
-use mathlib.Core.Path.{◌≡◌, refl, sym, ◌∙◌}
+use mathlib.Core.Path.{refl, sym, ◌∙◌}
 use native.Mathlib.Omega.{arith}
-use borrow.Author.Rules.{rules}
-use Rattle.model.specs.Working.{repeats}
 use Rattle.model.proofs.RepeatedKeys.{repeat_stop, repeat_pass, repeat_done}
 use Rattle.model.proofs.doubles.is_repeated.Goals as goal
 

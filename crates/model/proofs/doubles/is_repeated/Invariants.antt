@@ -1,10 +1,7 @@
 -- A key repeats from the present place on exactly if one does from the start on.
 use Prim.Native.Nat.{◌-◌}
-use mathlib.Core.Path.{◌≡◌, refl, sym, ◌∙◌}
-use native.Mathlib.Omega.{arith}
-use borrow.Author.Rules.{rules}
+use mathlib.Core.Path.{◌≡◌}
 use Rattle.model.specs.Working.{repeats}
-use Rattle.model.proofs.RepeatedKeys.{repeat_stop, repeat_pass, repeat_done}
 use Rattle.model.proofs.doubles.is_repeated.Given as goal
 
 abbrev pub invariant-loop-d : goal.invariant-loop-d

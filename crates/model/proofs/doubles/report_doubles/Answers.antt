@@ -1,16 +1,13 @@
 -- Before statement j as many definitions are passed as stand before it.
-use Prim.Native.Nat.{◌-◌}
-use mathlib.Core.Path.{◌≡◌, sym, ap, ◌∙◌}
+use mathlib.Core.Path.{sym, ap, ◌∙◌}
 use native.Mathlib.Omega.{arith}
-use borrow.Author.Tests.{not-true}
-use borrow.Author.Rules.{rules}
 use lib.ListN.{length}
 use Rattle.laws.specs.Lists.{concat_map}
 use Rattle.sheet.specs.Sheet.{fault_list}
 use Rattle.drafts.specs.Places.{begins}
 use Rattle.model.specs.Working.{before, repeat_at}
 use Rattle.model.proofs.RepeatedKeys.{before_le, before_later, repeat_single, repeat_found, repeated_none}
-use Rattle.blocks.proofs.FaultsListed.{Reports, reports_first, reports_next, reports_last}
+use Rattle.blocks.proofs.FaultsListed.{reports_first, reports_next, reports_last}
 use Rattle.model.proofs.doubles.report_doubles.Goals as goal
 
 pub is_repeated-requires : goal.is_repeated-requires
@@ -22,7 +19,7 @@ unfolding concat_map fault_list
 returns-then-not-is_repeated c =
     let a = c.args in
     let e = repeated_none a.keys.now a.lines.now a.bounds.now a.places.now c.requires.1
-    (sym c.is_repeated.ensures ∙ not-true _ c.if-not-is_repeated.true) in
+    (sym c.is_repeated.ensures ∙ c.if-not-is_repeated.true) in
     record { behind = rw e; written = rw e }
 
 pub loop-j-init : goal.loop-j-init

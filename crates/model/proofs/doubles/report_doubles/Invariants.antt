@@ -1,16 +1,10 @@
 -- Before statement j as many definitions are passed as stand before it.
 use Prim.Native.Nat.{◌-◌}
-use mathlib.Core.Path.{◌≡◌, sym, ap, ◌∙◌}
-use native.Mathlib.Omega.{arith}
-use borrow.Author.Tests.{not-true}
-use borrow.Author.Rules.{rules}
+use mathlib.Core.Path.{◌≡◌}
 use lib.ListN.{length}
-use Rattle.laws.specs.Lists.{concat_map}
-use Rattle.sheet.specs.Sheet.{fault_list}
 use Rattle.drafts.specs.Places.{begins}
 use Rattle.model.specs.Working.{before, repeat_at}
-use Rattle.model.proofs.RepeatedKeys.{before_le, before_later, repeat_single, repeat_found, repeated_none}
-use Rattle.blocks.proofs.FaultsListed.{Reports, reports_first, reports_next, reports_last}
+use Rattle.blocks.proofs.FaultsListed.{Reports}
 use Rattle.model.proofs.doubles.report_doubles.Given as goal
 
 abbrev pub invariant-loop-j : goal.invariant-loop-j

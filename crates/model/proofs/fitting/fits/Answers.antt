@@ -1,8 +1,7 @@
 -- The tests one after the other.
 use mathlib.Core.Path.{◌≡◌, sym, ◌∙◌}
 use mathlib.Core.Bool.{◌&&◌}
-use borrow.Author.Rules.{rules}
-use borrow.Author.Tests.{le-leb, lt-leb, eq-eqb, ne_eqb, not-true, not-false}
+use borrow.Author.Tests.{le-leb, lt-leb, eq-eqb, ne_eqb}
 use lib.ListN.{length}
 use Rattle.blocks.specs.Grouped.{in_turn}
 use Rattle.model.specs.Plan.{roomy, fit}
@@ -105,7 +104,7 @@ returns-then-not-has_room c =
       le-leb _ _ c.if-used-kinds.false,
       le-leb _ _ c.if-faults-lines.false,
     ) in
-    rw (left, sym c.has_room.ensures ∙ not-true _ c.if-not-has_room.true)
+    rw (left, sym c.has_room.ensures ∙ c.if-not-has_room.true)
 
 pub returns-then-is_in_turn : goal.returns-then-is_in_turn
 unfolding fit
@@ -127,7 +126,7 @@ returns-then-is_in_turn c =
     ) in
     rw (
       left,
-      sym c.has_room.ensures ∙ not-false _ c.if-not-has_room.false,
+      sym c.has_room.ensures ∙ c.if-not-has_room.false,
       sym c.is_in_turn.ensures ∙ c.if-is_in_turn.true,
     ) c.is_in_turn-then-is_in_turn.ensures
 
@@ -151,6 +150,6 @@ returns c =
     ) in
     rw (
       left,
-      sym c.has_room.ensures ∙ not-false _ c.if-not-has_room.false,
+      sym c.has_room.ensures ∙ c.if-not-has_room.false,
       sym c.is_in_turn.ensures ∙ c.if-is_in_turn.false,
     )

@@ -1,9 +1,6 @@
 -- The key sought is the one that the hint or link leads to, or one behind it. Each link leads on.
-use native.Mathlib.Omega.{arith}
-use borrow.Author.Rules.{rules}
 use lib.ListN.{length}
-use Rattle.model.proofs.KeysFound.{Sought, ahead, sought_first, sought_there, sought_next, sought_less}
-use Rattle.model.proofs.KeysFound.{sought_none}
+use Rattle.model.proofs.KeysFound.{Sought, ahead}
 use Rattle.model.proofs.hints.find.Given as goal
 
 abbrev pub invariant-loop-h : goal.invariant-loop-h

@@ -1,6 +1,5 @@
 -- The hints and links of the keys from the last down to the present one are noted.
-use borrow.Author.Rules.{rules}
-use Rattle.model.proofs.KeysFound.{Hinting, hinting_first, hinting_next, hinting_last}
+use Rattle.model.proofs.KeysFound.{hinting_first, hinting_next, hinting_last}
 use Rattle.model.proofs.hints.note_hints.Goals as goal
 
 pub loop-d-init : goal.loop-d-init

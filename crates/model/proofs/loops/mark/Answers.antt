@@ -1,8 +1,5 @@
 -- The first k that are placed are marked.
-use Prim.Native.Nat.{◌-◌}
-use borrow.Author.Rules.{rules}
-use lib.ListN.{length}
-use Rattle.model.proofs.LoopMarks.{Marking, marking_first, marking_next, marking_last}
+use Rattle.model.proofs.LoopMarks.{marking_first, marking_next, marking_last}
 use Rattle.model.proofs.loops.mark.Goals as goal
 
 pub loop-k-init : goal.loop-k-init

@@ -1,8 +1,7 @@
 -- The first k that are placed are marked.
 use Prim.Native.Nat.{◌-◌}
-use borrow.Author.Rules.{rules}
 use lib.ListN.{length}
-use Rattle.model.proofs.LoopMarks.{Marking, marking_first, marking_next, marking_last}
+use Rattle.model.proofs.LoopMarks.{Marking}
 use Rattle.model.proofs.loops.mark.Given as goal
 
 abbrev pub invariant-loop-k : goal.invariant-loop-k

@@ -1,5 +1,4 @@
 -- What is not marked is not placed.
-use borrow.Author.Rules.{rules}
 use Rattle.model.proofs.LoopMarks.{unmarked_loops}
 use Rattle.model.proofs.loops.report_loops.Goals as goal
 

@@ -1,11 +1,9 @@
 -- The faults of the equations before r are written.
-use Prim.Native.Nat.{◌-◌}
 use native.Mathlib.Omega.{arith}
-use borrow.Author.Rules.{rules}
 use lib.ListN.{length}
 use Rattle.model.specs.Working.{unmarked_at}
 use Rattle.model.proofs.LoopMarks.{unmarked_single, unmarked_found}
-use Rattle.blocks.proofs.FaultsListed.{Reports, reports_first, reports_next, reports_last}
+use Rattle.blocks.proofs.FaultsListed.{reports_first, reports_next, reports_last}
 use Rattle.model.proofs.loops.report_unmarked.Goals as goal
 
 pub loop-r-init : goal.loop-r-init

@@ -1,11 +1,8 @@
 -- The faults of the equations before r are written.
 use Prim.Native.Nat.{◌-◌}
-use native.Mathlib.Omega.{arith}
-use borrow.Author.Rules.{rules}
 use lib.ListN.{length}
 use Rattle.model.specs.Working.{unmarked_at}
-use Rattle.model.proofs.LoopMarks.{unmarked_single, unmarked_found}
-use Rattle.blocks.proofs.FaultsListed.{Reports, reports_first, reports_next, reports_last}
+use Rattle.blocks.proofs.FaultsListed.{Reports}
 use Rattle.model.proofs.loops.report_unmarked.Given as goal
 
 abbrev pub invariant-loop-r : goal.invariant-loop-r

@@ -1,12 +1,9 @@
 -- The names before the present draft are defined, and the worst of the initials before it is noted.
-use Prim.Native.Nat.{◌-◌}
 use mathlib.Core.Path.{sym, ◌∙◌}
-use mathlib.Core.Logic.{⊎_elim}
-use borrow.Author.Rules.{rules}
-use Rattle.model.specs.Places.{undefined_at, unfit_at}
-use Rattle.model.proofs.NamesResolved.{undefined_read, unfit_read, Seeking, seeking_first, seeking_found}
+use Rattle.model.proofs.NamesResolved.{undefined_read, unfit_read, seeking_first, seeking_found}
 use Rattle.model.proofs.NamesResolved.{seeking_unfit, seeking_pass, seeking_last}
 use Rattle.model.proofs.names.flaw_in.Goals as goal
+use Rattle.model.proofs.names.flaw_in.Goals.{then-is_unfit, else-is_unfit}
 
 pub loop-i-init : goal.loop-i-init
 loop-i-init c =
@@ -32,11 +29,14 @@ loop-i-preserved c =
     (unfit_read c.args.places.now c.args.kinds.now c.byte_at-kind.ensures
     c.word_at-slot.ensures) in
     let defined = undefined ∙ sym c.is_undefined.ensures ∙ c.if-is_undefined.false in
-    ⊎_elim
-    (λ w. seeking_unfit c.loop-i.invariant c.loop-i-test.true defined
-    (unfit ∙ sym c.is_unfit.ensures ∙ w.0.taken) w.1)
-    (λ w. seeking_pass c.loop-i.invariant c.loop-i-test.true defined
-    (unfit ∙ sym c.is_unfit.ensures ∙ w.0.left) w.1) c.if-is_unfit.branch
+    elim c.if-is_unfit.branch [
+      | then-is_unfit w ↦
+          seeking_unfit c.loop-i.invariant c.loop-i-test.true defined
+          (unfit ∙ sym c.is_unfit.ensures ∙ w.if-is_unfit.true) w.flaw-is
+      | else-is_unfit w ↦
+          seeking_pass c.loop-i.invariant c.loop-i-test.true defined
+          (unfit ∙ sym c.is_unfit.ensures ∙ w.if-is_unfit.false) w.flaw-is
+    ]
 
 pub returns : goal.returns
 returns c =

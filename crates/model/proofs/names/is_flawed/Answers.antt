@@ -1,6 +1,5 @@
 -- One test, or the other.
 use mathlib.Core.Path.{sym, ◌∙◌}
-use borrow.Author.Rules.{rules}
 use Rattle.laws.proofs.Tests.{or_left}
 use Rattle.laws.proofs.Tests.{or_skip}
 use Rattle.model.proofs.names.is_flawed.Goals as goal

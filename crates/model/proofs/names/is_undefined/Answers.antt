@@ -1,5 +1,4 @@
 -- Only what asks for a name can be undefined.
-use borrow.Author.Rules.{rules}
 use Rattle.model.proofs.names.is_undefined.Goals as goal
 
 pub returns-then-is_asking : goal.returns-then-is_asking

@@ -3,7 +3,6 @@ use Prim.Native.Nat.{ℕ}
 use mathlib.Core.Path.{ap, ◌∙◌}
 use mathlib.Core.Bool.{not}
 use borrow.Author.Tests.{eq-eqb, ne_eqb}
-use borrow.Author.Rules.{rules}
 use lib.Dec.{eqb}
 use lib.ListN.{get_or}
 use Rattle.drafts.specs.Kinds.{kind_constant, kind_from}
@@ -14,7 +13,7 @@ returns-then-kind-eq-FROM c =
     let s = c.args in
     rw (eq-eqb _ kind_from c.if-kind-eq-FROM.true)
     (ap (λ (b : ℕ). not (eqb b kind_constant))
-    (c.byte_at.ensures ∙ ap (λ (p : ℕ). get_or s.kinds.now p 0) c.home_of_holds.ensures.0))
+    (c.byte_at.ensures ∙ ap (λ (p : ℕ). get_or s.kinds.now p 0) c.home_of.ensures.0))
 
 pub returns : goal.returns
 returns c =

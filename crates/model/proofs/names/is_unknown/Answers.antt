@@ -2,7 +2,6 @@
 use Prim.Native.Nat.{ℕ}
 use mathlib.Core.Path.{ap, ◌∙◌}
 use borrow.Author.Tests.{lt-ltb, le-ltb}
-use borrow.Author.Rules.{rules}
 use lib.Dec.{eqb}
 use lib.ListN.{get_or}
 use Rattle.drafts.specs.Kinds.{kind_own}
@@ -17,4 +16,4 @@ returns c =
     let s = c.args in
     rw (le-ltb _ _ c.if-places-slot.false)
     (ap (λ (b : ℕ). eqb b kind_own)
-    (c.byte_at.ensures ∙ ap (λ (p : ℕ). get_or s.kinds.now p 0) c.home_of_holds.ensures.0))
+    (c.byte_at.ensures ∙ ap (λ (p : ℕ). get_or s.kinds.now p 0) c.home_of.ensures.0))

@@ -1,11 +1,9 @@
 -- The faults of the statements before j are written.
-use Prim.Native.Nat.{◌-◌}
 use native.Mathlib.Omega.{arith}
-use borrow.Author.Rules.{rules}
 use lib.ListN.{length}
 use Rattle.model.specs.Places.{names_at, nameless}
 use Rattle.model.proofs.NamesResolved.{names_single, flaw_found}
-use Rattle.blocks.proofs.FaultsListed.{Reports, reports_first, reports_next, reports_last}
+use Rattle.blocks.proofs.FaultsListed.{reports_first, reports_next, reports_last}
 use Rattle.model.proofs.names.report_nameless.Goals as goal
 
 pub loop-j-init : goal.loop-j-init

@@ -1,5 +1,4 @@
 -- Where no name is flawed, nothing is looked through.
-use borrow.Author.Rules.{rules}
 use Rattle.model.proofs.PlanStages.{names_clear}
 use Rattle.model.proofs.names.report_names.Goals as goal
 

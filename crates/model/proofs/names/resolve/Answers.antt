@@ -1,11 +1,9 @@
 -- The statements before the present one are gone over, and where the uses of each equation among them begin is stored.
-use Prim.Native.Nat.{◌-◌}
 use mathlib.Core.Path.{refl}
 use native.Mathlib.Omega.{arith}
 use borrow.Author.Rules.{rules}
-use lib.ListN.{length}
 use Rattle.model.proofs.PlanStages.{prefix_length}
-use Rattle.model.proofs.NamesLinked.{Stating, stating_first, stating_walked, stating_few, stating_next}
+use Rattle.model.proofs.NamesLinked.{stating_first, stating_walked, stating_few, stating_next}
 use Rattle.model.proofs.NamesLinked.{stating_last}
 use Rattle.model.proofs.names.resolve.Goals as goal
 
@@ -39,17 +37,12 @@ resolve_in-usage-requires c = (
 
 pub overflow_add-j-in-loop-j : goal.overflow_add-j-in-loop-j
 overflow_add-j-in-loop-j c =
-    let put =
-    c in
-    let test = put in
-    let s =
-    test in
-    omega (arith, test.loop-test.taken, s.pre.1.sound.few)
+    omega (arith, c.loop-j-test.true, c.requires.1.sound.few)
 
 pub loop-j-preserved : goal.loop-j-preserved
 loop-j-preserved c =
     stating_next c.args.places.now c.args.starts.now c.requires.1 c.loop-j.invariant c.loop-j-test.true
-    c.is_ordered_holds.ensures refl
+    c.is_ordered-ordered.ensures refl
     c.put_if-r.ensures c.all_or_none-known.ensures.0 c.short_at.ensures.0
     c.short_at-in-loop-j.ensures.0 (search rules)
     c.resolve_in-usage.ensures.0 c.resolve_in-usage.ensures.1

@@ -1,17 +1,13 @@
 -- The statements before the present one are gone over, and where the uses of each equation among them begin is stored.
 use Prim.Native.Nat.{◌-◌}
-use mathlib.Core.Path.{refl}
-use native.Mathlib.Omega.{arith}
-use borrow.Author.Rules.{rules}
 use lib.ListN.{length}
-use Rattle.model.proofs.PlanStages.{prefix_length}
-use Rattle.model.proofs.NamesLinked.{Stating, stating_first, stating_walked, stating_few, stating_next}
-use Rattle.model.proofs.NamesLinked.{stating_last}
+use Rattle.model.proofs.NamesLinked.{Stating}
 use Rattle.model.proofs.names.resolve.Given as goal
 
 abbrev pub invariant-loop-j : goal.invariant-loop-j
 invariant-loop-j l =
-    Stating l.lines l.bounds l.kinds l.keys l.places l.initial.args l.initial.starts l.initial.used l.usage l.r l.j l.args l.starts l.used
+    Stating l.lines l.bounds l.kinds l.keys l.places l.initial.args l.initial.starts l.initial.used
+    l.usage l.r l.j l.args l.starts l.used
 
 abbrev pub decreases-loop-j : goal.decreases-loop-j
 decreases-loop-j l =

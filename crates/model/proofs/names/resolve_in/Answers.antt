@@ -1,15 +1,14 @@
 -- The drafts before the present one are resolved, those that are flawed are noted, and what they use is listed.
-use Prim.Native.Nat.{◌-◌}
 use mathlib.Core.Path.{sym, ◌∙◌}
-use mathlib.Core.Logic.{⊎_elim}
 use native.Mathlib.Omega.{arith}
-use borrow.Author.Rules.{rules}
 use lib.ListN.{get_or}
 use Rattle.model.proofs.KeysFound.{place_le}
 use Rattle.model.proofs.NamesResolved.{slot_named}
-use Rattle.model.proofs.NamesLinked.{usage, Walking, walking_first, walking_flawed, walking_clear, walking_other}
+use Rattle.model.proofs.NamesLinked.{walking_first, walking_flawed, walking_clear, walking_other}
 use Rattle.model.proofs.NamesLinked.{walking_last}
 use Rattle.model.proofs.names.resolve_in.Goals as goal
+use Rattle.model.proofs.names.resolve_in.Goals.{then-is_named+then-is_flawed, then-is_named+else-is_flawed}
+use Rattle.model.proofs.names.resolve_in.Goals.{else-is_named}
 
 pub loop-i-init : goal.loop-i-init
 loop-i-init c =
@@ -30,17 +29,18 @@ loop-i-preserved c =
     let ks = c.args.keys.now in
     let kind = get_or c.args.kinds.now c.loop-i.i 0 in
     let arg = get_or c.loop-i.args c.loop-i.i 0 in
-    ⊎_elim
-    (λ w.
-    let slot = slot_named ks kind arg (asks ∙ w.0.taken) w.2.ensures in
-    walking_flawed v p.wide p.inside h slot w.4.ensures w.9 w.10 w.11 w.7.ensures w.8.taken
-    w.12)
-    (⊎_elim
-    (λ w.
-    let slot = slot_named ks kind arg (asks ∙ w.0.taken) w.2.ensures in
-    walking_clear v p.wide p.inside h slot w.4.ensures w.9 w.10 w.11 w.7.ensures w.8.left
-    w.12)
-    (λ w. walking_other v p.wide p.inside h (asks ∙ w.0.left) w.1 w.2 w.3 w.4)) c.if-is_named.branch
+    elim c.if-is_named.branch [
+      | then-is_named+then-is_flawed w ↦
+          let slot = slot_named ks kind arg (asks ∙ w.if-is_named.true) w.find.ensures in
+          walking_flawed v p.wide p.inside h slot w.put_use-w.ensures w.args-is w.used-is w.w-is
+          w.is_flawed.ensures w.if-is_flawed.true w.flawed-is
+      | then-is_named+else-is_flawed w ↦
+          let slot = slot_named ks kind arg (asks ∙ w.if-is_named.true) w.find.ensures in
+          walking_clear v p.wide p.inside h slot w.put_use-w.ensures w.args-is w.used-is w.w-is
+          w.is_flawed.ensures w.if-is_flawed.false w.flawed-is
+      | else-is_named w ↦
+          walking_other v p.wide p.inside h (asks ∙ w.if-is_named.false) w.args-is w.used-is w.w-is w.flawed-is
+    ]
 
 pub returns : goal.returns
 returns c =

@@ -1,6 +1,5 @@
 -- A place for each definition that there may be.
 use native.Mathlib.Omega.{arith}
-use borrow.Author.Rules.{rules}
 use Rattle.limits.specs.Limits.{most_definitions}
 use Rattle.model.proofs.PlanStages.{room_of}
 use Rattle.model.proofs.stages.in_large_room.Goals as goal

@@ -1,6 +1,5 @@
 -- A place for each of few drafts.
 use native.Mathlib.Omega.{arith}
-use borrow.Author.Rules.{rules}
 use Rattle.model.specs.Working.{few_drafts}
 use Rattle.model.proofs.PlanStages.{room_of}
 use Rattle.model.proofs.stages.in_small_room.Goals as goal

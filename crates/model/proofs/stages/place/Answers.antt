@@ -1,6 +1,5 @@
 -- A table that fits is sorted; then all are placed, or fewer.
 use native.Mathlib.Omega.{arith}
-use borrow.Author.Rules.{rules}
 use Rattle.model.proofs.PlanStages.{prefix_length, sorts_fit, sorts_long, sorts_short, sorts_whole}
 use Rattle.model.proofs.stages.place.Goals as goal
 
@@ -12,7 +11,7 @@ returns-in_default c =
 pub slice_bounds-report_loops-end-then-k-m : goal.slice_bounds-report_loops-end-then-k-m
 slice_bounds-report_loops-end-then-k-m c =
     let s = c.requires in
-    prefix_length c.in-Placed.k c.sort-sorted.new.1.1.1.0
+    prefix_length c.in-Placed.k c.sort-sorted.new.out
     (omega (arith, c.if-k-m.true, s.0.few, s.2, sorts_long c.sort-sorted.ensures s.0 s.2))
 
 pub returns-then-k-m : goal.returns-then-k-m

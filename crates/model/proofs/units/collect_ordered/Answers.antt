@@ -1,9 +1,7 @@
 -- The equations before statement j are stored.
-use Prim.Native.Nat.{◌-◌}
 use native.Mathlib.Omega.{arith}
-use borrow.Author.Rules.{rules}
 use Rattle.model.specs.Places.{is_ordered, ordered_in}
-use Rattle.model.proofs.UnitReads.{Listing, listing_first, listing_next, listing_last}
+use Rattle.model.proofs.UnitReads.{listing_first, listing_next, listing_last}
 use Rattle.model.proofs.units.collect_ordered.Goals as goal
 
 pub loop-j-init : goal.loop-j-init
@@ -17,7 +15,7 @@ put_if-count-requires c =
 
 pub loop-j-preserved : goal.loop-j-preserved
 loop-j-preserved c =
-    listing_next c.loop-j.invariant c.loop-j-test.true c.is_ordered_holds.ensures c.put_if-count.ensures
+    listing_next c.loop-j.invariant c.loop-j-test.true c.is_ordered.ensures c.put_if-count.ensures
 
 pub returns : goal.returns
 unfolding ordered_in

@@ -1,9 +1,7 @@
 -- The equations before statement j are stored.
 use Prim.Native.Nat.{◌-◌}
-use native.Mathlib.Omega.{arith}
-use borrow.Author.Rules.{rules}
-use Rattle.model.specs.Places.{is_ordered, ordered_in}
-use Rattle.model.proofs.UnitReads.{Listing, listing_first, listing_next, listing_last}
+use Rattle.model.specs.Places.{is_ordered}
+use Rattle.model.proofs.UnitReads.{Listing}
 use Rattle.model.proofs.units.collect_ordered.Given as goal
 
 abbrev pub invariant-loop-j : goal.invariant-loop-j

@@ -1,6 +1,5 @@
 -- A statement with drafts is one by its last kind.
 use mathlib.Core.Path.{ap, ◌∙◌}
-use borrow.Author.Rules.{rules}
 use Rattle.drafts.specs.Kinds.{closes}
 use Rattle.model.proofs.UnitReads.{last_kind_holds, ordered_empty, ordered_last}
 use Rattle.model.proofs.units.is_ordered.Goals as goal

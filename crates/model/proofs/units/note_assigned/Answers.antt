@@ -1,7 +1,6 @@
 -- The outputs in front, and the store at the end.
 use mathlib.Core.Path.{refl}
 use native.Mathlib.Omega.{arith}
-use borrow.Author.Rules.{rules}
 use Rattle.drafts.specs.Kinds.{kind_store}
 use Rattle.model.specs.Places.{resolved}
 use Rattle.model.proofs.KeysFound.{place_le}

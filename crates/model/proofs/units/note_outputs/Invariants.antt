@@ -1,13 +1,7 @@
 -- The outputs in front of the present draft are noted.
 use Prim.Native.Nat.{◌-◌}
-use mathlib.Core.Path.{refl}
-use native.Mathlib.Omega.{arith}
-use borrow.Author.Rules.{rules}
-use Rattle.drafts.specs.Kinds.{kind_output}
 use Rattle.model.specs.Places.{resolved}
-use Rattle.model.proofs.KeysFound.{place_le}
-use Rattle.model.proofs.NamesResolved.{slot_ahead}
-use Rattle.model.proofs.UnitReads.{Noting, noting_first, noting_next, noting_stop, noting_last}
+use Rattle.model.proofs.UnitReads.{Noting}
 use Rattle.model.proofs.units.note_outputs.Given as goal
 
 abbrev pub invariant-loop-i : goal.invariant-loop-i

@@ -1,10 +1,9 @@
 -- The owners of the slots that the units from the last down to the present one assign are noted.
 use Prim.Native.Nat.{◌-◌}
 use native.Mathlib.Omega.{arith}
-use borrow.Author.Rules.{rules}
 use lib.ListN.{length-map}
-use Rattle.model.specs.Places.{resolved, assigned_by, assigned_slots}
-use Rattle.model.proofs.SlotOwners.{Owning, owning_start, assigned_at, owning_next, owning_last}
+use Rattle.model.specs.Places.{resolved, assigned_by}
+use Rattle.model.proofs.SlotOwners.{owning_start, assigned_at, owning_next, owning_last}
 use Rattle.model.proofs.units.note_owners.Goals as goal
 
 pub loop-r-init : goal.loop-r-init

@@ -1,5 +1,4 @@
 -- A number that is stored, or none.
-use borrow.Author.Rules.{rules}
 use Rattle.model.proofs.DefinitionsCollected.{put_one, put_unless}
 use Rattle.model.proofs.units.put_if.Goals as goal
 

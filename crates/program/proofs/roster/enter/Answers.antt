@@ -1,7 +1,6 @@
 -- There is room for its entry, or none; or it defines nothing.
 use mathlib.Core.Path.{sym, ◌∙◌}
 use native.Mathlib.Omega.{arith}
-use borrow.Author.Rules.{rules}
 use Rattle.program.specs.Roster.{entry}
 use Rattle.program.specs.Written.{what_kind}
 use Rattle.program.proofs.RosterFilled.{enter_one, enter_full, enter_none}

@@ -1,8 +1,5 @@
 -- The loop goes over the places of the statement.
-use Prim.Native.Nat.{◌-◌}
-use borrow.Author.Rules.{rules}
-use Rattle.program.specs.Written.{entry_at}
-use Rattle.program.proofs.RosterFilled.{Entering, entering_first, entering_next, entering_all}
+use Rattle.program.proofs.RosterFilled.{entering_first, entering_next, entering_all}
 use Rattle.program.proofs.roster.enter_statement.Goals as goal
 
 pub loop-i-init : goal.loop-i-init

@@ -1,8 +1,7 @@
 -- The loop goes over the places of the statement.
 use Prim.Native.Nat.{◌-◌}
-use borrow.Author.Rules.{rules}
 use Rattle.program.specs.Written.{entry_at}
-use Rattle.program.proofs.RosterFilled.{Entering, entering_first, entering_next, entering_all}
+use Rattle.program.proofs.RosterFilled.{Entering}
 use Rattle.program.proofs.roster.enter_statement.Given as goal
 
 abbrev pub invariant-loop-i : goal.invariant-loop-i

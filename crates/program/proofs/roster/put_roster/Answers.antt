@@ -1,9 +1,5 @@
 -- The loop goes over the statements.
-use Prim.Native.Nat.{◌-◌}
-use borrow.Author.Rules.{rules}
-use lib.ListN.{length}
-use Rattle.program.specs.Written.{entries_of}
-use Rattle.program.proofs.RosterFilled.{Entering, entering_first, entering_next, roster_put}
+use Rattle.program.proofs.RosterFilled.{entering_first, entering_next, roster_put}
 use Rattle.program.proofs.roster.put_roster.Goals as goal
 
 pub loop-j-init : goal.loop-j-init

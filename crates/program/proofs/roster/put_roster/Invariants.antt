@@ -1,9 +1,8 @@
 -- The loop goes over the statements.
 use Prim.Native.Nat.{◌-◌}
-use borrow.Author.Rules.{rules}
 use lib.ListN.{length}
 use Rattle.program.specs.Written.{entries_of}
-use Rattle.program.proofs.RosterFilled.{Entering, entering_first, entering_next, roster_put}
+use Rattle.program.proofs.RosterFilled.{Entering}
 use Rattle.program.proofs.roster.put_roster.Given as goal
 
 abbrev pub invariant-loop-j : goal.invariant-loop-j

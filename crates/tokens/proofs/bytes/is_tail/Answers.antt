@@ -1,4 +1,3 @@
-use borrow.Author.Rules.{rules}
 use Rattle.tokens.proofs.bytes.is_tail.Goals as goal
 
 pub returns-then-is_word : goal.returns-then-is_word

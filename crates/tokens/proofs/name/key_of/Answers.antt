@@ -1,6 +1,5 @@
 -- As many bytes as a name may have are two times three.
 use native.Mathlib.Omega.{arith}
-use borrow.Author.Rules.{rules}
 use Rattle.tokens.proofs.Words.{key_threes}
 use Rattle.tokens.proofs.name.key_of.Goals as goal
 

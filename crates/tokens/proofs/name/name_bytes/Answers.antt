@@ -1,13 +1,11 @@
 -- The invariant: so many stand from the place on as were counted, and as stand behind them.
-use Prim.Native.Nat.{ℕ, ◌+◌, ◌-◌, ◌≤◌}
+use Prim.Native.Nat.{ℕ, ◌+◌}
 use mathlib.Core.Path.{◌≡◌, refl, sym, ap, ◌∙◌}
 use mathlib.Core.Bool.{Bool, true}
 use mathlib.Core.List.{List}
 use native.Mathlib.Omega.{arith}
-use borrow.Author.Rules.{rules}
 use lib.ListN.{length, get_or}
 use Rattle.laws.proofs.Runs.{inside, run_len, run_stop}
-use Rattle.limits.specs.Limits.{name_bytes}
 use Rattle.tokens.specs.Bytes.{is_word, word_at}
 use Rattle.tokens.proofs.name.name_bytes.Goals as goal
 

@@ -1,17 +1,11 @@
 -- The invariant: from here the digits end where they end from the start, read behind v they are the same number, and b
 -- is the byte here.
-use Prim.Native.Nat.{ℕ, ◌+◌, ◌-◌, ◌<◌, ◌≤◌, min}
-use mathlib.Core.Path.{◌≡◌, refl, sym, ap, ◌∙◌}
-use mathlib.Core.Bool.{Bool}
-use mathlib.Core.List.{List, ◌∷◌}
-use native.Mathlib.Omega.{arith}
-use borrow.Author.Rules.{rules}
+use Prim.Native.Nat.{◌+◌, ◌-◌, ◌≤◌, min}
+use mathlib.Core.Path.{◌≡◌}
 use lib.ListN.{length, get_or}
-use Rattle.laws.proofs.Runs.{inside, run_len, run_end, run_more, run_stop}
-use Rattle.tokens.specs.Bytes.{is_digit, digits_at}
+use Rattle.tokens.specs.Bytes.{digits_at}
 use Rattle.tokens.specs.Number.{decimal}
 use Rattle.tokens.specs.Capped.{cap}
-use Rattle.tokens.proofs.Decimals.{decimal_more, decimal_stop}
 use Rattle.tokens.proofs.number.digits.Given as goal
 
 abbrev pub invariant-loop-v : goal.invariant-loop-v

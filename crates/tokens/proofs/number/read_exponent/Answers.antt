@@ -1,8 +1,6 @@
-use Prim.Native.Nat.{ℕ, ◌<◌}
+use Prim.Native.Nat.{◌<◌}
 use mathlib.Core.Path.{◌≡◌, refl, sym, ◌∙◌}
-use mathlib.Core.List.{List}
 use native.Mathlib.Omega.{arith}
-use borrow.Author.Rules.{rules}
 use lib.ListN.{length, get_or}
 use Rattle.laws.proofs.Runs.{held}
 use Rattle.tokens.proofs.Numbers.{ends, no_digit, too_many, digits_minus, digits_plus, no_letter}

@@ -1,10 +1,6 @@
-use Prim.Native.Nat.{ℕ}
 use mathlib.Core.Path.{◌≡◌, sym, ◌∙◌}
 use mathlib.Core.Bool.{Bool, ◌||◌}
-use mathlib.Core.List.{List}
 use native.Mathlib.Omega.{arith}
-use borrow.Author.Rules.{rules}
-use Rattle.tokens.specs.declared.number.Mantissa.{Mantissa}
 use Rattle.tokens.specs.declared.number.Power.{Power}
 use Rattle.tokens.specs.declared.number.Power.TheVariants.{Wrong}
 use Rattle.tokens.specs.Bytes.{is_word, is_point}

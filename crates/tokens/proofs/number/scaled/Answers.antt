@@ -1,6 +1,5 @@
 use Prim.Native.Nat.{◌^◌}
 use native.Mathlib.Omega.{arith}
-use borrow.Author.Rules.{rules}
 use lib.Dec.{le→leb}
 use lib.Ieee
 use Rattle.tokens.proofs.Numbers.{out_of_range, too_large, too_far, number_up, number_down}

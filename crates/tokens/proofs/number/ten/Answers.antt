@@ -1,9 +1,8 @@
 -- The invariant: x is 10 to the i. Ten times x is the next power, exactly.
-use Prim.Native.Nat.{ℕ, ◌+◌, ◌-◌, ◌≤◌, ◌<◌}
+use Prim.Native.Nat.{ℕ, ◌+◌, ◌<◌}
 use mathlib.Core.Path.{◌≡◌, refl, sym, ap, ◌∙◌}
 use native.Mathlib.Numerals.{add-one}
 use native.Mathlib.Omega.{arith}
-use borrow.Author.Rules.{rules}
 use lib.Ieee
 use lib.Ieee.{Float, binary64, mul}
 use Rattle.limits.specs.Limits.{most_tens}

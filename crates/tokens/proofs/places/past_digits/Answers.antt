@@ -1,13 +1,9 @@
 -- The invariant: from here the run ends where it ends from the start.
-use Prim.Native.Nat.{ℕ, ◌+◌, ◌-◌, ◌<◌}
 use mathlib.Core.Path.{◌≡◌, refl, sym, ap, ◌∙◌}
 use mathlib.Core.Bool.{true}
-use mathlib.Core.List.{List}
-use native.Mathlib.Omega.{arith}
-use borrow.Author.Rules.{rules}
-use lib.ListN.{length, get_or}
-use Rattle.laws.proofs.Runs.{inside, run_len, run_end}
-use Rattle.tokens.specs.Bytes.{is_digit, digits_at}
+use lib.ListN.{get_or}
+use Rattle.laws.proofs.Runs.{run_len, run_end}
+use Rattle.tokens.specs.Bytes.{is_digit}
 use Rattle.tokens.proofs.places.past_digits.Goals as goal
 
 pub loop-i-preserved : goal.loop-i-preserved

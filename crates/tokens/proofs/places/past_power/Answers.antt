@@ -3,7 +3,6 @@ use Prim.Native.Nat.{ℕ}
 use mathlib.Core.Path.{refl, sym, ap, ◌∙◌}
 use native.Mathlib.Omega.{arith}
 use borrow.Author.Tests.{eq-eqb, ne_eqb}
-use borrow.Author.Rules.{rules}
 use Rattle.laws.proofs.Runs.{held}
 use Rattle.tokens.specs.Skips.{digits_end}
 use Rattle.tokens.proofs.places.past_power.Goals as goal

@@ -3,7 +3,6 @@ use Prim.Native.Nat.{ℕ}
 use mathlib.Core.Path.{◌≡◌, refl, sym, ap, ◌∙◌}
 use mathlib.Core.Bool.{Bool, ◌||◌}
 use borrow.Author.Tests.{lt-ltb, le-ltb}
-use borrow.Author.Rules.{rules}
 use lib.ListN.{get_or}
 use Rattle.tokens.specs.Bytes.{is_letter, is_digit, is_point}
 use Rattle.tokens.specs.Skips.{point_end, power_end, token_end}

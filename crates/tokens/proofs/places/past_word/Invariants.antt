@@ -1,13 +1,8 @@
 -- The invariant: from here the run ends where it ends from the start.
-use Prim.Native.Nat.{ℕ, ◌+◌, ◌-◌, ◌<◌}
-use mathlib.Core.Path.{◌≡◌, refl, sym, ap, ◌∙◌}
-use mathlib.Core.Bool.{true}
-use mathlib.Core.List.{List}
-use native.Mathlib.Omega.{arith}
-use borrow.Author.Rules.{rules}
-use lib.ListN.{length, get_or}
-use Rattle.laws.proofs.Runs.{inside, run_len, run_end}
-use Rattle.tokens.specs.Bytes.{is_word, word_at}
+use Prim.Native.Nat.{◌+◌, ◌-◌}
+use mathlib.Core.Path.{◌≡◌}
+use lib.ListN.{length}
+use Rattle.tokens.specs.Bytes.{word_at}
 use Rattle.tokens.proofs.places.past_word.Given as goal
 
 abbrev pub invariant-loop-i : goal.invariant-loop-i

@@ -1,4 +1,3 @@
-use borrow.Author.Rules.{rules}
 use Rattle.tokens.proofs.Words.{held_name, held_word}
 use Rattle.tokens.proofs.step.held_name.Goals as goal
 

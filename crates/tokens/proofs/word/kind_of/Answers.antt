@@ -1,6 +1,5 @@
 -- One search answers the needs of all words, one goes through the list. The second reads up to ten words; of more, `rw`
 -- with the `.ensures` of each call does it.
-use borrow.Author.Rules.{rules}
 use Rattle.tokens.specs.Symbol.{look_up}
 use Rattle.tokens.specs.Held.{kind_named}
 use Rattle.tokens.proofs.Words.{lookup_more}

@@ -1,4 +1,3 @@
-use borrow.Author.Rules.{rules}
 use Rattle.tokens.proofs.word.kind_or.Goals as goal
 
 pub returns-then-spells : goal.returns-then-spells

@@ -1,10 +1,7 @@
 -- The invariant: from here on the bytes agree where they agree as a whole.
-use Prim.Native.Nat.{◌-◌, ◌≤◌}
-use mathlib.Core.Path.{◌≡◌, refl, sym, ◌∙◌}
+use mathlib.Core.Path.{refl, sym, ◌∙◌}
 use native.Mathlib.Omega.{arith}
 use borrow.Author.Rules.{rules}
-use lib.ListN.{length, drop}
-use Rattle.laws.specs.Lists.{same_bytes}
 use Rattle.laws.proofs.SameBytes.{other_length, same_stop, same_pass, same_end}
 use Rattle.tokens.proofs.word.spells.Goals as goal
 
