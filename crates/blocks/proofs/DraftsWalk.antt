@@ -1,7 +1,7 @@
 -- Drafts that are laid out part by part, one part for each statement; whatever says what a part is.
 use Prim.Native.Nat.{ℕ, ◌+◌, ◌-◌}
 use mathlib.Core.Path.{◌≡◌, ◌∙◌}
-use mathlib.Core.List.{List, [], ◌∷◌, ◌++◌}
+use mathlib.Core.List.{List, ◌∷◌, ◌++◌}
 use native.Mathlib.Omega.{arith}
 use lib.ListN.{length, get_or, get_or-map}
 use lib.Seq.{get_or-append-add}

@@ -2,7 +2,7 @@
 use Prim.Native.Nat.{ℕ, zero, suc, ◌+◌, ◌-◌, ◌≤◌, ◌<◌}
 use mathlib.Core.Path.{◌≡◌, refl, sym, ap, ap₂, ◌∙◌}
 use mathlib.Core.Bool.{Bool, true, false, not, ◌||◌}
-use mathlib.Core.List.{List, [], ◌++◌}
+use mathlib.Core.List.{List, ◌++◌}
 use native.Mathlib.Numerals.{add-one}
 use native.Mathlib.Omega.{arith}
 use borrow.Author.Tests.{lt-ltb, eq-eqb, ne_eqb}
@@ -13,7 +13,6 @@ use Rattle.laws.proofs.Tests.{or_right}
 use Rattle.laws.proofs.Members.{has_append}
 use Rattle.drafts.specs.Kinds.{kind_output, kind_input, kind_fetch}
 use Rattle.drafts.specs.Places.{begins, ends}
-use Rattle.sheet.specs.Sheet.{Fault}
 use Rattle.blocks.specs.Tests.{fault_if}
 use Rattle.blocks.specs.Pairing.{Bracket, opens, shuts, neither}
 use Rattle.blocks.specs.InsidePlaces.{key_at, keys_at, is_setting, set_above, set_below, head_wrong_at, right_at}
@@ -30,8 +29,8 @@ module _ (kinds args ks : List ℕ) (a i : ℕ) where
   output_other p t = rw (ne_eqb (get_or kinds i 0) kind_output (λ e. t (p ∙ e)))
 
   -- one that is set: it may be named earlier
-  pub output_set : {b x f : ℕ} {s r : Bool} → b ≡ get_or kinds i 0 → b ≡ kind_output → x ≡ get_or args i 0 → s ≡ has x ks
-      → s ≡ true → f ≡ a → r ≡ has x (gather (key_at kinds args kind_output) (i - f) f)
+  pub output_set : {b x f : ℕ} {s r : Bool} → b ≡ get_or kinds i 0 → b ≡ kind_output → x ≡ get_or args i 0
+      → s ≡ has x ks → s ≡ true → f ≡ a → r ≡ has x (gather (key_at kinds args kind_output) (i - f) f)
       → r ≡ bad_output_at kinds args ks a i
   output_set {b} {x} {f} p t q e u g r =
       let known : has (get_or args i 0) ks ≡ true = ap (λ (y : ℕ). has y ks) (sym q) ∙ sym e ∙ u in
@@ -69,7 +68,8 @@ module _ (free bounds kinds args : List ℕ) (c j key : ℕ) where
   pub allowed_hinted : has key free ≡ true → true ≡ has key (allowed_at free bounds kinds args c j)
   allowed_hinted e = rw (allowed_by, e) (sym (or_right (has key inputs) true refl))
 
-  pub allowed_input : {r : Bool} → r ≡ has key inputs → r ≡ true → true ≡ has key (allowed_at free bounds kinds args c j)
+  pub allowed_input : {r : Bool} → r ≡ has key inputs → r ≡ true
+      → true ≡ has key (allowed_at free bounds kinds args c j)
   allowed_input p t = rw (allowed_by, sym p ∙ t)
 
   pub allowed_above : {r s : Bool} → r ≡ has key inputs → r ≡ false → s ≡ has key above → s ≡ true

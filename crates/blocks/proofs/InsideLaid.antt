@@ -1,5 +1,5 @@
 -- A sheet that is laid out: where its statements stand, which names are set above and below, and what may be used.
-use Prim.Native.Nat.{ℕ, suc, ◌+◌, ◌-◌}
+use Prim.Native.Nat.{ℕ, suc, ◌-◌}
 use mathlib.Core.Path.{◌≡◌, refl, sym, ap, ap₂, ◌∙◌}
 use mathlib.Core.List.{List, [], ◌∷◌, ◌++◌, map, append_assoc, append-nil}
 use native.Mathlib.Omega.{arith}
@@ -132,7 +132,8 @@ module _ (ss : List Numbered) (headed : Headed ss) where
     pub set_at_holds : set_at bounds kinds args (length a) ≡ set_by s.says
     set_at_holds = set_row drafts_by ss a s b p ∙ set_said s.says
 
-    pub keys_at_holds : (kind : ℕ) → keys_at bounds kinds args kind (length a) ≡ concat_map (key_of_kind kind) (drafts_by s)
+    pub keys_at_holds : (kind : ℕ)
+        → keys_at bounds kinds args kind (length a) ≡ concat_map (key_of_kind kind) (drafts_by s)
     keys_at_holds kind =
         in_part drafts_by ss a s b p (key_at kinds args kind) (key_of_kind kind)
         (λ i. ap₂ (λ (k x : ℕ). only_if (eqb k kind) x) (kind_at (drafts_in ss) i) (arg_at (drafts_in ss) i))
@@ -148,7 +149,8 @@ module _ (ss : List Numbered) (headed : Headed ss) where
       (λ s. free_said_holds s.says) ss
 
   -- THE NAMES set below a place, before the next end
-  pub set_below_holds : (a b : List Numbered) → ss ≡ a ++ b → set_below bounds kinds args (length b) (length a) ≡ set_inside b
+  pub set_below_holds : (a b : List Numbered) → ss ≡ a ++ b
+      → set_below bounds kinds args (length b) (length a) ≡ set_inside b
   unfolding set_below set_inside
   set_below_holds a [] p = refl
   set_below_holds a (s ∷ b) p =

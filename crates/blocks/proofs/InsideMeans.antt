@@ -33,8 +33,9 @@ use Rattle.blocks.proofs.BlocksShaped.{shaped_text}
 use Rattle.blocks.proofs.UnitsStated.{stood_by, stated_from, stated_from_holds, stated_args}
 use Rattle.blocks.proofs.KindsStood.{role_of, stood_kinds}
 use Rattle.blocks.proofs.StatementKeys.{key_of_kind, assignment_names, header_outputs}
-use Rattle.blocks.proofs.InsideLaid.{pending_after, pending_more, Located, held, bracket_at_holds, set_at_holds, keys_at_holds}
-use Rattle.blocks.proofs.InsideLaid.{free_known_holds, set_below_holds, outputs_of, inputs_of, above_of, located}
+use Rattle.blocks.proofs.InsideLaid.{pending_after, pending_more, Located, held, bracket_at_holds, set_at_holds}
+use Rattle.blocks.proofs.InsideLaid.{keys_at_holds, free_known_holds, set_below_holds, outputs_of, inputs_of}
+use Rattle.blocks.proofs.InsideLaid.{above_of, located}
 
 -- where a statement stands behind what has been read
 abbrev standing_of : Pending → Standing
@@ -127,7 +128,8 @@ module _ (ss : List Numbered) (headed : Headed ss) where
         ≡ fault26 free (set_inside b) (standing_of (pending_after idle a)) s s.says
     fault_meant =
         rw (bracket_at_holds ss headed a s b p, line_at (held ss headed) a s b p)
-        (wrong_meant s.says refl (set_at_holds ss headed a s b p) (pending_after idle a) (located ss headed a (s ∷ b) p))
+        (wrong_meant s.says refl (set_at_holds ss headed a s b p) (pending_after idle a)
+        (located ss headed a (s ∷ b) p))
 
     -- what its store becomes, by what it says
     none_either : (t : Bool) → ◌≡◌ {A = ℕ} (cond t 0 0) 0

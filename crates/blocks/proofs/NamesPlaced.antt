@@ -100,8 +100,8 @@ pub set_none : (bounds kinds args : List ℕ) (j key : ℕ) {b : Bool} → b ≡
 set_none bounds kinds args j key p t = sym (has_untaken key (get_or args (ends bounds j - 1) 0) (sym p ∙ t))
 
 -- a name at a place, in a draft of the kind
-pub name_there : (kinds args : List ℕ) (kind i key : ℕ) {b x : ℕ} → b ≡ get_or kinds i 0 → b ≡ kind → x ≡ get_or args i 0
-    → eqb key x ≡ has key (key_at kinds args kind i)
+pub name_there : (kinds args : List ℕ) (kind i key : ℕ) {b x : ℕ} → b ≡ get_or kinds i 0 → b ≡ kind
+    → x ≡ get_or args i 0 → eqb key x ≡ has key (key_at kinds args kind i)
 name_there kinds args kind i key p t r =
     ap (eqb key) r ∙ sym (has_taken key (get_or args i 0) (eq-eqb (get_or kinds i 0) kind (sym p ∙ t)))
 
@@ -179,7 +179,8 @@ unfolding gather any_in within
 within_places kinds args kind l zero i = refl
 within_places kinds args kind l (suc n) i =
     within_append (key_at kinds args kind i) (gather (key_at kinds args kind) n (suc i)) l
-    ∙ ap₂ ◌&&◌ (within_only (eqb (get_or kinds i 0) kind) (get_or args i 0) l) (within_places kinds args kind l n (suc i))
+    ∙ ap₂ ◌&&◌ (within_only (eqb (get_or kinds i 0) kind) (get_or args i 0) l)
+    (within_places kinds args kind l n (suc i))
     ∙ not_or (outside_at kinds args kind l i) (any_in (outside_at kinds args kind l) n (suc i))
 
 -- ---- a header's outputs: from place a on those before i are seen
@@ -212,8 +213,8 @@ module _ (kinds args ks : List ℕ) (a : ℕ) where
   outputs_bad (suc n) i h =
       let more : gather output (i - a) a ++ output i ≡ gather output (suc i - a) a =
       sym (gather_more output a i h) ∙ ap (λ (m : ℕ). gather output (m - a) a) (add-one i) in
-      output_one (eqb (get_or kinds i 0) kind_output) (get_or args i 0) (gather output (i - a) a) (gather output n (suc i))
-      ∙ ap (λ b. bad_output_at kinds args ks a i || b)
+      output_one (eqb (get_or kinds i 0) kind_output) (get_or args i 0) (gather output (i - a) a)
+      (gather output n (suc i)) ∙ ap (λ b. bad_output_at kinds args ks a i || b)
       (ap (λ s. not (within (gather output n (suc i)) ks) || again s (gather output n (suc i))) more
       ∙ outputs_bad n (suc i) (omega arith))
 

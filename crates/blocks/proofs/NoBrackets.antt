@@ -1,7 +1,7 @@
 -- Statements without header and end: no fault of blocks stands, and all kinds stay.
 use Prim.Native.Nat.{ℕ, zero, suc, ◌+◌, ◌-◌, ◌≤◌, ◌<◌}
-use mathlib.Core.Path.{◌≡◌, refl, sym, ap, ap₂, ◌∙◌}
-use mathlib.Core.Bool.{Bool, false}
+use mathlib.Core.Path.{◌≡◌, refl, sym, ap, ◌∙◌}
+use mathlib.Core.Bool.{false}
 use mathlib.Core.List.{List, [], ◌∷◌, ◌++◌}
 use native.Mathlib.Nat.{sub-zero}
 use native.Mathlib.Numerals.{add-one}
@@ -67,7 +67,8 @@ module _ (lines bounds kinds args : List ℕ) (none : any_in (bracketed bounds k
 
   -- no store becomes another
   no_role : (j : ℕ) → j < length lines → role_at bounds kinds args j ≡ 0
-  no_role j h = sym (role_outside bounds kinds args (standing_at bounds kinds j) j (plain j h) (outside j (omega arith)))
+  no_role j h =
+      sym (role_outside bounds kinds args (standing_at bounds kinds j) j (plain j h) (outside j (omega arith)))
 
   -- the kinds of the first k statements are those up to where the next one begins
   kept : Turned (length lines) bounds kinds → (k : ℕ) → k ≤ length lines

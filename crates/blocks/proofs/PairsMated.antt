@@ -10,7 +10,7 @@ use lib.Dec.{eqb, leb, ltb}
 use lib.ListN.{length, get_or, set, replicate, length-set, length-replicate}
 use lib.Seq.{get_or-set_same, get_or-set_other}
 use Rattle.limits.specs.Limits.{most_statements}
-use Rattle.laws.specs.Counts.{once, count, has}
+use Rattle.laws.specs.Counts.{once, count}
 use Rattle.laws.proofs.Tests.{bool_cases, not_both, eq_or_ne, lt_or_ge, and_true, and_both, or_true, or_left, or_right}
 use Rattle.laws.proofs.Counts.{once_same, once_other}
 use Rattle.blocks.specs.Pairing.{Bracket, opens, shuts, neither, Pair, pairs, heads, tails, nested, unpaired}

@@ -75,7 +75,8 @@ settings_counted {ss} {kinds} {args} v =
     keys : gather (λ j. only_if (defines (get_or kinds j 0)) (get_or args j 0)) (length kinds) 0 ≡ settings ss
     keys =
         rw (v.kinds_held, v.args_held, length-map (drafts_in ss) (λ (d : Draft). d.kind))
-        (gather_all (λ j. only_if (defines (get_or (draft_kinds (drafts_in ss)) j 0)) (get_or (draft_args (drafts_in ss)) j 0))
+        (gather_all (λ j. only_if (defines (get_or (draft_kinds (drafts_in ss)) j 0))
+        (get_or (draft_args (drafts_in ss)) j 0))
         key_defined no_draft (drafts_in ss) (λ i. rw (kind_at (drafts_in ss) i, arg_at (drafts_in ss) i))
         ∙ concat_concat key_defined (λ (s : Numbered). drafts_of s.says) ss
         ∙ concat_same (λ (s : Numbered). concat_map key_defined (drafts_of s.says))

@@ -96,7 +96,8 @@ module _ {A B : Type 0} (f : Stated → List A) (g : Says → List B) (less : No
       Left q x = size (stated_in (units_by q l x ++ units_from (pending_by q l x) ss))
           ≤ owed q + length (g x ++ concat_map (λ (s : Numbered). g s.says) ss)
 
-      step : ((q : Pending) → size (stated_in (units_from q ss)) ≤ owed q + all ss) → (q : Pending) (x : Says) → Left q x
+      step : ((q : Pending) → size (stated_in (units_from q ss)) ≤ owed q + all ss) → (q : Pending) (x : Says)
+          → Left q x
       step on idle (constantsSaid cs) = omega (
         arith,
         on idle,

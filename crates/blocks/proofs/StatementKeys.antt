@@ -106,7 +106,8 @@ assignment_names k t =
 free_item : (x : Item) → free_key (draft_item x) ≡ []
 free_item x = rw (item_free x)
 
-free_expression : (t : Tree) (z : Draft) → concat_map free_key (map draft_item (postfix t) ++ (z ∷ [])) ≡ free_key z ++ []
+free_expression : (t : Tree) (z : Draft)
+    → concat_map free_key (map draft_item (postfix t) ++ (z ∷ [])) ≡ free_key z ++ []
 free_expression t z =
     expression_of free_key (λ x. []) free_item t z ∙ ap (λ r. r ++ (free_key z ++ []))
     (concat_none (λ x. []) (λ x. refl) (postfix t))

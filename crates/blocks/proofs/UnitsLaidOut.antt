@@ -64,7 +64,8 @@ fronts_append o (u ∷ x) y =
     ∙ ap (λ (n : ℕ). fronts_at stated_unit (o + length (stated_unit u)) x ++ fronts_at stated_unit n y) e)
 
 fronts_step : (b : Pending) (l : ℕ) (x : Says) (o : ℕ) → Stands (pending_in b) x
-    → fronts_at stated_unit o (units_by b l x) ++ pending_front (pending_by b l x) (o + length (stated_in (units_by b l x)))
+    → fronts_at stated_unit o (units_by b l x)
+    ++ pending_front (pending_by b l x) (o + length (stated_in (units_by b l x)))
     ≡ pending_front b o ++ only_if (starts_unit (pending_in b) (bracket_of x)) (o + length (pending_stated b))
 unfolding fronts_at concat_map
 fronts_step idle l (constantsSaid cs) o h = ap (λ (n : ℕ). n ∷ []) (sym (add-zero o))
@@ -98,7 +99,8 @@ fronts_from o b (s ∷ ss) h =
       length-append (stated_in units) (pending_stated next),
       length-append (pending_stated b) (stated s.line (stood_by b x) ∷ []),
     ) in
-    let rest = unit_starts (inside_next (pending_in b) (bracket_of x)) (suc (o + length (pending_stated b))) (brackets ss) in
+    let rest = unit_starts (inside_next (pending_in b) (bracket_of x)) (suc (o + length (pending_stated b)))
+    (brackets ss) in
     let same : unit_starts (pending_in next) (at + length (pending_stated next)) (brackets ss) ≡ rest =
     ap₂ (λ (c : Bool) (n : ℕ). unit_starts c n (brackets ss)) (pending_next b s.line x g.0) more in
     fronts_append o units (units_from next ss)
@@ -143,7 +145,8 @@ module _ {ss : List Numbered} {kinds args lines bounds : List ℕ} (v : Laid ss 
   firsts_so : firsts_in (length lines) bounds kinds ≡ unit_firsts 0 us
   firsts_so =
       let e : length lines ≡ 0 + length (stated_in us) = omega (arith, as_many) in
-      ap₂ (λ (x : List ℕ) (n : ℕ). x ++ (n ∷ [])) starts_so e ∙ sym (firsts_starts 0 us ∙ starts_fronts stated_unit 0 us)
+      ap₂ (λ (x : List ℕ) (n : ℕ). x ++ (n ∷ [])) starts_so e
+      ∙ sym (firsts_starts 0 us ∙ starts_fronts stated_unit 0 us)
 
   lines_so : unit_lines_in lines bounds kinds ≡ map (λ (u : TextUnit). u.line) us
   lines_so =

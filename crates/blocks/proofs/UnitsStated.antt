@@ -65,7 +65,8 @@ pending_next (partly n os is ns) l ending h = refl
 
 -- the statements of the units that it ends and of what has been read then: one more
 pub stated_step : (b : Pending) (l : ℕ) (x : Says) → Stands (pending_in b) x
-    → stated_in (units_by b l x) ++ pending_stated (pending_by b l x) ≡ pending_stated b ++ (stated l (stood_by b x) ∷ [])
+    → stated_in (units_by b l x) ++ pending_stated (pending_by b l x)
+    ≡ pending_stated b ++ (stated l (stood_by b x) ∷ [])
 unfolding concat_map
 stated_step idle l (constantsSaid cs) h = refl
 stated_step idle l (assignmentSaid k e) h = refl
@@ -163,7 +164,8 @@ length_stood b x =
     ∙ length-map (drafts_of x) (λ (d : Draft). d.arg)
 
 -- so the arguments and the bounds are those of the text
-args_from : (b : Pending) (ss : List Numbered) → draft_args (drafts_stated (stated_from b ss)) ≡ draft_args (drafts_in ss)
+args_from : (b : Pending) (ss : List Numbered)
+    → draft_args (drafts_stated (stated_from b ss)) ≡ draft_args (drafts_in ss)
 unfolding stated_from concat_map
 args_from b [] = refl
 args_from b (s ∷ ss) =
@@ -187,5 +189,6 @@ pub stated_args : (ss : List Numbered) → Shaped false ss
 stated_args ss h =
     ap (λ (ts : List Stated). draft_args (drafts_stated ts)) (stated_from_holds idle ss h) ∙ args_from idle ss
 
-pub stated_bounds_holds : (ss : List Numbered) → Shaped false ss → stated_bounds 0 (stated_in (units_of ss)) ≡ bounds_from 0 ss
+pub stated_bounds_holds : (ss : List Numbered) → Shaped false ss
+    → stated_bounds 0 (stated_in (units_of ss)) ≡ bounds_from 0 ss
 stated_bounds_holds ss h = ap (stated_bounds 0) (stated_from_holds idle ss h) ∙ bounds_from_holds 0 idle ss

@@ -2,7 +2,7 @@
 use Prim.Native.Nat.{ℕ, zero, suc, max, ◌+◌, ◌≤◌, ◌<◌}
 use mathlib.Core.Path.{◌≡◌, refl, ap, ap₂, ◌∙◌}
 use mathlib.Core.Bool.{Bool}
-use mathlib.Core.List.{List, []}
+use mathlib.Core.List.{List}
 use native.Mathlib.Numerals.{add-one}
 use native.Mathlib.Omega.{arith}
 use lib.ListN.{length, get_or}
@@ -42,7 +42,8 @@ module _ (bounds kinds : List ℕ) where
   brackets_length zero i = refl
   brackets_length (suc k) i = omega (arith, brackets_length k (suc i))
 
-  bracket_at_holds : (k i j : ℕ) → j < k → get_or (brackets_from bounds kinds k i) j neither ≡ bracket_at bounds kinds (i + j)
+  bracket_at_holds : (k i j : ℕ) → j < k
+      → get_or (brackets_from bounds kinds k i) j neither ≡ bracket_at bounds kinds (i + j)
   unfolding gather
   bracket_at_holds zero i j h = absurd (omega arith)
   bracket_at_holds (suc k) i zero h = let z : i ≡ i + 0 = omega arith in ap (bracket_at bounds kinds) z
@@ -70,7 +71,8 @@ unmated_faults lines bounds kinds few =
         (bracket_at bounds kinds j) at)
 
 -- so what is written is
-pub unmated_reported : (lines bounds kinds : List ℕ) {mates list list' : List ℕ} {r : ℕ} → length lines ≤ most_statements
+pub unmated_reported : (lines bounds kinds : List ℕ) {mates list list' : List ℕ} {r : ℕ}
+    → length lines ≤ most_statements
     → mates ≡ mates_in (length lines) bounds kinds → Reported (unmated_in lines bounds kinds mates) 0 r list list'
     → Reported (faults25_in lines bounds kinds) 0 r list list'
 unmated_reported lines bounds kinds few e p = rw (e, unmated_faults lines bounds kinds few) at p

@@ -29,7 +29,8 @@ use Rattle.grammar.proofs.StatementsSound.{Stated, StatedVia, entire_out}
 use Rattle.grammar.proofs.Complete.{bind_end, begins_term, complete}
 
 -- [sign] number is read
-signed_complete : {w : List Symbol} {x : Float} → Signed w x → (r : List Symbol) → (by_signed_number (w ++ r)).end ≡ got x r
+signed_complete : {w : List Symbol} {x : Float} → Signed w x → (r : List Symbol)
+    → (by_signed_number (w ++ r)).end ≡ got x r
 unfolding by_signed_number start_of next rest byte_of
 signed_complete unsigned_number r = refl
 signed_complete (signed_number h) r = rw h
@@ -134,7 +135,8 @@ taken row x = go (entire (calls row) levels row).end (entire_out (calls row) lev
   where
     go : (t : End Says) → OutEnd (Stated levels) (StatedVia levels) row (entire (calls row) levels row).out t
         → (entire (calls row) levels row).end ≡ t
-        → row_answer (length row) t ≡ read x → Derives levels row x × ((entire (calls row) levels row).out ≡ drafts_of x)
+        → row_answer (length row) t ≡ read x
+        → Derives levels row x × ((entire (calls row) levels row).out ≡ drafts_of x)
     go (got y t) r e h =
         let q : y ≡ x = cc in
         let z : row ≡ r.0 =
@@ -145,7 +147,8 @@ taken row x = go (entire (calls row) levels row).end (entire_out (calls row) lev
 -- the parser accepts a row with the tree x exactly if the grammar derives it with the tree x
 pub accepts : (row : List Symbol) (x : Says) → (read_row row ≡ read x) ↔ Derives levels row x
 unfolding read_row
-accepts row x = (λ h. (taken row x h).0, λ a. ap (row_answer (length row)) (entire_complete a (calls row) (omega arith)))
+accepts row x =
+    (λ h. (taken row x h).0, λ a. ap (row_answer (length row)) (entire_complete a (calls row) (omega arith)))
 
 -- for a row that is read, what is written are the drafts of what it says
 pub written : (row : List Symbol) (x : Says) → read_row row ≡ read x → (entire (calls row) levels row).out ≡ drafts_of x

@@ -38,8 +38,8 @@ module _ (d : ℕ) (s : List Symbol) where
 
   -- terms behind the tree l
   pub reads_terms : (l : Tree) → reads (terms l) d s
-      ≡ by_op (add_op (next s)) (λ _. give l s) λ o. bind (reads term d (rest s)) λ e t. tell (draft (kind_two o) 0 ∷ [])
-      (reads (terms (two o l e)) d t)
+      ≡ by_op (add_op (next s)) (λ _. give l s) λ o. bind (reads term d (rest s))
+      λ e t. tell (draft (kind_two o) 0 ∷ []) (reads (terms (two o l e)) d t)
   reads_terms l = reads_step (terms l) d s tt
 
   -- a term: a factor, and factors behind it
@@ -48,8 +48,8 @@ module _ (d : ℕ) (s : List Symbol) where
 
   -- factors behind the tree l
   pub reads_factors : (l : Tree) → reads (factors l) d s
-      ≡ by_op (mul_op (next s)) (λ _. give l s) λ o. bind (reads factor d (rest s)) λ e t. tell (draft (kind_two o) 0 ∷ [])
-      (reads (factors (two o l e)) d t)
+      ≡ by_op (mul_op (next s)) (λ _. give l s) λ o. bind (reads factor d (rest s))
+      λ e t. tell (draft (kind_two o) 0 ∷ []) (reads (factors (two o l e)) d t)
   reads_factors l = reads_step (factors l) d s tt
 
   -- a factor, by what its token begins

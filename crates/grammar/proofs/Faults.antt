@@ -141,7 +141,8 @@ last_same p q t u h =
     let b = length-append q (u ∷ []) in
     let c = ap length h in
     let n : length q ≡ length p = omega arith in
-    sym (get_or-append_seam p t [] u) ∙ ap (λ (z : List Symbol). get_or z (length p) u) h ∙ get_or_at q u [] u (length p) n
+    sym (get_or-append_seam p t [] u) ∙ ap (λ (z : List Symbol). get_or z (length p) u) h
+    ∙ get_or_at q u [] u (length p) n
 
 -- what ends with an opening does not end with a function's name
 opening_calm : (row : List Symbol) (j : ℕ) → j < length row → get_or row j (mark 0) ≡ mark 40 → Calm (take (j + 1) row)

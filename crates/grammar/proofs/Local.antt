@@ -240,7 +240,8 @@ local (suc f) (terms l) d s p =
     (λ o d' u. by_op o (λ _. give l u) λ n. bind (parse f term d' (rest u)) λ e t. tell (draft (kind_two n) 0 ∷ [])
     (parse f (terms (two n l e)) d' t))
     (chain_loc d s l (parse f term) _ (add_op (next s)) (add_here s) (λ s. local f term d s tt)
-    λ n e t. loc_tell d t (draft (kind_two n) 0 ∷ []) (parse f (terms (two n l e))) (local f (terms (two n l e)) d t tt))
+    λ n e t. loc_tell d t (draft (kind_two n) 0 ∷ []) (parse f (terms (two n l e)))
+    (local f (terms (two n l e)) d t tt))
 local (suc f) (factors l) d s p =
     loc_seen d s mul_op
     (λ o d' u. by_op o (λ _. give l u) λ n. bind (parse f factor d' (rest u)) λ e t. tell (draft (kind_two n) 0 ∷ [])

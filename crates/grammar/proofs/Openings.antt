@@ -44,14 +44,16 @@ shown NoFactor = refl
 
 -- where the face is known
 as_shown : (k a : ℕ) {f : Face} → f ≡ face_of (factor_start (symbol_of k a)) → Shown f (factor_start (symbol_of k a))
-as_shown k a q = subst (λ (f : Face). Shown f (factor_start (symbol_of k a))) (sym q) (shown (factor_start (symbol_of k a)))
+as_shown k a q =
+    subst (λ (f : Face). Shown f (factor_start (symbol_of k a))) (sym q) (shown (factor_start (symbol_of k a)))
 
 module _ {ks us : List ℕ} {i p k : ℕ} {l u : List ℕ} {f : Face} (w : Ready ks us i p l u) (ek : k ≡ get_or ks i 0)
     (ef : (a : ℕ) → f ≡ face_of (factor_start (symbol_of k a))) where
   -- what the token begins as a factor
   token_start : factor_start (next (drop i (held_row ks us))) ≡ factor_start (symbol_of k (get_or us i 0))
   token_start =
-      ap factor_start (token_at_holds ks us i w.even) ∙ ap (λ (x : ℕ). factor_start (symbol_of x (get_or us i 0))) (sym ek)
+      ap factor_start (token_at_holds ks us i w.even)
+      ∙ ap (λ (x : ℕ). factor_start (symbol_of x (get_or us i 0))) (sym ek)
 
   -- the reading by it
   by_factor_holds : (d : ℕ) {h : FactorStart} → factor_start (symbol_of k (get_or us i 0)) ≡ h
@@ -249,15 +251,16 @@ module _ {ks us : List ℕ} {d i p : ℕ} {l u : List ℕ} where
       where
         go : (v : Given) → Taken o v
             → Meets ks us
-            (λ t. by_given v (λ x. need 41 t λ u. tell (open_drafts o) (give x u)) (λ q. need 44 t (reads (list q) d))) j
-            q l₁ u₁ r l₂ u₂
+            (λ t. by_given v (λ x. need 41 t λ u. tell (open_drafts o) (give x u)) (λ q. need 44 t (reads (list q) d)))
+            j q l₁ u₁ r l₂ u₂
         go (full x) z = f x z
         go (wants b) z = g b z.0 z.1 z.2
 
     -- behind an expression of n that are wanted stands the kind k, and m should
     module _ (n : ℕ) {k m : ℕ} (ek : k ≡ get_or ks j 0) (em : m ≡ closer_of n) where
       -- another mark stands behind it
-      list_shut : (k ≡ m → ⊥) → (o : Opening) → want_of o ≡ n → Parses ks us (list o) d i p l u (part_stopped 18 j) l₁ u₁
+      list_shut : (k ≡ m → ⊥) → (o : Opening) → want_of o ≡ n
+          → Parses ks us (list o) d i p l u (part_stopped 18 j) l₁ u₁
       list_shut z o ew =
           let a = after w e h in
           by_given_holds o
@@ -311,8 +314,8 @@ module _ {ks us : List ℕ} {d i p : ℕ} {l u : List ℕ} where
             → ((x : Tree) → Meets ks us (λ u. tell (open_drafts o) (give x u)) (j + 1) q l₁ u₁ r l₂ u₂)
             → Parses ks us (list o) d i p l u r l₂ u₂
         closed le o ew g =
-            by_given_holds o (λ x v. meets_need 41 w.even (omega arith) (sym ek ∙ z ∙ em ∙ rw (le-leb n 1 le)) (g x)) λ b v
-            s f. absurd (omega arith)
+            by_given_holds o (λ x v. meets_need 41 w.even (omega arith) (sym ek ∙ z ∙ em ∙ rw (le-leb n 1 le)) (g x))
+            λ b v s f. absurd (omega arith)
 
         list_bare : {c : ℕ} → n ≤ 1 → c ≡ 0 → (o : Opening) → want_of o ≡ n → kind_opening o ≡ c
             → Parses ks us (list o) d i p l u (part_done (j + 1) q) l₁ u₁

@@ -288,7 +288,8 @@ many_fits (suc f) s =
     (λ k. fits_need 60 (rest s) 0 1 (valued (many f) k)
     (fits_bind (rest (rest s)) 2 0 2 (by_signed_number (rest (rest s))) _
     (fits_mono 2 2 (signed_fits (rest (rest s))) (omega arith) (omega arith))
-    λ x t. fits_tell (constant_drafts (constant_of k x)) t 0 0 _ (more_fits (many f) (constant_of k x) (many_fits f) t)))
+    λ x t. fits_tell (constant_drafts (constant_of k x)) t 0 0 _
+    (more_fits (many f) (constant_of k x) (many_fits f) t)))
     (fits_stop s 0 0)
 
 -- an initial

@@ -131,7 +131,8 @@ pub no_face : (k a : ℕ) → (k ≡ number_kind → ⊥) → (k ≡ name_kind �
 unfolding factor_start
 no_face k a =
     by_kind
-    (λ k. (k ≡ number_kind → ⊥) → (k ≡ name_kind → ⊥) → (k ≡ word_kind TIME → ⊥) → (k ≡ 40 → ⊥) → (k ≡ word_kind INSW → ⊥)
+    (λ k. (k ≡ number_kind → ⊥) → (k ≡ name_kind → ⊥) → (k ≡ word_kind TIME → ⊥) → (k ≡ 40 → ⊥)
+    → (k ≡ word_kind INSW → ⊥)
     → (k ≡ word_kind LIMIT → ⊥) → (k ≡ word_kind COMPAR → ⊥) → Nothing ≡ face_of (factor_start (symbol_of k a)))
     (λ m₁ m₂ m₅ m₀ m₆ m₇ m₈. refl) (λ m₁ m₂ m₅ m₀ m₆ m₇ m₈. absurd (m₁ refl)) (λ m₁ m₂ m₅ m₀ m₆ m₇ m₈. absurd (m₂ refl))
     (λ m₁ m₂ m₅ m₀ m₆ m₇ m₈. refl) (λ m₁ m₂ m₅ m₀ m₆ m₇ m₈. refl)
@@ -162,7 +163,8 @@ module _ {A : Type 0} (k a : ℕ) where
   unfolding start_of
   is_name x y e = rw e
 
-  pub no_name : (x : ℕ → Res A) (y : Unit {0} → Res A) → (k ≡ name_kind → ⊥) → by_name (start_of (symbol_of k a)) x y ≡ y tt
+  pub no_name : (x : ℕ → Res A) (y : Unit {0} → Res A) → (k ≡ name_kind → ⊥)
+      → by_name (start_of (symbol_of k a)) x y ≡ y tt
   no_name x y n = go (start_of (symbol_of k a)) (started k a)
     where
       go : (p : Start) → Started k a p → by_name p x y ≡ y tt

@@ -180,7 +180,8 @@ unsigned_link : Link expr term terms [] (λ e. e) []
 unsigned_link = record { join = unsigned; alone = no_terms; drafts = λ e. append-nil (drafted e) }
 
 -- an expression behind its sign
-sign_link : {t : Symbol} {o : Two} → add_op t ≡ op o → Link expr term terms (t ∷ []) (signed (op o)) (sign_drafts (op o))
+sign_link : {t : Symbol} {o : Two} → add_op t ≡ op o
+    → Link expr term terms (t ∷ []) (signed (op o)) (sign_drafts (op o))
 sign_link {o = o} h = record { join = sign h; alone = no_terms; drafts = sign_drafts_holds (op o) }
 
 -- one term more, behind + or -

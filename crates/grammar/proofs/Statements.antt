@@ -151,7 +151,8 @@ module _ {ks us : List ℕ} {i p m : ℕ} {l u : List ℕ} (w : Ready ks us i p 
               (x' : l₂ ≡ set l₁ (p + 1) k) (y' : u₂ ≡ set u₁ (p + 1) a) where
             -- its two drafts
             const_valued : {r : Part} {l₃ u₃ : List ℕ}
-                → ((f : ℕ) (z : Constant) → length ks - i ≤ f → Meets ks us (on_more (many f) z) j (p + 2) l₂ u₂ r l₃ u₃)
+                → ((f : ℕ) (z : Constant) → length ks - i ≤ f
+                → Meets ks us (on_more (many f) z) j (p + 2) l₂ u₂ r l₃ u₃)
                 → ParsesMany ks us i p l u r l₃ u₃
             const_valued g =
                 let v = value in
@@ -335,8 +336,8 @@ module _ {ks us : List ℕ} {i p m : ℕ} {l u : List ℕ} (key : ℕ) (w : Read
             let f = calls (held_row ks us) in
             let d = initial_draft v.what in
             state_open
-            (value_then (λ n t. tell (draft kind_initial key ∷ initial_draft n ∷ []) (need 44 t (rated f levels key n))) v
-            (two_drafts kind_initial key d.kind d.arg x y (rw (← v.kind) x') (rw (← v.arg) y')
+            (value_then (λ n t. tell (draft kind_initial key ∷ initial_draft n ∷ []) (need 44 t (rated f levels key n)))
+            v (two_drafts kind_initial key d.kind d.arg x y (rw (← v.kind) x') (rw (← v.arg) y')
             (g v.what)))
 
         -- no comma

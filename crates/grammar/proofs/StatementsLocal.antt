@@ -82,7 +82,8 @@ unfolding initially
 initially_loc d s =
     let given =
     loc_bind d s (λ _. by_signed_number) (λ _ x t. give (plain x) t) (signed_loc d s) λ x t. loc_give d t (plain x) in
-    loc_start d s (λ p _ u. by_name p (λ k. give (from k) (rest u)) (λ _. bind (by_signed_number u) λ x t. give (plain x) t))
+    loc_start d s (λ p _ u. by_name p (λ k. give (from k) (rest u))
+    (λ _. bind (by_signed_number u) λ x t. give (plain x) t))
     (λ _. given) (λ _. given)
     (λ k q. loc_rest d s (λ _. give (from k)) q (loc_give d (rest s) (from k))) (λ _ _. given)
     (λ _. given) (λ _. given) given

@@ -99,6 +99,6 @@ wanted =
 
 -- each row is answered as wanted
 tried : map read_row rows ≡ wanted
-unfolding read_row entire statement integrated assigned headed many_names many initially by_signed_number parse bind byte_of
-    factor_start start_of give_to next rest rows wanted neg
+unfolding read_row entire statement integrated assigned headed many_names many initially by_signed_number parse bind
+    byte_of factor_start start_of give_to next rest rows wanted neg
 tried = refl

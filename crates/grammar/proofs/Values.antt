@@ -45,8 +45,8 @@ plain_value k x n = rw (ne_eqb k 45 n) (go (eqb k 43))
     go true = refl
     go false = refl
 
-module _ {ks us : List ℕ} {i k s m : ℕ} (w : Within ks us i) (ek : k ≡ get_or ks i 0) (es : s ≡ skip_of (add_op (mark k)))
-    (em : m ≡ get_or ks (i + s) 0) where
+module _ {ks us : List ℕ} {i k s m : ℕ} (w : Within ks us i) (ek : k ≡ get_or ks i 0)
+    (es : s ≡ skip_of (add_op (mark k))) (em : m ≡ get_or ks (i + s) 0) where
   -- the number behind the sign
   behind : by_signed_number (drop i (held_row ks us)) ≡ a_number (add_op (mark k)) (drop (i + s) (held_row ks us))
   unfolding by_signed_number
@@ -140,7 +140,8 @@ record Quiet {A : Type 0} (x : Res A) : Type 0 where
 
 quiet_signed : (s : List Symbol) → Quiet (by_signed_number s)
 unfolding by_signed_number
-quiet_signed s = go (add_op (next s)) (behind_sign (add_op (next s)) s) (start_of (next (behind_sign (add_op (next s)) s)))
+quiet_signed s =
+    go (add_op (next s)) (behind_sign (add_op (next s)) s) (start_of (next (behind_sign (add_op (next s)) s)))
   where
     go : (o : Op) (s : List Symbol) (p : Start)
         → Quiet (by_number p (λ x. give (signed_value o x) (rest s)) (λ _. stop 18 s))

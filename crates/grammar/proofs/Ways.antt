@@ -125,7 +125,8 @@ sign_within {ks} {i = i} {k = k} {s = s} w ek es = skip_within ks i k s w.within
 pub sign_at : (ks us : List ℕ) (i k : ℕ) → length us ≡ length ks → k ≡ get_or ks i 0
     → add_op (next (drop i (held_row ks us))) ≡ add_op (mark k)
 sign_at ks us i k even ek =
-    ap add_op (token_at_holds ks us i even) ∙ add_seen (get_or ks i 0) (get_or us i 0) ∙ ap (λ (x : ℕ). add_op (mark x)) (sym ek)
+    ap add_op (token_at_holds ks us i even) ∙ add_seen (get_or ks i 0) (get_or us i 0)
+    ∙ ap (λ (x : ℕ). add_op (mark x)) (sym ek)
 
 -- ---- a chain of parts: the terms of an expression, the factors of a term
 
@@ -259,7 +260,8 @@ module _ {ks us : List ℕ} {i p k s : ℕ} {l u : List ℕ} (o : ℕ) (w : Read
     (es : s ≡ skip_of (add_op (mark k))) where
   -- the reading behind the sign
   signed_at : (d : ℕ) → reads expr d (drop i (held_row ks us))
-      ≡ bind (reads term d (drop (i + s) (held_row ks us))) (chain_then d terms (op_drafts o) (signed (add_op (mark k))))
+      ≡ bind (reads term d (drop (i + s) (held_row ks us)))
+      (chain_then d terms (op_drafts o) (signed (add_op (mark k))))
   signed_at d =
       let row = held_row ks us in
       reads_expr d (drop i row) ∙ rw (sign_at ks us i k w.even ek, eo, es, ← behind_at row i (add_op (mark k)))

@@ -3,7 +3,7 @@ use Prim.Native.Nat.{ℕ, suc, ◌-◌, ◌<◌}
 use mathlib.Core.Path.{◌≡◌, refl, sym, ap, subst, ◌∙◌}
 use mathlib.Core.Bool.{Bool, cond}
 use mathlib.Core.List.{List, [], ◌∷◌}
-use mathlib.Core.Logic.{◌⊎◌, ⊎_elim}
+use mathlib.Core.Logic.{⊎_elim}
 use native.Mathlib.Omega.{arith}
 use borrow.Author.Tests.{lt-ltb, ltb-true, eqb-false}
 use lib.Dec.{ltb}
@@ -97,8 +97,8 @@ module _ (lines : List Line) (begun : Begun lines) where
   parsed_in : (d : Read) → ToldIn (parsed toks d)
   parsed_in (read x) = tt
   parsed_in (fault c i) =
-      cond_ind (λ (p : Place). InCard lines (spot_of lines p)) (ltb i (length toks)) (AtToken (get_or toks i no_token).at)
-      AtEnd
+      cond_ind (λ (p : Place). InCard lines (spot_of lines p)) (ltb i (length toks))
+      (AtToken (get_or toks i no_token).at) AtEnd
       (λ e. (stood_there (token_stood body 0 toks (row_of body).close (row_there body) i (ltb-true i (length toks) e)).1
       ).stands.in_card)
       (λ _. end_in lines begun)

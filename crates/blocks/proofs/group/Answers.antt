@@ -1,6 +1,5 @@
 -- The arrays fit, and the stages follow; or they do not.
 use mathlib.Core.Path.{sym, ◌∙◌}
-use borrow.Author.Rules.{rules}
 use lib.ListN.{length}
 use Rattle.blocks.specs.Grouped.{unit_arrays}
 use Rattle.blocks.proofs.GroupStages.{fit_sound, grouped_fit, grouped_unfit}
@@ -11,18 +10,18 @@ run-requires c =
     let a = c.args in
     fit_sound a.lines.now a.bounds.now a.kinds.now (length a.args.now) (length a.faults.now)
     (length a.ulines.now) (length a.ubounds.now) (length a.firsts.now)
-    (sym c.fits2.ensures ∙ c.if-fits.true)
+    (sym c.fits.ensures ∙ c.if-fits.true)
 
 pub returns-then-fits : goal.returns-then-fits
 returns-then-fits c =
     let a = c.args in
     grouped_fit a.lines.now a.bounds.now a.kinds.now a.args.now a.faults.now
-    (unit_arrays a.ulines.now a.ubounds.now a.firsts.now) (sym c.fits2.ensures ∙ c.if-fits.true)
+    (unit_arrays a.ulines.now a.ubounds.now a.firsts.now) (sym c.fits.ensures ∙ c.if-fits.true)
     c.run.ensures
 
 pub returns : goal.returns
 returns c =
     let a = c.args in
     grouped_unfit a.lines.now a.bounds.now a.kinds.now a.args.now a.faults.now
-    (unit_arrays a.ulines.now a.ubounds.now a.firsts.now) (sym c.fits2.ensures ∙ c.if-fits.false)
+    (unit_arrays a.ulines.now a.ubounds.now a.firsts.now) (sym c.fits.ensures ∙ c.if-fits.false)
     c.refusal.ensures

@@ -1,5 +1,4 @@
 -- The bytes of a fault are written as those of one number; where the list has no place for them, nothing is.
-use borrow.Author.Rules.{rules}
 use Rattle.sheet.proofs.Entries.{entry_put, entry_out}
 use Rattle.sheet.proofs.put_fault.Goals as goal
 

@@ -1,12 +1,10 @@
 -- None of the statements before j is a header or an end.
-use Prim.Native.Nat.{ℕ, ◌-◌, ◌≤◌}
+use Prim.Native.Nat.{ℕ}
 use mathlib.Core.Path.{◌≡◌, refl, sym, ap, ◌∙◌}
 use mathlib.Core.Bool.{Bool}
 use mathlib.Core.List.{List}
 use native.Mathlib.Nat.{sub-zero}
 use native.Mathlib.Omega.{arith}
-use borrow.Author.Rules.{rules}
-use Rattle.laws.specs.Places.{any_in}
 use Rattle.laws.proofs.Gathers.{any_stop, any_pass, any_done}
 use Rattle.blocks.specs.Places.{leading_kind, bracket_kind}
 use Rattle.blocks.specs.Working.{is_bracket, bracketed}

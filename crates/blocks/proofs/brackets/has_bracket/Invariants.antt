@@ -1,15 +1,8 @@
 -- None of the statements before j is a header or an end.
-use Prim.Native.Nat.{ℕ, ◌-◌, ◌≤◌}
-use mathlib.Core.Path.{◌≡◌, refl, sym, ap, ◌∙◌}
-use mathlib.Core.Bool.{Bool}
-use mathlib.Core.List.{List}
-use native.Mathlib.Nat.{sub-zero}
-use native.Mathlib.Omega.{arith}
-use borrow.Author.Rules.{rules}
+use Prim.Native.Nat.{◌-◌, ◌≤◌}
+use mathlib.Core.Path.{◌≡◌}
 use Rattle.laws.specs.Places.{any_in}
-use Rattle.laws.proofs.Gathers.{any_stop, any_pass, any_done}
-use Rattle.blocks.specs.Places.{leading_kind, bracket_kind}
-use Rattle.blocks.specs.Working.{is_bracket, bracketed}
+use Rattle.blocks.specs.Working.{bracketed}
 use Rattle.blocks.proofs.brackets.has_bracket.Given as goal
 
 abbrev pub invariant-loop-j : goal.invariant-loop-j

@@ -1,4 +1,5 @@
 -- The kinds of a header and of an end are told apart.
+use native.Mathlib.Omega.{arith}
 use borrow.Author.Tests.{ne_eqb}
 use Rattle.drafts.specs.Kinds.{kind_output, kind_ending}
 use Rattle.blocks.proofs.brackets.is_bracket.Goals as goal
@@ -6,8 +7,4 @@ use Rattle.blocks.proofs.brackets.is_bracket.Goals as goal
 -- none of them
 pub returns-in_default : goal.returns-in_default
 returns-in_default c =
-    let none = c.in_default-own.rest in
-    rw (
-      ne_eqb _ kind_output none.0.1,
-      ne_eqb _ kind_ending none.1,
-    )
+    rw (ne_eqb c.args.kind kind_output (omega arith), ne_eqb c.args.kind kind_ending (omega arith))

@@ -1,7 +1,6 @@
 -- The first draft is read where there is one: it stands before the end, and so among the drafts.
 use Prim.Native.Nat.{ℕ}
 use mathlib.Core.Path.{ap}
-use borrow.Author.Rules.{rules}
 use borrow.Author.Tests.{lt-ltb, le-ltb}
 use lib.ListN.{get_or}
 use Rattle.blocks.proofs.brackets.leading_kind.Goals as goal

@@ -1,9 +1,6 @@
 -- The invariant: what is counted and what is left to count are all.
-use Prim.Native.Nat.{◌-◌}
 use native.Mathlib.Omega.{arith}
-use borrow.Author.Rules.{rules}
-use lib.ListN.{length}
-use Rattle.blocks.proofs.DefiningCounted.{Counting, counting_first, counting_part, counting_rest}
+use Rattle.blocks.proofs.DefiningCounted.{counting_first, counting_part, counting_rest}
 use Rattle.blocks.proofs.definitions.count_defining.Goals as goal
 
 pub loop-i-init : goal.loop-i-init

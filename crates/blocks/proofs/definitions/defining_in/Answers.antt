@@ -1,8 +1,5 @@
 -- The invariant: what is counted and what is left to count are all.
-use Prim.Native.Nat.{◌-◌}
-use borrow.Author.Rules.{rules}
-use lib.ListN.{length}
-use Rattle.blocks.proofs.DefiningCounted.{Counting, counting_first, counting_next, counting_last}
+use Rattle.blocks.proofs.DefiningCounted.{counting_first, counting_next, counting_last}
 use Rattle.blocks.proofs.definitions.defining_in.Goals as goal
 
 pub loop-i-init : goal.loop-i-init

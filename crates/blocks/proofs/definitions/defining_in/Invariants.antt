@@ -1,8 +1,7 @@
 -- The invariant: what is counted and what is left to count are all.
 use Prim.Native.Nat.{◌-◌}
-use borrow.Author.Rules.{rules}
 use lib.ListN.{length}
-use Rattle.blocks.proofs.DefiningCounted.{Counting, counting_first, counting_next, counting_last}
+use Rattle.blocks.proofs.DefiningCounted.{Counting}
 use Rattle.blocks.proofs.definitions.defining_in.Given as goal
 
 abbrev pub invariant-loop-i : goal.invariant-loop-i

@@ -1,7 +1,6 @@
 -- Whether the kind defines a name is known.
 use mathlib.Core.Path.{sym, ◌∙◌}
 use native.Mathlib.Omega.{arith}
-use borrow.Author.Rules.{rules}
 use Rattle.blocks.proofs.definitions.one_of.Goals as goal
 
 pub returns-then-is_defining : goal.returns-then-is_defining

@@ -1,7 +1,6 @@
 -- The tests one after the other.
 use mathlib.Core.Path.{◌≡◌, sym, ◌∙◌}
 use mathlib.Core.Bool.{◌&&◌}
-use borrow.Author.Rules.{rules}
 use borrow.Author.Tests.{le-leb, lt-leb, eq-eqb, ne_eqb}
 use lib.ListN.{length}
 use Rattle.blocks.specs.Grouped.{in_turn, group_roomy, group_fit}
@@ -20,7 +19,11 @@ returns-then-bounds-lines c =
 pub returns-then-kinds-gt-TEXT_BYTES : goal.returns-then-kinds-gt-TEXT_BYTES
 unfolding group_fit
 returns-then-kinds-gt-TEXT_BYTES c =
-    rw (le-leb _ _ c.if-lines-gt-STATEMENTS.false, eq-eqb _ _ c.if-bounds-lines.false, lt-leb _ _ c.if-kinds-gt-TEXT_BYTES.true)
+    rw (
+      le-leb _ _ c.if-lines-gt-STATEMENTS.false,
+      eq-eqb _ _ c.if-bounds-lines.false,
+      lt-leb _ _ c.if-kinds-gt-TEXT_BYTES.true,
+    )
 
 pub returns-then-args-kinds : goal.returns-then-args-kinds
 unfolding group_fit

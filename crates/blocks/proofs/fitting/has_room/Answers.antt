@@ -1,5 +1,4 @@
 -- One array after the other.
-use borrow.Author.Rules.{rules}
 use borrow.Author.Tests.{le-leb, lt-leb}
 use Rattle.blocks.specs.Grouped.{group_roomy}
 use Rattle.blocks.proofs.fitting.has_room.Goals as goal

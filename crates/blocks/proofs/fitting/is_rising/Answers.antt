@@ -1,12 +1,9 @@
 -- None of the statements before j falls.
-use Prim.Native.Nat.{◌-◌, ◌≤◌}
-use mathlib.Core.Path.{◌≡◌, refl, sym, ap, ◌∙◌}
+use mathlib.Core.Path.{refl, sym, ap, ◌∙◌}
 use mathlib.Core.Bool.{not}
 use native.Mathlib.Nat.{sub-zero}
 use native.Mathlib.Omega.{arith}
 use borrow.Author.Tests.{lt-ltb, le-ltb}
-use borrow.Author.Rules.{rules}
-use Rattle.laws.specs.Places.{any_in}
 use Rattle.laws.proofs.Gathers.{any_stop, any_pass, any_done}
 use Rattle.drafts.specs.Places.{begins, ends}
 use Rattle.blocks.specs.Grouped.{falls}

@@ -1,9 +1,6 @@
 -- The loop goes over the drafts.
-use Prim.Native.Nat.{◌-◌}
 use native.Mathlib.Omega.{arith}
-use borrow.Author.Rules.{rules}
-use lib.ListN.{length}
-use Rattle.blocks.proofs.FreeCollected.{Gathering, gathering_first, gathering_next, gathering_last}
+use Rattle.blocks.proofs.FreeCollected.{gathering_first, gathering_next, gathering_last}
 use Rattle.blocks.proofs.free.collect_free.Goals as goal
 
 pub loop-i-init : goal.loop-i-init

@@ -1,9 +1,7 @@
 -- The loop goes over the drafts.
 use Prim.Native.Nat.{◌-◌}
-use native.Mathlib.Omega.{arith}
-use borrow.Author.Rules.{rules}
 use lib.ListN.{length}
-use Rattle.blocks.proofs.FreeCollected.{Gathering, gathering_first, gathering_next, gathering_last}
+use Rattle.blocks.proofs.FreeCollected.{Gathering}
 use Rattle.blocks.proofs.free.collect_free.Given as goal
 
 abbrev pub invariant-loop-i : goal.invariant-loop-i

@@ -1,9 +1,5 @@
 -- A name is sought from the present place on.
-use Prim.Native.Nat.{◌-◌}
-use mathlib.Core.Path.{◌≡◌, refl, sym, ◌∙◌}
-use borrow.Author.Rules.{rules}
-use lib.ListN.{length, drop}
-use Rattle.laws.specs.Counts.{has}
+use mathlib.Core.Path.{refl, sym, ◌∙◌}
 use Rattle.blocks.proofs.FreeCollected.{among_stop, among_pass, among_done}
 use Rattle.blocks.proofs.free.is_among.Goals as goal
 

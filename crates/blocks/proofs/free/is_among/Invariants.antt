@@ -1,10 +1,8 @@
 -- A name is sought from the present place on.
 use Prim.Native.Nat.{◌-◌}
-use mathlib.Core.Path.{◌≡◌, refl, sym, ◌∙◌}
-use borrow.Author.Rules.{rules}
+use mathlib.Core.Path.{◌≡◌}
 use lib.ListN.{length, drop}
 use Rattle.laws.specs.Counts.{has}
-use Rattle.blocks.proofs.FreeCollected.{among_stop, among_pass, among_done}
 use Rattle.blocks.proofs.free.is_among.Given as goal
 
 abbrev pub invariant-loop-i : goal.invariant-loop-i

@@ -1,4 +1,5 @@
 -- Each kind that names a constant or a state is told apart.
+use native.Mathlib.Omega.{arith}
 use borrow.Author.Tests.{ne_eqb}
 use Rattle.drafts.specs.Kinds.{kind_constant, kind_initial}
 use Rattle.blocks.proofs.free.is_free.Goals as goal
@@ -13,5 +14,4 @@ returns-in-2 c =
 
 pub returns-in_default : goal.returns-in_default
 returns-in_default c =
-    let none = c.in_default-own.rest in
-    rw (ne_eqb _ kind_constant none.0.1, ne_eqb _ kind_initial none.1)
+    rw (ne_eqb c.args.kind kind_constant (omega arith), ne_eqb c.args.kind kind_initial (omega arith))

@@ -1,6 +1,5 @@
 -- A constant or a state is stored, another draft is not.
 use mathlib.Core.Path.{sym, ◌∙◌}
-use borrow.Author.Rules.{rules}
 use Rattle.blocks.proofs.FreeCollected.{put_one, put_unless}
 use Rattle.blocks.proofs.free.note_free.Goals as goal
 

@@ -1,7 +1,6 @@
 -- What stands at a place of the row is one of its keys.
 use Prim.Native.Nat.{ℕ}
 use mathlib.Core.Path.{refl, ap, ◌∙◌}
-use borrow.Author.Rules.{rules}
 use borrow.Author.Tests.{eqb-true}
 use Rattle.laws.specs.Counts.{has}
 use Rattle.laws.proofs.Tests.{not_both}

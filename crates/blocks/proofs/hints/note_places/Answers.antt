@@ -1,9 +1,7 @@
 -- The table keeps its length; nothing else is asked of it.
-use Prim.Native.Nat.{◌-◌}
-use mathlib.Core.Path.{◌≡◌, refl, ◌∙◌}
+use mathlib.Core.Path.{refl, ◌∙◌}
 use native.Mathlib.Omega.{arith}
-use borrow.Author.Rules.{rules}
-use lib.ListN.{length, length-set}
+use lib.ListN.{length-set}
 use Rattle.blocks.proofs.hints.note_places.Goals as goal
 
 pub loop-i-init : goal.loop-i-init

@@ -1,9 +1,7 @@
 -- The table keeps its length; nothing else is asked of it.
 use Prim.Native.Nat.{◌-◌}
-use mathlib.Core.Path.{◌≡◌, refl, ◌∙◌}
-use native.Mathlib.Omega.{arith}
-use borrow.Author.Rules.{rules}
-use lib.ListN.{length, length-set}
+use mathlib.Core.Path.{◌≡◌}
+use lib.ListN.{length}
 use Rattle.blocks.proofs.hints.note_places.Given as goal
 
 abbrev pub invariant-loop-i : goal.invariant-loop-i

@@ -1,10 +1,8 @@
 -- Another name is sought from the present place on.
 use Prim.Native.Nat.{ℕ, ◌-◌}
-use mathlib.Core.Path.{◌≡◌, sym, ap₂, ◌∙◌}
-use borrow.Author.Rules.{rules}
+use mathlib.Core.Path.{sym, ap₂, ◌∙◌}
 use Rattle.laws.specs.Places.{any_in}
 use Rattle.blocks.specs.InsideWorking.{outside_at, allowed_at}
-use Rattle.drafts.specs.Places.{begins, ends}
 use Rattle.laws.proofs.Gathers.{any_stop, any_pass, any_done}
 use Rattle.drafts.specs.Kinds.{kind_fetch}
 use Rattle.blocks.proofs.inside.has_stranger.Goals as goal

@@ -1,5 +1,4 @@
 -- A hint first, then inputs, then names set above, then constants and states.
-use borrow.Author.Rules.{rules}
 use Rattle.blocks.proofs.InsideFound.{allowed_hinted, allowed_input, allowed_above, allowed_free}
 use Rattle.blocks.proofs.inside.is_allowed.Goals as goal
 

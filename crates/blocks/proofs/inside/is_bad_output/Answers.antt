@@ -1,6 +1,5 @@
 -- Another draft; an output that is set; one that is not.
 use Prim.Native.Nat.{◌+◌, ◌-◌}
-use borrow.Author.Rules.{rules}
 use Rattle.drafts.specs.Places.{begins}
 use Rattle.blocks.proofs.InsideFound.{output_other, output_set, output_unset}
 use Rattle.blocks.specs.InsidePlaces.{set_below}

@@ -1,5 +1,4 @@
 -- It must set a name, no input, and use no other name.
-use borrow.Author.Rules.{rules}
 use Rattle.blocks.proofs.InsideFound.{right_none, right_input, right_names}
 use Rattle.blocks.proofs.inside.is_right.Goals as goal
 

@@ -1,9 +1,5 @@
 -- A setting is sought from the present statement on, up to an end.
-use Prim.Native.Nat.{◌-◌}
-use mathlib.Core.Path.{◌≡◌, refl, sym, ◌∙◌}
-use borrow.Author.Rules.{rules}
-use Rattle.laws.specs.Counts.{has}
-use Rattle.blocks.specs.InsidePlaces.{set_below}
+use mathlib.Core.Path.{refl, sym, ◌∙◌}
 use Rattle.blocks.proofs.NamesPlaced.{leads_shut, below_shut, below_stop, below_pass, below_done}
 use Rattle.blocks.proofs.inside.is_set_below.Goals as goal
 

@@ -1,5 +1,4 @@
 -- Another draft uses no name.
-use borrow.Author.Rules.{rules}
 use Rattle.blocks.proofs.InsideFound.{stranger_other, stranger_name}
 use Rattle.blocks.specs.InsideWorking.{allowed_at}
 use Rattle.drafts.specs.Kinds.{kind_fetch}

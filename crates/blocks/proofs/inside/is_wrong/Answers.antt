@@ -1,5 +1,4 @@
 -- By the bracket, and by whether it stands inside.
-use borrow.Author.Rules.{rules}
 use Rattle.blocks.proofs.NamesPlaced.{leads_open, leads_shut, leads_neither}
 use Rattle.blocks.proofs.InsideFound.{wrong_open, wrong_shut, wrong_outside, wrong_inside}
 use Rattle.blocks.proofs.inside.is_wrong.Goals as goal

@@ -1,12 +1,11 @@
 -- A bad output is sought from the present place on.
 use Prim.Native.Nat.{ℕ, ◌+◌, ◌-◌}
-use mathlib.Core.Path.{◌≡◌, sym, ap₂, ◌∙◌}
-use borrow.Author.Rules.{rules}
+use mathlib.Core.Path.{sym, ap₂, ◌∙◌}
 use Rattle.laws.specs.Places.{any_in}
 use Rattle.drafts.specs.Places.{begins}
 use Rattle.blocks.specs.InsideWorking.{bad_output_at}
 use Rattle.blocks.proofs.InsideFound.{header_found}
-use Rattle.blocks.specs.InsidePlaces.{set_below, head_wrong_at}
+use Rattle.blocks.specs.InsidePlaces.{set_below}
 use Rattle.laws.proofs.Gathers.{any_stop, any_pass, any_done}
 use Rattle.blocks.proofs.inside.is_wrong_header.Goals as goal
 

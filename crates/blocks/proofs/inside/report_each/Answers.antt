@@ -1,10 +1,8 @@
 -- The faults of the statements before statement j are written.
-use Prim.Native.Nat.{◌-◌}
-use mathlib.Core.Path.{◌≡◌, refl}
+use mathlib.Core.Path.{refl}
 use native.Mathlib.Omega.{arith}
-use borrow.Author.Rules.{rules}
 use lib.ListN.{length}
-use Rattle.blocks.proofs.FaultsListed.{Reports, reports_first, reports_next, reports_last}
+use Rattle.blocks.proofs.FaultsListed.{reports_first, reports_next, reports_last}
 use Rattle.blocks.specs.InsidePlaces.{standing_at, fault26_at}
 use Rattle.blocks.proofs.InsideFound.{standing_low, standing_next, wrong_single, wrong_found}
 use Rattle.blocks.proofs.inside.report_each.Goals as goal

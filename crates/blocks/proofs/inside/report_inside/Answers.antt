@@ -1,7 +1,6 @@
 -- The constants and states are collected, and the faults reported by them.
 use mathlib.Core.Path.{refl, sym}
 use native.Mathlib.Omega.{arith}
-use borrow.Author.Rules.{rules}
 use lib.Seq.{length-take-le}
 use Rattle.blocks.proofs.FreeCollected.{free_few, free_front, free_reported}
 use Rattle.blocks.proofs.inside.report_inside.Goals as goal
@@ -20,7 +19,7 @@ pub slice_bounds-report_wrong-end : goal.slice_bounds-report_wrong-end
 slice_bounds-report_wrong-end c =
     let front = free_front c.args.kinds.now c.args.args.now c.requires.0.defined refl
     c.collect_free-f.ensures in
-    sym (length-take-le c.collect_free-f.result c.collect_free-f.new.1.1.0
+    sym (length-take-le c.collect_free-f.result c.collect_free-f.new.free
     front.0)
 
 pub report_wrong-requires : goal.report_wrong-requires

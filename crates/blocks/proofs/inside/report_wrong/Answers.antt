@@ -1,5 +1,4 @@
 -- The places are noted, and the faults reported with them.
-use borrow.Author.Rules.{rules}
 use Rattle.blocks.proofs.inside.report_wrong.Goals as goal
 
 pub note_places-requires : goal.note_places-requires

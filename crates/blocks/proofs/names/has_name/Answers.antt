@@ -1,5 +1,4 @@
 -- A draft of another kind has not the name.
-use borrow.Author.Rules.{rules}
 use Rattle.blocks.proofs.NamesPlaced.{name_there, name_absent}
 use Rattle.blocks.proofs.names.has_name.Goals as goal
 

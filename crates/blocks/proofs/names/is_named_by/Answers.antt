@@ -2,7 +2,6 @@
 use Prim.Native.Nat.{ℕ}
 use Prim.Native.Nat.{◌-◌}
 use mathlib.Core.Path.{ap₂, ◌∙◌}
-use borrow.Author.Rules.{rules}
 use Rattle.laws.specs.Counts.{has}
 use Rattle.blocks.specs.InsidePlaces.{key_at}
 use Rattle.laws.specs.Places.{gather}

@@ -1,11 +1,7 @@
 -- A name is sought from the present place on.
-use Prim.Native.Nat.{◌-◌}
-use mathlib.Core.Path.{◌≡◌, refl, sym, ◌∙◌}
-use borrow.Author.Rules.{rules}
+use mathlib.Core.Path.{refl, sym, ◌∙◌}
 use Rattle.blocks.proofs.NamesPlaced.{has_stop, has_pass, has_done}
-use Rattle.laws.specs.Counts.{has}
 use Rattle.blocks.specs.InsidePlaces.{key_at}
-use Rattle.laws.specs.Places.{gather}
 use Rattle.blocks.proofs.names.is_named_in.Goals as goal
 
 pub loop-i-init : goal.loop-i-init

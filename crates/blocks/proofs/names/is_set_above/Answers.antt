@@ -1,10 +1,7 @@
 -- A setting is sought from the present statement on.
-use Prim.Native.Nat.{◌-◌}
-use mathlib.Core.Path.{◌≡◌, refl, sym, ◌∙◌}
-use borrow.Author.Rules.{rules}
+use mathlib.Core.Path.{refl, sym, ◌∙◌}
 use Rattle.blocks.proofs.NamesPlaced.{has_stop, has_pass, has_done}
-use Rattle.laws.specs.Counts.{has}
-use Rattle.blocks.specs.InsidePlaces.{set_at, set_above}
+use Rattle.blocks.specs.InsidePlaces.{set_at}
 use Rattle.blocks.proofs.names.is_set_above.Goals as goal
 
 pub loop-i-init : goal.loop-i-init

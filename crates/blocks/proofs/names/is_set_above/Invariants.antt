@@ -1,10 +1,8 @@
 -- A setting is sought from the present statement on.
 use Prim.Native.Nat.{◌-◌}
-use mathlib.Core.Path.{◌≡◌, refl, sym, ◌∙◌}
-use borrow.Author.Rules.{rules}
-use Rattle.blocks.proofs.NamesPlaced.{has_stop, has_pass, has_done}
+use mathlib.Core.Path.{◌≡◌}
 use Rattle.laws.specs.Counts.{has}
-use Rattle.blocks.specs.InsidePlaces.{set_at, set_above}
+use Rattle.blocks.specs.InsidePlaces.{set_above}
 use Rattle.blocks.proofs.names.is_set_above.Given as goal
 
 abbrev pub invariant-loop-i : goal.invariant-loop-i

@@ -1,5 +1,4 @@
 -- A statement with drafts is asked for its last one.
-use borrow.Author.Rules.{rules}
 use Rattle.blocks.proofs.NamesPlaced.{setting_last, setting_none}
 use Rattle.blocks.proofs.names.is_setting.Goals as goal
 

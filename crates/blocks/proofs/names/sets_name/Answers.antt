@@ -1,5 +1,4 @@
 -- A statement that ends with a store sets its name.
-use borrow.Author.Rules.{rules}
 use Rattle.blocks.proofs.NamesPlaced.{set_last, set_none}
 use Rattle.blocks.proofs.names.sets_name.Goals as goal
 

@@ -1,7 +1,6 @@
 -- The leading kind says where the next statement stands.
 use mathlib.Core.Path.{refl}
 use native.Mathlib.Numerals.{add-one}
-use borrow.Author.Rules.{rules}
 use Rattle.blocks.proofs.NamesPlaced.{leads_open, leads_shut, leads_neither}
 use Rattle.blocks.proofs.names.standing_behind.Goals as goal
 

@@ -1,5 +1,4 @@
 -- By the bracket that the kind is.
-use borrow.Author.Rules.{rules}
 use borrow.Author.Tests.{eq-eqb, ne_eqb}
 use Rattle.blocks.proofs.BracketKinds.{bracket_opens, bracket_shuts, bracket_neither}
 use Rattle.blocks.proofs.pairing.is_unmated.Goals as goal

@@ -3,7 +3,6 @@ use Prim.Native.Nat.{ℕ, ◌+◌, ◌-◌}
 use mathlib.Core.Path.{ap, ◌∙◌}
 use mathlib.Core.List.{List}
 use native.Mathlib.Omega.{arith}
-use borrow.Author.Rules.{rules}
 use lib.ListN.{set}
 use Rattle.blocks.proofs.BracketKinds.{bracket_opens, bracket_shuts, bracket_neither}
 use Rattle.blocks.proofs.MatesNoted.{note_header, note_other, note_lone, note_pair}

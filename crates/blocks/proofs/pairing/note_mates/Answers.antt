@@ -1,10 +1,8 @@
 -- The statements before j are taken, and what is noted from there on is noted in all.
-use Prim.Native.Nat.{◌-◌}
 use mathlib.Core.Path.{ap}
 use native.Mathlib.Omega.{arith}
-use borrow.Author.Rules.{rules}
 use Rattle.blocks.specs.Places.{bracket_kind}
-use Rattle.blocks.proofs.MatesNoted.{Mating, mating_first, mating_next, mating_last}
+use Rattle.blocks.proofs.MatesNoted.{mating_first, mating_next, mating_last}
 use Rattle.blocks.proofs.pairing.note_mates.Goals as goal
 
 pub loop-j-init : goal.loop-j-init
@@ -23,7 +21,7 @@ note_mate-depth-requires c =
 pub loop-j-preserved : goal.loop-j-preserved
 loop-j-preserved c =
     mating_next c.loop-j.invariant c.loop-j-test.true (ap bracket_kind c.leading_kind-kind.ensures)
-    c.note_mate-depth.auto.1.1.1.1.0 c.note_mate-depth.ensures
+    c.note_mate-depth.auto.mates c.note_mate-depth.ensures
 
 pub returns : goal.returns
 returns c =

@@ -1,10 +1,6 @@
 -- The statements before j are taken, and what is noted from there on is noted in all.
 use Prim.Native.Nat.{◌-◌}
-use mathlib.Core.Path.{ap}
-use native.Mathlib.Omega.{arith}
-use borrow.Author.Rules.{rules}
-use Rattle.blocks.specs.Places.{bracket_kind}
-use Rattle.blocks.proofs.MatesNoted.{Mating, mating_first, mating_next, mating_last}
+use Rattle.blocks.proofs.MatesNoted.{Mating}
 use Rattle.blocks.proofs.pairing.note_mates.Given as goal
 
 abbrev pub invariant-loop-j : goal.invariant-loop-j

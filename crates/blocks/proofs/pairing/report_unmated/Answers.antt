@@ -1,11 +1,9 @@
 -- The faults of the statements before j are written, and reach is the furthest mate before it.
-use Prim.Native.Nat.{◌-◌}
-use mathlib.Core.Path.{◌≡◌, refl}
+use mathlib.Core.Path.{refl}
 use native.Mathlib.Omega.{arith}
-use borrow.Author.Rules.{rules}
 use lib.ListN.{length}
 use Rattle.blocks.specs.Working.{furthest, unmated_at}
-use Rattle.blocks.proofs.FaultsListed.{Reports, reports_first, reports_next, reports_last}
+use Rattle.blocks.proofs.FaultsListed.{reports_first, reports_next, reports_last}
 use Rattle.blocks.proofs.Unpaired.{unmated_single, unmated_found, furthest_next}
 use Rattle.blocks.proofs.pairing.report_unmated.Goals as goal
 

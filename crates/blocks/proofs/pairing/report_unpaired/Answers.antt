@@ -1,5 +1,4 @@
 -- The mates are those of all pairs, so what is written by them are the faults 25.
-use borrow.Author.Rules.{rules}
 use Rattle.blocks.proofs.Unpaired.{unmated_reported}
 use Rattle.blocks.proofs.pairing.report_unpaired.Goals as goal
 

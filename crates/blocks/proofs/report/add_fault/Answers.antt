@@ -1,5 +1,4 @@
 -- A fault that stands is written behind those before it.
-use borrow.Author.Rules.{rules}
 use Rattle.blocks.proofs.FaultsListed.{fault_put, fault_none}
 use Rattle.blocks.proofs.report.add_fault.Goals as goal
 

@@ -1,9 +1,6 @@
 -- What the stores before statement j become is noted.
 use Prim.Native.Nat.{◌-◌}
-use native.Mathlib.Omega.{arith}
-use borrow.Author.Rules.{rules}
-use Rattle.blocks.proofs.KindsRenewed.{Noting, noting_first, noting_next, noting_last}
-use Rattle.blocks.proofs.InsideFound.{standing_low}
+use Rattle.blocks.proofs.KindsRenewed.{Noting}
 use Rattle.blocks.proofs.rewrite.note_roles.Given as goal
 
 abbrev pub invariant-loop-j : goal.invariant-loop-j

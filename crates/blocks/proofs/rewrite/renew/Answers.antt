@@ -1,7 +1,5 @@
 -- The kinds before place i are renewed.
-use Prim.Native.Nat.{◌-◌}
-use borrow.Author.Rules.{rules}
-use Rattle.blocks.proofs.KindsRenewed.{Renewing, renewing_first, renewing_next, renewing_last}
+use Rattle.blocks.proofs.KindsRenewed.{renewing_first, renewing_next, renewing_last}
 use Rattle.blocks.proofs.rewrite.renew.Goals as goal
 
 pub loop-i-init : goal.loop-i-init

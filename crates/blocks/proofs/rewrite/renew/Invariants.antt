@@ -1,7 +1,6 @@
 -- The kinds before place i are renewed.
 use Prim.Native.Nat.{◌-◌}
-use borrow.Author.Rules.{rules}
-use Rattle.blocks.proofs.KindsRenewed.{Renewing, renewing_first, renewing_next, renewing_last}
+use Rattle.blocks.proofs.KindsRenewed.{Renewing}
 use Rattle.blocks.proofs.rewrite.renew.Given as goal
 
 abbrev pub invariant-loop-i : goal.invariant-loop-i

@@ -1,7 +1,5 @@
 -- The kinds of the statements before statement j are renewed.
-use Prim.Native.Nat.{◌-◌}
-use borrow.Author.Rules.{rules}
-use Rattle.blocks.proofs.KindsRenewed.{RenewingAll, all_first, all_next, all_last}
+use Rattle.blocks.proofs.KindsRenewed.{all_first, all_next, all_last}
 use Rattle.blocks.proofs.rewrite.renew_all.Goals as goal
 
 pub loop-j-init : goal.loop-j-init

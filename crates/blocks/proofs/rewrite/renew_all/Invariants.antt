@@ -1,7 +1,6 @@
 -- The kinds of the statements before statement j are renewed.
 use Prim.Native.Nat.{◌-◌}
-use borrow.Author.Rules.{rules}
-use Rattle.blocks.proofs.KindsRenewed.{RenewingAll, all_first, all_next, all_last}
+use Rattle.blocks.proofs.KindsRenewed.{RenewingAll}
 use Rattle.blocks.proofs.rewrite.renew_all.Given as goal
 
 abbrev pub invariant-loop-j : goal.invariant-loop-j

@@ -1,6 +1,5 @@
 -- The roles of the statements, and the kinds by them.
 use mathlib.Core.Path.{refl}
-use borrow.Author.Rules.{rules}
 use Rattle.blocks.proofs.StatementsStand.{turned_stand}
 use Rattle.blocks.proofs.KindsRenewed.{renewed_all}
 use Rattle.blocks.proofs.rewrite.rewrite.Goals as goal

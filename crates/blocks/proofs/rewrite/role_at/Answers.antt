@@ -1,5 +1,4 @@
 -- By the bracket, and by whether it stands inside.
-use borrow.Author.Rules.{rules}
 use Rattle.blocks.proofs.NamesPlaced.{leads_open, leads_shut, leads_neither}
 use Rattle.blocks.proofs.KindsRenewed.{role_open, role_shut, role_outside, role_plain, role_inside}
 use Rattle.blocks.proofs.rewrite.role_at.Goals as goal

@@ -1,5 +1,4 @@
 -- A name set above, an output, a name of the block alone.
-use borrow.Author.Rules.{rules}
 use Rattle.blocks.proofs.KindsRenewed.{role_again, role_given, role_own}
 use Rattle.blocks.proofs.rewrite.role_of.Goals as goal
 

@@ -1,7 +1,6 @@
 -- 6 is counted first; then the stages of blocks answer, or there is none.
 use mathlib.Core.Path.{sym, ◌∙◌}
 use native.Mathlib.Omega.{arith}
-use borrow.Author.Rules.{rules}
 use Rattle.blocks.specs.Grouped.{unit_arrays}
 use Rattle.blocks.proofs.GroupStages.{counted_many, counted_few, united_listed, follows_turned}
 use Rattle.blocks.proofs.GroupStages.{follows_stand}
@@ -18,24 +17,24 @@ returns-then-count_defining-gt-DEFINITIONS c =
 
 pub has_bracket-requires : goal.has_bracket-requires
 has_bracket-requires c =
-    follows_stand (start c.requires
+    follows_stand c.requires
 
 -- ---- with a header or an end
 pub run_blocks-requires : goal.run_blocks-requires
 run_blocks-requires c =
-    (c.requires, omega (arith, c.count_defining.ensures, c.if-count_defining-gt-DEFINITIONS.left))
+    (c.requires, omega (arith, c.count_defining.ensures, c.if-count_defining-gt-DEFINITIONS.false))
 
 pub returns-then-has_bracket : goal.returns-then-has_bracket
 returns-then-has_bracket c =
     let a = c.args in
     counted_few a.lines.now a.bounds.now a.kinds.now a.args.now c.count_defining.ensures
-    a.faults.now (unit_arrays a.ulines.now a.ubounds.now a.firsts.now) c.if-count_defining-gt-DEFINITIONS.left
+    a.faults.now (unit_arrays a.ulines.now a.ubounds.now a.firsts.now) c.if-count_defining-gt-DEFINITIONS.false
     c.run_blocks.ensures
 
 -- ---- without
 pub list_units-units-requires : goal.list_units-units-requires
 list_units-units-requires c =
-    follows_stand (start c.requires
+    follows_stand c.requires
 
 pub returns : goal.returns
 returns c =
@@ -47,5 +46,5 @@ returns c =
     let listed = united_listed a.lines.now a.bounds.now a.kinds.now a.args.now a.faults.now
     c.list_units-units.ensures stay in
     counted_few a.lines.now a.bounds.now a.kinds.now a.args.now c.count_defining.ensures
-    a.faults.now u c.if-count_defining-gt-DEFINITIONS.left
+    a.faults.now u c.if-count_defining-gt-DEFINITIONS.false
     (unbracketed a.lines.now a.bounds.now a.kinds.now a.args.now plain a.faults.now u listed)

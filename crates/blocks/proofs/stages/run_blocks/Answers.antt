@@ -1,5 +1,4 @@
 -- Each stage goes on from what the one before has left.
-use borrow.Author.Rules.{rules}
 use Rattle.blocks.specs.Grouped.{unit_arrays}
 use Rattle.blocks.proofs.GroupStages.{paired_fault, paired_none, inside_fault, inside_none, united_listed}
 use Rattle.blocks.proofs.GroupStages.{follows_small, follows_turned, follows_stand}
@@ -19,7 +18,7 @@ returns-then-unpaired-gt0 c =
 -- ---- 26
 pub report_inside-wrong-requires : goal.report_inside-wrong-requires
 report_inside-wrong-requires c =
-    let fit = (start c.requires in (follows_small fit, (follows_stand fit.0).1)
+    let fit = c.requires in (follows_small fit, (follows_stand fit.0).1)
 
 pub returns-then-wrong-gt0 : goal.returns-then-wrong-gt0
 returns-then-wrong-gt0 c =
@@ -28,24 +27,24 @@ returns-then-wrong-gt0 c =
     let stands = inside_fault a.lines.now a.bounds.now a.kinds.now a.args.now
     c.report_inside-wrong.ensures u c.if-wrong-gt0.true c.refusal-then-wrong-gt0.ensures in
     paired_none a.lines.now a.bounds.now a.kinds.now a.args.now c.report_unpaired-unpaired.ensures u
-    c.if-unpaired-gt0.left stands
+    c.if-unpaired-gt0.false stands
 
 -- ---- the units, and the kinds inside
 pub list_units-units-requires : goal.list_units-units-requires
 list_units-units-requires c =
-    follows_stand (start c.requires.0
+    follows_stand c.requires.0
 
 pub rewrite-requires : goal.rewrite-requires
 rewrite-requires c =
-    follows_turned (start c.requires.0
+    follows_turned c.requires.0
 
 pub returns : goal.returns
 returns c =
     let a = c.args in
     let u = unit_arrays a.ulines.now a.ubounds.now a.firsts.now in
     let listed = united_listed a.lines.now a.bounds.now a.kinds.now a.args.now
-    c.report_inside-wrong.last.1.1.1.1.0 c.list_units-units.ensures c.rewrite.ensures in
+    c.report_inside-wrong.new.faults c.list_units-units.ensures c.rewrite.ensures in
     let no_26 = inside_none a.lines.now a.bounds.now a.kinds.now a.args.now
-    c.report_inside-wrong.ensures u c.if-wrong-gt0.left listed in
+    c.report_inside-wrong.ensures u c.if-wrong-gt0.false listed in
     paired_none a.lines.now a.bounds.now a.kinds.now a.args.now c.report_unpaired-unpaired.ensures u
-    c.if-unpaired-gt0.left no_26
+    c.if-unpaired-gt0.false no_26

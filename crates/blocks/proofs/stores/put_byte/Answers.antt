@@ -1,6 +1,5 @@
 -- Past the end nothing is stored.
 use mathlib.Core.Path.{sym}
-use borrow.Author.Rules.{rules}
 use lib.Seq.{set_out}
 use Rattle.blocks.proofs.stores.put_byte.Goals as goal
 

@@ -1,11 +1,8 @@
 -- The units that begin before statement j are written.
-use Prim.Native.Nat.{◌-◌}
-use mathlib.Core.Path.{ap, ◌∙◌}
+use mathlib.Core.Path.{ap}
 use native.Mathlib.Omega.{arith}
-use borrow.Author.Rules.{rules}
-use lib.ListN.{length}
 use Rattle.blocks.specs.Places.{bracket_kind}
-use Rattle.blocks.proofs.UnitsListed.{Listing, listing_first, listing_next, listing_last}
+use Rattle.blocks.proofs.UnitsListed.{listing_first, listing_next, listing_last}
 use Rattle.blocks.proofs.units.list_units.Goals as goal
 
 pub loop-j-init : goal.loop-j-init

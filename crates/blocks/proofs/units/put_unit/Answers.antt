@@ -1,5 +1,4 @@
 -- A unit that stands is written behind those before it.
-use borrow.Author.Rules.{rules}
 use Rattle.blocks.proofs.UnitsListed.{put_one, put_none}
 use Rattle.blocks.proofs.units.put_unit.Goals as goal
 

@@ -1,5 +1,4 @@
 -- `grammar::put_op` meets its contract.
-use borrow.Author.Rules.{rules}
 use borrow.Author.Tests.{ne_eqb}
 use native.Mathlib.Nat.{add-zero}
 use Rattle.grammar.proofs.Ways.{op_place}

@@ -1,6 +1,7 @@
 -- `grammar::add_op` meets its contract: the operators + and -, and no other token.
 use Prim.Native.Nat.{ℕ}
 use mathlib.Core.Path.{sym, ap}
+use native.Mathlib.Omega.{arith}
 use borrow.Author.Tests.{ne_eqb}
 use Rattle.tokens.specs.Symbol.{mark}
 use Rattle.grammar.specs.Look.{byte_of, add_op}
@@ -20,4 +21,4 @@ returns-in-45 c =
 pub returns-in_default : goal.returns-in_default
 unfolding byte_of
 returns-in_default c =
-    simp (ne_eqb _ _ c.in_default-own.rest.0.1, ne_eqb _ _ c.in_default-own.rest.1)
+    simp (ne_eqb c.args.k 43 (omega arith), ne_eqb c.args.k 45 (omega arith))

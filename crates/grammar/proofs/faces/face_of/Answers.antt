@@ -1,6 +1,7 @@
 -- `grammar::face_of` meets its contract.
 use Prim.Native.Nat.{ℕ}
 use mathlib.Core.Path.{sym, ap}
+use native.Mathlib.Omega.{arith}
 use Rattle.tokens.specs.Held.{symbol_of}
 use Rattle.grammar.specs.Look.{factor_start}
 use Rattle.grammar.specs.Codes.{face_of}
@@ -44,6 +45,5 @@ returns-in-8 c =
 
 pub returns-in_default : goal.returns-in_default
 returns-in_default c =
-    let r = c.in_default-own.rest in
-    λ a. no_face c.args.k a r.0.0.0.0.0.0.1 r.0.0.0.0.0.1 r.0.0.0.0.1
-    r.0.0.0.1 r.0.0.1 r.0.1 r.1
+    λ a. no_face c.args.k a (omega arith) (omega arith) (omega arith) (omega arith) (omega arith) (omega arith)
+    (omega arith)

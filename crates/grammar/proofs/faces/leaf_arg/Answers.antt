@@ -1,6 +1,6 @@
 -- `grammar::leaf_arg` meets its contract.
 use mathlib.Core.Path.{ap, ◌∙◌}
-use borrow.Author.Rules.{rules}
+use native.Mathlib.Omega.{arith}
 use borrow.Author.Tests.{ne_eqb}
 use lib.Ieee.{Float, binary64, to_bits}
 use Rattle.grammar.proofs.faces.leaf_arg.Goals as goal
@@ -16,4 +16,4 @@ returns-in-4 c =
 
 pub returns-in_default : goal.returns-in_default
 returns-in_default c =
-    simp (ne_eqb _ _ c.in_default-own.rest.0.1, ne_eqb _ _ c.in_default-own.rest.1)
+    simp (ne_eqb c.args.kind 3 (omega arith), ne_eqb c.args.kind 4 (omega arith))

@@ -1,6 +1,5 @@
 -- `grammar::any_statement` meets its contract.
 use native.Mathlib.Omega.{arith}
-use borrow.Author.Rules.{rules}
 use Rattle.grammar.proofs.Statements.{begins_none, words_enter, begins_words, first_inside, begins_shut}
 use Rattle.grammar.proofs.Statements.{state_enter, begins_state, assign_enter, begins_assignment, header_enter}
 use Rattle.grammar.proofs.Statements.{begins_header, ending_room, begins_ending}
@@ -59,7 +58,7 @@ emit-requires c =
 pub overflow_add-result : goal.overflow_add-result
 overflow_add-result c =
     let h = ending_room c.requires c.byte_at-k.ensures c.if-k-eq-ENDPRO.true in
-    omega (arith, c.well-formed)
+    omega (arith, c.well_formed)
 
 pub returns-then-k-eq-ENDPRO : goal.returns-then-k-eq-ENDPRO
 returns-then-k-eq-ENDPRO c =

@@ -1,6 +1,5 @@
 -- `grammar::assignment` meets its contract.
 use native.Mathlib.Omega.{arith}
-use borrow.Author.Rules.{rules}
 use Rattle.grammar.proofs.Meets.{is_done}
 use Rattle.grammar.proofs.Statements.{ready_less, assign_stopped, assign_room, assign_under, assign_done}
 use Rattle.grammar.proofs.forms.assignment.Goals as goal
@@ -21,7 +20,7 @@ pub overflow_add-result : goal.overflow_add-result
 overflow_add-result c =
     let h = assign_under c.args.key c.requires c.expression-r.ensures
     (is_done c.if-r-ne0.false) in
-    omega (arith, c.well-formed)
+    omega (arith, c.well_formed)
 
 pub returns : goal.returns
 returns c =

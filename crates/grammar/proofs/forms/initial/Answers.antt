@@ -1,6 +1,5 @@
 -- `grammar::initial` meets its contract.
 use native.Mathlib.Omega.{arith}
-use borrow.Author.Rules.{rules}
 use Rattle.grammar.proofs.Values.{name_inside, initial_name, initial_number}
 use Rattle.grammar.proofs.forms.initial.Goals as goal
 

@@ -1,6 +1,5 @@
 -- `grammar::inputs` meets its contract.
 use native.Mathlib.Omega.{arith}
-use borrow.Author.Rules.{rules}
 use Rattle.grammar.proofs.Meets.{is_done}
 use Rattle.grammar.proofs.Headers.{inputs_stopped, inputs_shut, inputs_inside, inputs_done}
 use Rattle.grammar.proofs.forms.inputs.Goals as goal
@@ -18,7 +17,7 @@ pub overflow_add-result : goal.overflow_add-result
 overflow_add-result c =
     let h = inputs_inside c.requires c.names-r.ensures (is_done c.if-r-ne0.false)
     c.byte_at.ensures c.if-byte_at-ne41.false in
-    omega (arith, c.well-formed)
+    omega (arith, c.well_formed)
 
 pub returns : goal.returns
 returns c =

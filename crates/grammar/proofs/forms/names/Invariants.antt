@@ -1,10 +1,7 @@
 -- `grammar::names` meets its contract. The measure is the count of tokens that are left.
 use Prim.Native.Nat.{◌-◌}
-use native.Mathlib.Omega.{arith}
-use borrow.Author.Rules.{rules}
 use lib.ListN.{length}
-use Rattle.grammar.proofs.Headers.{GoingNames, names_first, names_none, name_there, name_room, names_last}
-use Rattle.grammar.proofs.Headers.{names_again}
+use Rattle.grammar.proofs.Headers.{GoingNames}
 use Rattle.grammar.proofs.forms.names.Given as goal
 
 abbrev pub invariant-loop-drafts : goal.invariant-loop-drafts

@@ -1,6 +1,5 @@
 -- `grammar::rate` meets its contract.
 use native.Mathlib.Omega.{arith}
-use borrow.Author.Rules.{rules}
 use Rattle.grammar.proofs.Meets.{is_done}
 use Rattle.grammar.proofs.Statements.{rate_stopped, rate_shut, rate_inside, rate_room, rate_under, rate_done}
 use Rattle.grammar.proofs.forms.rate.Goals as goal
@@ -24,14 +23,14 @@ overflow_add-result c =
     let h = rate_inside c.args.key c.requires c.expression-e.ensures
     (is_done c.if-e-ne0.false) c.byte_at.ensures
     c.if-byte_at-ne41.false in
-    omega (arith, c.well-formed)
+    omega (arith, c.well_formed)
 
 pub overflow_add-result-2 : goal.overflow_add-result-2
 overflow_add-result-2 c =
     let h = rate_under c.args.key c.requires c.expression-e.ensures
     (is_done c.if-e-ne0.false) c.byte_at.ensures
     c.if-byte_at-ne41.false in
-    omega (arith, c.well-formed)
+    omega (arith, c.well_formed)
 
 pub returns : goal.returns
 returns c =

@@ -1,6 +1,5 @@
 -- `grammar::signed_number` meets its contract.
 use native.Mathlib.Omega.{arith}
-use borrow.Author.Rules.{rules}
 use Rattle.grammar.proofs.Ways.{skip_within}
 use Rattle.grammar.proofs.Values.{number_missing, number_inside, number_plain, number_minus}
 use Rattle.grammar.proofs.forms.signed_number.Goals as goal
@@ -9,7 +8,7 @@ pub overflow_add-start : goal.overflow_add-start
 overflow_add-start c =
     let h = skip_within c.args.kinds.now c.args.at _ _ c.requires.within
     c.byte_at-k.ensures c.skip_of.ensures in
-    omega (arith, c.well-formed)
+    omega (arith, c.well_formed)
 
 pub returns-then-byte_at-ne-NUMBER : goal.returns-then-byte_at-ne-NUMBER
 returns-then-byte_at-ne-NUMBER c =
@@ -20,7 +19,7 @@ pub offset_bounds-args-start : goal.offset_bounds-args-start
 offset_bounds-args-start c =
     let h = number_inside c.requires c.byte_at-k.ensures c.skip_of.ensures
     c.byte_at.ensures c.if-byte_at-ne-NUMBER.false in
-    omega (arith, c.well-formed, c.requires.even)
+    omega (arith, c.well_formed, c.requires.even)
 
 pub bounds-args-start : goal.bounds-args-start
 bounds-args-start c =
@@ -32,7 +31,7 @@ pub overflow_add-result : goal.overflow_add-result
 overflow_add-result c =
     let h = number_inside c.requires c.byte_at-k.ensures c.skip_of.ensures
     c.byte_at.ensures c.if-byte_at-ne-NUMBER.false in
-    omega (arith, c.well-formed)
+    omega (arith, c.well_formed)
 
 pub returns-then-k-eq45 : goal.returns-then-k-eq45
 returns-then-k-eq45 c =
@@ -44,7 +43,7 @@ pub overflow_add-result-2 : goal.overflow_add-result-2
 overflow_add-result-2 c =
     let h = number_inside c.requires c.byte_at-k.ensures c.skip_of.ensures
     c.byte_at.ensures c.if-byte_at-ne-NUMBER.false in
-    omega (arith, c.well-formed)
+    omega (arith, c.well_formed)
 
 pub returns : goal.returns
 returns c =

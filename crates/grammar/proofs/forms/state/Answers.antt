@@ -1,7 +1,6 @@
 -- `grammar::state` meets its contract.
 use mathlib.Core.Path.{sym, ◌∙◌}
 use native.Mathlib.Omega.{arith}
-use borrow.Author.Rules.{rules}
 use Rattle.grammar.proofs.Statements.{comma_inside, state_shut, state_within, state_missing}
 use Rattle.grammar.proofs.Statements.{state_on, state_second, state_alone, state_next, state_rated}
 use Rattle.grammar.proofs.forms.state.Goals as goal
@@ -35,20 +34,13 @@ returns-then-byte_at-ne44 c =
 pub overflow_add-next : goal.overflow_add-next
 overflow_add-next c =
     let h = comma_inside c.args.kinds.now _ c.byte_at-in-Found.ensures c.if-byte_at-ne44.false in
-    omega (arith, c.well-formed)
+    omega (arith, c.well_formed)
 
 pub overflow_add-place-in-Found : goal.overflow_add-place-in-Found
 overflow_add-place-in-Found c =
-    let at-value2-1 =
-    c in
-    let at-value2 = at-value2-1 in
-    let at-initial = at-value2 in
-    let at-if1 = at-initial in
-    let at-byte-at = at-if1 in
-    let start = at-byte-at in
-    let h = (state_on start.args.key start.pre at-byte-at.byte_at.ensures at-if1.if1.left
-    (sym at-value2.value2.given.1 ∙ at-initial.initial.ensures)).under in
-    omega (arith, start.good)
+    let h = (state_on c.args.key c.requires c.byte_at.ensures c.if-byte_at-ne40.false
+    (sym c.in-Found.is ∙ c.initial-value.ensures)).under in
+    omega (arith, c.well_formed)
 
 pub rate-requires : goal.rate-requires
 rate-requires c =
