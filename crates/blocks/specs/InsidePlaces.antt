@@ -1,6 +1,7 @@
 -- Fault 26 and the kinds inside blocks by place, over the arrays of a sheet: kinds and args are its drafts', lines and
 -- bounds those of its statements. Every read past an end gives 0, so that each of these says something of every array.
-use Rattle.std.specs.Prelude.{ℕ, zero, suc, ◌+◌, ◌-◌, Bool, false, not, cond, ◌&&◌, ◌||◌, List, [], ◌∷◌, ◌++◌, eqb, ltb, length, get_or}
+use Rattle.std.specs.Prelude.{ℕ, zero, suc, ◌+◌, ◌-◌, Bool, false, not, cond, ◌&&◌, ◌||◌, List, [], ◌∷◌, ◌++◌, eqb, ltb}
+use Rattle.std.specs.Prelude.{length, get_or}
 use Rattle.laws.specs.Places.{gather, only_if}
 use Rattle.laws.specs.Counts.{has}
 use Rattle.drafts.specs.Kinds.{kind_constant, kind_initial, kind_fetch, kind_store, kind_read, kind_output}

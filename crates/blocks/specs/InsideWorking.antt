@@ -1,5 +1,6 @@
 -- What the passes of fault 26 and of the kinds inside blocks keep and leave.
-use Rattle.std.specs.Prelude.{ℕ, ◌+◌, ◌-◌, ◌≤◌, ◌<◌, ◌≡◌, Bool, not, ◌&&◌, ◌||◌, List, [], ◌∷◌, ◌++◌, eqb, length, get_or}
+use Rattle.std.specs.Prelude.{ℕ, ◌+◌, ◌-◌, ◌≤◌, ◌<◌, ◌≡◌, Bool, not, ◌&&◌, ◌||◌, List, [], ◌∷◌, ◌++◌, eqb, length}
+use Rattle.std.specs.Prelude.{get_or}
 use Rattle.limits.specs.Limits.{text_bytes, most_statements, most_definitions}
 use Rattle.laws.specs.Places.{gather}
 use Rattle.laws.specs.Counts.{has}

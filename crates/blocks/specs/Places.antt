@@ -36,7 +36,8 @@ brackets_in n bounds kinds = brackets_from bounds kinds n 0
 -- ---- 25 at statement j
 abbrev pub fault25_at : List ℕ → List ℕ → List ℕ → ℕ → List Fault
 fault25_at lines bounds kinds j =
-    fault_if (unpaired (pairs (brackets_in (length lines) bounds kinds)) j (bracket_at bounds kinds j)) (get_or lines j 0) 25
+    fault_if (unpaired (pairs (brackets_in (length lines) bounds kinds)) j (bracket_at bounds kinds j))
+    (get_or lines j 0) 25
 
 unfoldable pub faults25_in : List ℕ → List ℕ → List ℕ → List Fault
 faults25_in lines bounds kinds = gather (fault25_at lines bounds kinds) (length lines) 0

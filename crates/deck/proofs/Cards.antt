@@ -29,7 +29,8 @@ unfolding cards_of
 cards_few [] = omega arith
 cards_few (l ∷ ls) = go (starred l) (cards_few ls)
   where
-    go : (b : Bool) → length (cards_of ls) ≤ length ls → length (cond b (cards_of ls) (l ∷ cards_of ls)) ≤ suc (length ls)
+    go : (b : Bool) → length (cards_of ls) ≤ length ls
+        → length (cond b (cards_of ls) (l ∷ cards_of ls)) ≤ suc (length ls)
     go true h = omega arith
     go false h = omega arith
 

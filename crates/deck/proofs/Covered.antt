@@ -69,7 +69,8 @@ module _ (b w : ℕ) where
           ((omega (arith, more.0), more.1, omega (arith, more.2)), ih fresh (omega (arith, more.2)))
 
 -- of a text
-pub text_covered : (t : List ℕ) → Every (Covered (1 + length (lines_of t)) (length t + 1)) (reading fresh 1 (lines_of t))
+pub text_covered : (t : List ℕ)
+    → Every (Covered (1 + length (lines_of t)) (length t + 1)) (reading fresh 1 (lines_of t))
 text_covered t =
     reading_covered (1 + length (lines_of t)) (length t + 1) fresh 1 (lines_of t) (omega arith) (lines_spread t)
 
@@ -92,7 +93,8 @@ byte_within d (l ∷ ls) n h =
     go (starred l) (ltb n (length (line_part l))) (λ m. byte_within (suc d) ls m (omega arith))
   where
     go : (s b : Bool) → ((m : ℕ) → (byte_spot (suc d) ls m).down < suc d + length ls)
-        → (cond s (byte_spot (suc d) ls n) (cond b (spot d (suc n)) (byte_spot (suc d) ls (n - suc (length (line_part l)))))
+        → (cond s (byte_spot (suc d) ls n)
+        (cond b (spot d (suc n)) (byte_spot (suc d) ls (n - suc (length (line_part l)))))
         ).down < d + suc (length ls)
     go true b ih = omega (arith, ih n)
     go false true ih = omega arith
@@ -135,7 +137,8 @@ byte_column d (l ∷ ls) n =
   where
     go : (s b : Bool) → (b ≡ true → n < length (line_part l))
         → ((m : ℕ) → (byte_spot (suc d) ls m).column ≤ spread ls + 1)
-        → (cond s (byte_spot (suc d) ls n) (cond b (spot d (suc n)) (byte_spot (suc d) ls (n - suc (length (line_part l)))))
+        → (cond s (byte_spot (suc d) ls n)
+        (cond b (spot d (suc n)) (byte_spot (suc d) ls (n - suc (length (line_part l)))))
         ).column ≤ length l + 1 + spread ls + 1
     go true b h ih = omega (arith, ih n)
     go false true h ih = omega (arith, h refl, part_le l)

@@ -147,7 +147,8 @@ lines_many b (c ∷ t) =
     omega arith
 
 -- by the last byte of a text
-lines_by : (t : List ℕ) → 0 < length t → length (lines_of t) ≡ ends_of t + once (not (eqb (get_or t (length t - 1) 0) 10))
+lines_by : (t : List ℕ) → 0 < length t
+    → length (lines_of t) ≡ ends_of t + once (not (eqb (get_or t (length t - 1) 0) 10))
 lines_by [] h = absurd (not-suc-le-zero h)
 lines_by (b ∷ t) h =
     let n : suc (length t) - 1 ≡ length t = omega arith in

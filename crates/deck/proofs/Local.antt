@@ -60,7 +60,8 @@ fresh_behind ls l d c =
 -- ---- line numbers raised by k
 
 -- of the statement that a line closes
-closed_later : (k : ℕ) (b : Bool) (f : ℕ) (cs : List Line) → just_closed b (k + f) cs ≡ map (later k) (just_closed b f cs)
+closed_later : (k : ℕ) (b : Bool) (f : ℕ) (cs : List Line)
+    → just_closed b (k + f) cs ≡ map (later k) (just_closed b f cs)
 closed_later k true f cs = refl
 closed_later k false f cs = refl
 

@@ -111,7 +111,8 @@ module _ (t : List ℕ) (start lines : ℕ) where
 
     module _ (e : ℕ) (more : down < lines) (l : LineAt t at e) where
       -- at a line: a comment changes nothing, a card is the last so far
-      last_line : (z : Spot) → z ≡ cond (starred (line_of t at e)) last (spot down (last_column (length (line_of t at e))))
+      last_line : (z : Spot)
+          → z ≡ cond (starred (line_of t at e)) last (spot down (last_column (length (line_of t at e))))
           → LastLeft t start lines (e + 1) (down + 1) z
       unfolding last_spot
       last_line z q =

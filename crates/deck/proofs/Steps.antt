@@ -58,8 +58,8 @@ running_first t first start e h q =
 
 -- one line more, of which it was found whether it is a comment, 1 if not, and whether it is dotted
 module _ (t : List ℕ) (first start at e n k : ℕ) (long : Bool) (x : Running t first start at e n k long)
-    (comment dots : Bool) (one : ℕ) (is-comment : comment ≡ starred (line_of t at e)) (is_one : one ≡ once (not comment))
-    (is-dotted : dots ≡ dotted (line_of t at e)) where
+    (comment dots : Bool) (one : ℕ) (is-comment : comment ≡ starred (line_of t at e))
+    (is_one : one ≡ once (not comment)) (is-dotted : dots ≡ dotted (line_of t at e)) where
   -- this line, and the lines with it
   abbrev here : Line
   here = line_of t at e

@@ -19,7 +19,8 @@ use Rattle.deck.proofs.Parts.{part_le, joined_cons}
 -- ---- the cards among so many lines from a place on
 module _ (t : List ℕ) (at left : ℕ) where
   -- the line there, and the others
-  pub lines_one : (e : ℕ) → 0 < left → LineAt t at e → lines_at t at left ≡ line_of t at e ∷ lines_at t (e + 1) (left - 1)
+  pub lines_one : (e : ℕ) → 0 < left → LineAt t at e
+      → lines_at t at left ≡ line_of t at e ∷ lines_at t (e + 1) (left - 1)
   lines_one e z l =
       let s : left ≡ suc (left - 1) = omega arith in
       ap (λ (k : ℕ). lines_at t at k) s ∙ rw l.lines

@@ -48,6 +48,7 @@ initial_draft (from k) = draft kind_from k
 abbrev pub drafts_of : Says → List Draft
 drafts_of (constants cs) = concat_map constant_drafts cs
 drafts_of (assignment k e) = map draft_item (postfix e) ++ (draft kind_store k ∷ [])
-drafts_of (state k i e) = draft kind_initial k ∷ initial_draft i ∷ (map draft_item (postfix e) ++ (draft kind_rate k ∷ []))
+drafts_of (state k i e) =
+    draft kind_initial k ∷ initial_draft i ∷ (map draft_item (postfix e) ++ (draft kind_rate k ∷ []))
 drafts_of (header os is) = map (draft kind_output) os ++ map (draft kind_input) is
 drafts_of ending = draft kind_ending 0 ∷ []

@@ -119,7 +119,8 @@ value_read f n (bad c t) = Missing (n - length t)
 
 abbrev pub number_at : List ℕ → List ℕ → ℕ → Value
 number_at ks us i =
-    value_read (λ x. draft kind_number (to_bits binary64 x)) (length ks) (by_signed_number (drop i (held_row ks us))).end
+    value_read (λ x. draft kind_number (to_bits binary64 x)) (length ks)
+    (by_signed_number (drop i (held_row ks us))).end
 
 abbrev pub initial_at : List ℕ → List ℕ → ℕ → Value
 initial_at ks us i = value_read initial_draft (length ks) (initially (drop i (held_row ks us))).end

@@ -1,6 +1,7 @@
 -- What the faults 18 and 19 mean: the first token at which no statement of the grammar can go on (or the early end),
 -- 18, or an opening that the grammar allows but goes to level 17, 19.
-use Rattle.std.specs.Prelude.{ℕ, suc, ◌+◌, ◌≤◌, ◌<◌, ◌≡◌, ◌⊎◌, ◌↔◌, List, [], ◌∷◌, ◌++◌, length, get_or, take, replicate}
+use Rattle.std.specs.Prelude.{ℕ, suc, ◌+◌, ◌≤◌, ◌<◌, ◌≡◌, ◌⊎◌, ◌↔◌, List, [], ◌∷◌, ◌++◌, length, get_or, take}
+use Rattle.std.specs.Prelude.{replicate}
 use Rattle.limits.specs.Limits.{levels}
 use Rattle.tokens.specs.Symbol.{INSW, Symbol, mark, name, word}
 use Rattle.drafts.specs.Tree.{Says}

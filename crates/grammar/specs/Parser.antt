@@ -1,11 +1,13 @@
 -- The grammar as an executable parser. It reads from the front of a list of tokens; what is left tells the place.
-use Rattle.std.specs.Prelude.{ℕ, zero, suc, ◌+◌, ◌-◌, ◌*◌, Bool, true, false, cond, List, [], ◌∷◌, ◌++◌, length, eqb, Float}
+use Rattle.std.specs.Prelude.{ℕ, zero, suc, ◌+◌, ◌-◌, ◌*◌, Bool, true, false, cond, List, [], ◌∷◌, ◌++◌, length, eqb}
+use Rattle.std.specs.Prelude.{Float}
 use Rattle.std.specs.Float.Ieee.{neg}
 use Rattle.limits.specs.Limits.{levels}
 use Rattle.tokens.specs.Symbol.{Symbol}
 use Rattle.drafts.specs.Tree.{Two, Tree, two, Constant, constant_of, Initial, plain, from, Says, constants, assignment}
 use Rattle.drafts.specs.Tree.{state, header, ending, compar}
-use Rattle.drafts.specs.Kinds.{kind_initial, kind_two, kind_negate, kind_three, kind_store, kind_rate, kind_output, kind_input}
+use Rattle.drafts.specs.Kinds.{kind_initial, kind_two, kind_negate, kind_three, kind_store, kind_rate, kind_output}
+use Rattle.drafts.specs.Kinds.{kind_input}
 use Rattle.drafts.specs.Kinds.{kind_ending}
 use Rattle.drafts.specs.Drafts.{Draft, draft, drafted, constant_drafts, initial_draft}
 use Rattle.grammar.specs.Look.{next, rest, byte_of, Op, none, op, add_op, mul_op, is_minus, signed, Given, full}
@@ -165,11 +167,13 @@ by_signed_number s = a_number (add_op (next s)) (behind_sign (add_op (next s)) s
 
 -- behind one of several: a comma and more of them, or nothing
 abbrev pub on_more : {A : Type 0} → (List Symbol → Res (List A)) → A → List Symbol → Res (List A)
-on_more go c s = when (eqb (byte_of (next s)) 44) (λ _. bind (go (rest s)) λ cs t. give (c ∷ cs) t) (λ _. give (c ∷ []) s)
+on_more go c s =
+    when (eqb (byte_of (next s)) 44) (λ _. bind (go (rest s)) λ cs t. give (c ∷ cs) t) (λ _. give (c ∷ []) s)
 
 -- constants, one or more
 abbrev pub valued : (List Symbol → Res (List Constant)) → ℕ → List Symbol → Res (List Constant)
-valued go k s = bind (by_signed_number s) λ x t. tell (constant_drafts (constant_of k x)) (on_more go (constant_of k x) t)
+valued go k s =
+    bind (by_signed_number s) λ x t. tell (constant_drafts (constant_of k x)) (on_more go (constant_of k x) t)
 
 unfoldable pub many : ℕ → List Symbol → Res (List Constant)
 many zero s = stop 18 s

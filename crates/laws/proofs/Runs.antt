@@ -21,7 +21,8 @@ module _ (p : ℕ → Bool) (s : List ℕ) (i : ℕ) where
       ⊎_elim (λ l. l) (λ g. absurd (not_both h (ap p (get_or-eq_default s 0 g) ∙ z))) (lt_or_ge i (length s))
 
   -- a member that passes is the first of the run
-  pub run_more : p 0 ≡ false → p (get_or s i 0) ≡ true → front_run p (drop i s) ≡ get_or s i 0 ∷ front_run p (drop (i + 1) s)
+  pub run_more : p 0 ≡ false → p (get_or s i 0) ≡ true
+      → front_run p (drop i s) ≡ get_or s i 0 ∷ front_run p (drop (i + 1) s)
   unfolding front_run
   run_more z h = let l = inside z h in rw (add-one, drop-cons s i 0 l, h)
 

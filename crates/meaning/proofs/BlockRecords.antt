@@ -35,7 +35,8 @@ module _ (us : List TextUnit) (one : Once (keys (definitions us))) where
 
   -- ---- of a row, one equation after the other
   pub row_records : (n s : ℕ) → Setting n → (e : Equation) (es : List Equation)
-      → records_for n s (row_recs ds (e ∷ es)) ≡ records_for n s (last_rec ds e ∷ []) ++ records_for n s (row_recs ds es)
+      → records_for n s (row_recs ds (e ∷ es))
+      ≡ records_for n s (last_rec ds e ∷ []) ++ records_for n s (row_recs ds es)
   unfolding concat_map
   row_records n s c e es =
       for_append n s (equation_recs ds e) (row_recs ds es)

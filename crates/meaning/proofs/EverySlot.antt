@@ -20,8 +20,10 @@ use Rattle.drafts.specs.Items.{Item, push, fetch, clock, negate, apply_two, appl
 use Rattle.sheet.specs.Sheet.{Numbered, said}
 use Rattle.sheet.specs.Reader.{sheet_of}
 use Rattle.blocks.specs.Units.{Single, constants, assignment, state, Sets, given, own, anew, Inner, UnitBody, single}
-use Rattle.blocks.specs.Units.{block, TextUnit, alone, closing, Stated, stated, stated_inner, stated_by, stated_in, stores}
-use Rattle.blocks.specs.Units.{rates, Equation, equation, OrderUnit, target_of, inner_equation, order_unit_of, order_units}
+use Rattle.blocks.specs.Units.{block, TextUnit, alone, closing, Stated, stated, stated_inner, stated_by, stated_in}
+use Rattle.blocks.specs.Units.{stores}
+use Rattle.blocks.specs.Units.{rates, Equation, equation, OrderUnit, target_of, inner_equation, order_unit_of}
+use Rattle.blocks.specs.Units.{order_units}
 use Rattle.blocks.specs.Said.{said_of, numbered_back, GroupedIn}
 use Rattle.blocks.specs.Members.{settings_by, settings}
 use Rattle.blocks.specs.Sound.{UnitsSound}
@@ -35,7 +37,8 @@ use Rattle.model.specs.Text.{text_units}
 use Rattle.model.proofs.NoModelFault.{no_faults}
 use Rattle.model.proofs.KeyPlaces.{Once, no_def, keys_once}
 use Rattle.records.specs.Record.{Rec, rec}
-use Rattle.program.specs.Program.{instr_item, constant_recs, initial_recs, last_instr, equation_recs, unit_recs, program}
+use Rattle.program.specs.Program.{instr_item, constant_recs, initial_recs, last_instr, equation_recs, unit_recs}
+use Rattle.program.specs.Program.{program}
 use Rattle.program.specs.Roster.{Entry, entry_for, entry_bytes, entries_from, roster}
 use Rattle.program.proofs.RosterFilled.{length_entry, length_entries}
 use Rattle.translator.proofs.Zero.{Clear}

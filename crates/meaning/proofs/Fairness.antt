@@ -19,7 +19,8 @@ use Rattle.blocks.specs.Units.{stores, Equation, equation, TextUnit}
 use Rattle.blocks.specs.Sound.{free_names, UnitsSound}
 use Rattle.order.specs.Order.{EachAfter}
 use Rattle.order.proofs.Sorting.{after_front}
-use Rattle.model.specs.Definitions.{What, constant, assigned, hidden, integral, Def, definitions, keys, slot_in, unit_at}
+use Rattle.model.specs.Definitions.{What, constant, assigned, hidden, integral, Def, definitions, keys, slot_in}
+use Rattle.model.specs.Definitions.{unit_at}
 use Rattle.model.specs.Definitions.{unit_count}
 use Rattle.model.specs.Faults.{constant_key, constant_keys, outside_keys, meets, uses_in}
 use Rattle.model.proofs.KeyPlaces.{Once, count_outside}

@@ -146,7 +146,8 @@ module _ (us : List TextUnit) (sound : UnitsSound us) (one : Once (keys (definit
       let a = r.0 in
       let own = every_of Alone ds all_alone a r.1 in
       subst
-      (λ (j : ℕ). (records_for n (slot j) (constant_part ds ds) ≡ []) × (records_for n (slot j) (initial_part ds ds) ≡ []))
+      (λ (j : ℕ). (records_for n (slot j) (constant_part ds ds) ≡ [])
+      × (records_for n (slot j) (initial_part ds ds) ≡ []))
       r.3 (
         own.fixed n ∙ no_constant n (slot a.key) a a.what r.2,
         own.begun n ∙ no_initial n (slot a.key) a a.what r.2,
@@ -173,7 +174,8 @@ module _ (us : List TextUnit) (sound : UnitsSound us) (one : Once (keys (definit
       (omega arith, omega arith)
 
   -- and no two set one name
-  set_same : (i j k : ℕ) → i < unit_count us → j < unit_count us → SetBy (runs_at us i) k → SetBy (runs_at us j) k → i ≡ j
+  set_same : (i j k : ℕ) → i < unit_count us → j < unit_count us → SetBy (runs_at us i) k → SetBy (runs_at us j) k
+      → i ≡ j
   set_same i j k hi hj (inl a) (inl b) = assigned_one us sound one i j k hi hj a b
   set_same i j k hi hj (inl a) (inr b) =
       absurd (omega (arith, one k, count_names k ds, assigned_stored us sound i hi k a, rated_defined us j k hj b))
@@ -293,12 +295,15 @@ module _ (us : List TextUnit) (sound : UnitsSound us) (one : Once (keys (definit
       let r = rec l (Fixed s c.worth) in
       let none : (n : ℕ) → Setting n → records_for n s (ordered_part us q) ≡ [] = λ n t. ordered_none n c.key t h in
       record {
-        fixed = for_program kind_constant s (r ∷ []) [] [] (a.fixed kind_constant ∙ own_record r) (a.begun kind_constant)
+        fixed = for_program kind_constant s (r ∷ []) [] [] (a.fixed kind_constant ∙ own_record r)
+        (a.begun kind_constant)
             (none kind_constant sets_constant);
         initials = for_program kind_initial s [] [] [] (a.fixed kind_initial) (a.begun kind_initial)
             (none kind_initial sets_initial);
-        stores = for_program kind_store s [] [] [] (a.fixed kind_store) (a.begun kind_store) (none kind_store sets_store);
-        derivatives = for_program kind_rate s [] [] [] (a.fixed kind_rate) (a.begun kind_rate) (none kind_rate sets_rate);
+        stores = for_program kind_store s [] [] [] (a.fixed kind_store) (a.begun kind_store)
+        (none kind_store sets_store);
+        derivatives = for_program kind_rate s [] [] [] (a.fixed kind_rate) (a.begun kind_rate)
+        (none kind_rate sets_rate);
         stores_again = for_program kind_again s [] [] [] (a.fixed kind_again) (a.begun kind_again)
             (none kind_again sets_again);
       }

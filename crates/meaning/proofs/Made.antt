@@ -10,7 +10,8 @@ use Rattle.laws.proofs.Every.{every_part, every_at}
 use Rattle.laws.proofs.Concats.{concat_concat, map_concat, concat_mapped, concat_same, concat_same_in, concat_none}
 use Rattle.drafts.specs.Tree.{Constant}
 use Rattle.blocks.specs.Units.{constants, assignment, state, Sets, given, own, anew, Inner, UnitBody, single}
-use Rattle.blocks.specs.Units.{block, TextUnit, stores, rates, equation, OrderUnit, order_unit, target_of, inner_equation}
+use Rattle.blocks.specs.Units.{block, TextUnit, stores, rates, equation, OrderUnit, order_unit, target_of}
+use Rattle.blocks.specs.Units.{inner_equation}
 use Rattle.blocks.specs.Units.{order_unit_of, order_units}
 use Rattle.drafts.specs.Tree.{names}
 use Rattle.order.proofs.Sorting.{perm_below}
@@ -19,7 +20,8 @@ use Rattle.model.specs.Definitions.{unit_count}
 use Rattle.model.specs.Faults.{uses_in, GoodOrder}
 use Rattle.records.specs.declared.Instr.TheVariants.{Constant as Fixed}
 use Rattle.records.specs.Record.{Rec, rec}
-use Rattle.program.specs.Program.{initial_value, constant_recs, initial_recs, last_instr, equation_recs, unit_recs, program}
+use Rattle.program.specs.Program.{initial_value, constant_recs, initial_recs, last_instr, equation_recs, unit_recs}
+use Rattle.program.specs.Program.{program}
 use Rattle.meaning.specs.Statements.{slot_among}
 use Rattle.meaning.specs.Recorded.{set_instr, inner_stretch, block_stretch, constants_from, initials_from, steps_from}
 use Rattle.meaning.specs.Recorded.{equating, equating_in, equating_at, MadeOf}

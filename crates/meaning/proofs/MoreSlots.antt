@@ -59,7 +59,8 @@ widened j z = record { phase = j.phase; height = j.height; marks = j.marks ++ z 
 
 module _ (l z : List ℕ) where
   -- a slot is as fine as it was
-  fine_more : (h : Shape) (k : ℕ) → (fields_of h).operand < length l → (rule_of h).fine (l ++ z) k ≡ (rule_of h).fine l k
+  fine_more : (h : Shape) (k : ℕ) → (fields_of h).operand < length l
+      → (rule_of h).fine (l ++ z) k ≡ (rule_of h).fine l k
   fine_more (constant s x) k b = rw (get_or-append l z 0 s b)
   fine_more (initial s x) k b = rw (get_or-append l z 0 s b)
   fine_more (push (value x)) k b = refl

@@ -25,7 +25,8 @@ use Rattle.blocks.specs.Sound.{free_of, free_names, InnerSound, BodySound, Units
 use Rattle.model.specs.Definitions.{What, constant, assigned, hidden, integral, Def, defined_alone, defined_inside}
 use Rattle.model.specs.Definitions.{defined_by, definitions, keys, slot_in, no_unit, unit_at, unit_count}
 use Rattle.model.specs.Faults.{constant_key, constant_keys, GoodOrder}
-use Rattle.model.proofs.KeyPlaces.{Once, place_in_holds, place_same, place_of_at, no_def, is_assigned, is_hidden, is_state}
+use Rattle.model.proofs.KeyPlaces.{Once, place_in_holds, place_same, place_of_at, no_def, is_assigned, is_hidden}
+use Rattle.model.proofs.KeyPlaces.{is_state}
 use Rattle.model.proofs.KeyPlaces.{keys_with, count_keys}
 use Rattle.model.proofs.UnitKeys.{in_part, stored_key, rated_key, stored_keys, rated_keys, units_matched}
 use Rattle.model.proofs.UnitKeys.{stored_by, stored_defined, stored_same, assigns_stored, assigned_by}
@@ -324,7 +325,8 @@ module _ (us : List TextUnit) where
   rated_in_all = by_all rated_key
 
   -- a name that is stored is assigned by some unit
-  pub assigned_somewhere : (k : ℕ) → k ∈ stored_names ds → (i : ℕ) × (i < unit_count us) × (k ∈ assigned_keys (runs_at i))
+  pub assigned_somewhere : (k : ℕ) → k ∈ stored_names ds
+      → (i : ℕ) × (i < unit_count us) × (k ∈ assigned_keys (runs_at i))
   assigned_somewhere k m =
       let r = stored_by us k m in
       (r.0, r.1, stores_assigned (runs_at r.0) k r.2)

@@ -19,7 +19,8 @@ use Rattle.records.specs.declared.Instr.{Instr}
 use Rattle.records.specs.declared.Instr.TheVariants.{Constant, Initial, Store, Deriv, StoreAgain}
 use Rattle.records.specs.Fields.{kind_of, operand_of}
 use Rattle.records.specs.Record.{Rec, rec}
-use Rattle.program.specs.Program.{instr_item, instr_two, instr_three, initial_value, constant_recs, initial_recs, last_instr}
+use Rattle.program.specs.Program.{instr_item, instr_two, instr_three, initial_value, constant_recs, initial_recs}
+use Rattle.program.specs.Program.{last_instr}
 use Rattle.program.specs.Program.{equation_recs}
 use Rattle.meaning.specs.Recorded.{is_for, records_for}
 

@@ -17,7 +17,8 @@ use Rattle.order.specs.Order.{Permutation}
 use Rattle.records.specs.declared.Instr.{Instr}
 use Rattle.records.specs.declared.Instr.TheVariants.{Constant, Initial, Value, Slot, Add, Sub, Mul, Div}
 use Rattle.records.specs.declared.Instr.TheVariants.{Neg, Insw, Limit, Compar, Store, Deriv, StoreAgain, Bad}
-use Rattle.records.specs.Record.{field, decode_at, decode_at_within, decode_from, decode_from_within, decoded, decoded_within}
+use Rattle.records.specs.Record.{field, decode_at, decode_at_within, decode_from, decode_from_within, decoded}
+use Rattle.records.specs.Record.{decoded_within}
 use Rattle.records.specs.Shape.{shape_of}
 use Rattle.evaluator.specs.declared.Answer.{Answer}
 use Rattle.evaluator.specs.Judge.{answer, judge}

@@ -34,8 +34,8 @@ set_later h hs q (inr (inl z)) = inr (inl (Memᴰ.tail z))
 set_later h hs q (inr (inr z)) = inr (inr (Memᴰ.tail z))
 
 -- two runs side by side: they agree where they did, and in what they write
-pub alike_run : (xs : List Instr) (i p k : ℕ) (j : Judge) (m n : Machine) → (judge_from i j xs).number ≡ 0 → Sound p k xs
-    → Roomy m n
+pub alike_run : (xs : List Instr) (i p k : ℕ) (j : Judge) (m n : Machine) → (judge_from i j xs).number ≡ 0
+    → Sound p k xs → Roomy m n
     → Alike j.marks m n
     → ((s : ℕ) → StateSlot (map shape_of xs) s → Same m.values n.values s)
     → (q : ℕ)

@@ -20,12 +20,14 @@ use Rattle.drafts.specs.Tree.{Initial, plain, from}
 use Rattle.order.proofs.Sorting.{perm_below}
 use Rattle.blocks.specs.Units.{Target, stores, restores, rates, Equation, TextUnit}
 use Rattle.blocks.specs.Sound.{UnitsSound}
-use Rattle.model.specs.Definitions.{What, constant, assigned, hidden, integral, Def, definitions, keys, slot_in, unit_at}
+use Rattle.model.specs.Definitions.{What, constant, assigned, hidden, integral, Def, definitions, keys, slot_in}
+use Rattle.model.specs.Definitions.{unit_at}
 use Rattle.model.specs.Definitions.{unit_count}
 use Rattle.model.specs.Faults.{outside_keys, uses_in, GoodOrder}
 use Rattle.model.proofs.KeyPlaces.{Once}
 use Rattle.records.specs.Record.{instrs}
-use Rattle.program.specs.Program.{instr_two, instr_three, constant_value, value_in, initial_value, constant_recs, initial_recs}
+use Rattle.program.specs.Program.{instr_two, instr_three, constant_value, value_in, initial_value, constant_recs}
+use Rattle.program.specs.Program.{initial_recs}
 use Rattle.program.specs.Program.{last_instr, program}
 use Rattle.records.specs.Proper.{Double, Proper}
 use Rattle.meaning.proofs.Numbers.{Doubles, DoubleInitial}

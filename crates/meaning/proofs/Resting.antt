@@ -106,7 +106,8 @@ module _ (slot : ℕ → ℕ) (v d : List Float) where
   block_rests ns h =
       let g = group_of ns in
       let at : (k : ℕ) → k ∈ keys_inside ns → get_or (carried slot ns v) (slot k) nan ≡ get_or v (slot k) nan =
-      λ k m. sym (every_number (λ (k : ℕ). get_or v (slot k) nan ≡ get_or (carried slot ns v) (slot k) nan) (keys_inside ns)
+      λ k m. sym (every_number
+      (λ (k : ℕ). get_or v (slot k) nan ≡ get_or (carried slot ns v) (slot k) nan) (keys_inside ns)
       (every_mapped _ _ (λ (n : Inner). n.key) (λ n e. e) ns h) k m) in
       let set-slot : (p : ℕ) → Taken slot (assigned_keys g) p → get_or (values_after slot g v) p nan ≡ get_or v p nan =
       λ p t.

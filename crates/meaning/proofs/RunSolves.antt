@@ -56,8 +56,8 @@ module _ (us : List TextUnit) (sound : UnitsSound us) (one : Once (keys (definit
   rests : Every (Rests slot v' d') (groups_of us ds q)
   rests =
       subst
-      (λ (es : List Equation). Every (Rests slot (values_after slot es v) (derivs_after slot es v d)) (groups_of us ds q))
-      (groups_row us ds q)
+      (λ (es : List Equation). Every (Rests slot (values_after slot es v) (derivs_after slot es v d))
+      (groups_of us ds q)) (groups_row us ds q)
       (settled slot (groups_of us ds q) v d (fair_all us sound one known q below g.after (at_most us q g)))
 
   -- there is a place for each name

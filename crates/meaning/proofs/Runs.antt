@@ -124,7 +124,8 @@ module _ (ds : List Def) where
 
   -- they are worked out in their order
   run_row : (es : List Equation) (v d : List Float)
-      → run (machine_of [] v d) (instrs (row_recs es)) ≡ machine_of [] (values_after slot es v) (derivs_after slot es v d)
+      → run (machine_of [] v d) (instrs (row_recs es))
+      ≡ machine_of [] (values_after slot es v) (derivs_after slot es v d)
   unfolding concat_map values_after derivs_after run
   run_row [] v d = refl
   run_row (e ∷ es) v d =
@@ -154,7 +155,8 @@ module _ (us : List TextUnit) where
   program_parts q =
       rw (ordered_row q)
       (instrs_append (constant_part ds ds) (initial_part ds ds ++ row_recs ds (ordered_runs us q))
-      ∙ ap (λ z. instrs (constant_part ds ds) ++ z) (instrs_append (initial_part ds ds) (row_recs ds (ordered_runs us q))))
+      ∙ ap (λ z. instrs (constant_part ds ds) ++ z)
+      (instrs_append (initial_part ds ds) (row_recs ds (ordered_runs us q))))
 
   -- THE RUN
   pub run_program : (q : List ℕ) (v d : List Float) → run (begun v d) (instrs (program us q))

@@ -71,7 +71,8 @@ module _ (slot : ℕ → ℕ) where
       (λ q. get_or-set_other l (slot k) p x 0 q ∙ e) (eq_or_ne p (slot k)))
 
   -- the slots of these keys have it
-  pub marks_same : (x : ℕ) (ks l : List ℕ) (k : ℕ) → k ∈ ks → slot k < length l → get_or (marks_on x ks l) (slot k) 0 ≡ x
+  pub marks_same : (x : ℕ) (ks l : List ℕ) (k : ℕ) → k ∈ ks → slot k < length l
+      → get_or (marks_on x ks l) (slot k) 0 ≡ x
   unfolding marks_on count
   marks_same x [] l k h m = absurd (omega arith)
   marks_same x (j ∷ ks) l k h m =

@@ -100,7 +100,8 @@ module _ (slot : ℕ → ℕ) where
       (derived e.target (slot e.key) (value_of slot v e.tree) d)
 
   -- after two rows
-  pub values_append : (x y : List Equation) (v : List Float) → values_after (x ++ y) v ≡ values_after y (values_after x v)
+  pub values_append : (x y : List Equation) (v : List Float)
+      → values_after (x ++ y) v ≡ values_after y (values_after x v)
   unfolding values_after
   values_append [] y v = refl
   values_append (e ∷ x) y v = values_append x y _
@@ -160,7 +161,8 @@ module _ (slot : ℕ → ℕ) where
       → get_or (stored t (slot k) x v) p nan ≡ get_or v p nan
   unfolding count
   kept_stored stores k x v ks p h = get_or-set_other v (slot k) p x nan (λ e. h k (omega (arith, once_same k)) (sym e))
-  kept_stored restores k x v ks p h = get_or-set_other v (slot k) p x nan (λ e. h k (omega (arith, once_same k)) (sym e))
+  kept_stored restores k x v ks p h =
+      get_or-set_other v (slot k) p x nan (λ e. h k (omega (arith, once_same k)) (sym e))
   kept_stored rates k x v ks p h = refl
 
   -- and its derivative
@@ -349,7 +351,8 @@ module _ (slot : ℕ → ℕ) where
     unfolding values_after derivs_after
     stored_rests e = (ap (set v (slot k)) (sym e) ∙ set-get_or v (slot k) nan, refl)
 
-    pub rated_holds : slot k < length d → Rests v d (equation l k rates t ∷ []) → get_or d (slot k) nan ≡ value_of slot v t
+    pub rated_holds : slot k < length d → Rests v d (equation l k rates t ∷ [])
+        → get_or d (slot k) nan ≡ value_of slot v t
     unfolding values_after derivs_after
     rated_holds h r =
         sym (ap (λ (z : List Float). get_or z (slot k) nan) r.1) ∙ get_or-set_same d (slot k) (value_of slot v t) nan h

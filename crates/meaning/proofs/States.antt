@@ -21,7 +21,8 @@ use Rattle.model.specs.Definitions.{What, constant, assigned, hidden, integral, 
 use Rattle.model.proofs.KeyPlaces.{Once, no_def}
 use Rattle.records.specs.declared.Instr.{Instr}
 use Rattle.records.specs.Record.{instrs}
-use Rattle.program.specs.Program.{instr_two, instr_three, initial_value, constant_recs, initial_recs, last_instr, program}
+use Rattle.program.specs.Program.{instr_two, instr_three, initial_value, constant_recs, initial_recs, last_instr}
+use Rattle.program.specs.Program.{program}
 use Rattle.records.specs.Shape.{shape_of}
 use Rattle.evaluator.specs.Evaluate.{if_initial, each_state}
 use Rattle.meaning.proofs.Postfix.{steps}

@@ -147,7 +147,8 @@ module _ (us : List TextUnit) (sound : UnitsSound us) (one : Once (keys (definit
         let outside = (unit_at us i).reads ++ free_names us in
         let left = rests_at v d v₁ d₁ s₁ i hi in
         let right = rests_at v d v₂ d₂ s₂ i hi in
-        let same = (alike_after slot (runs_at us i) outside v₁ v₂ d₁ d₂ (rows_sound us sound i).reads long long_rate time
+        let same = (alike_after slot (runs_at us i) outside v₁ v₂ d₁ d₂
+        (rows_sound us sound i).reads long long_rate time
         (λ j n _. set_agrees (ordered_runs us f) h j (outside_set us sound one known f i q a c b j n)) (slot k)).0
         (inr (k, m, refl)) in
         ap (λ (z : List Float). get_or z (slot k) nan) (sym left.0)

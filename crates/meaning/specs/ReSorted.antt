@@ -1,6 +1,7 @@
 -- Re-sorting a program, for those who have no text at hand: its statements in another order behind its constants and
 -- initials. Said of all bytes as a program, whoever wrote them.
-use Rattle.std.specs.Prelude.{ℕ, ◌*◌, ◌/◌, Bool, cond, ◌||◌, ◌≡◌, List, [], ◌∷◌, ◌++◌, map, eqb, length, get_or, take, drop}
+use Rattle.std.specs.Prelude.{ℕ, ◌*◌, ◌/◌, Bool, cond, ◌||◌, ◌≡◌, List, [], ◌∷◌, ◌++◌, map, eqb, length, get_or, take}
+use Rattle.std.specs.Prelude.{drop}
 use Rattle.limits.specs.Limits.{record_bytes}
 use Rattle.laws.specs.Every.{Every}
 use Rattle.laws.specs.Lists.{concat_map, numbers}

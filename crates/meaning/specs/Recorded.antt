@@ -93,8 +93,8 @@ module _ (slot : ℕ → ℕ) where
   abbrev pub InnerRecorded : List Rec → List Inner → Inner → Type 0
   InnerRecorded rs ns n =
       let s = slot n.key in
-      SlotRecords rs s [] [] (records_for kind_store s (block_stretch ns)) [] (records_for kind_again s (block_stretch ns))
-      × FirstStore rs n n.sets
+      SlotRecords rs s [] [] (records_for kind_store s (block_stretch ns)) []
+      (records_for kind_again s (block_stretch ns)) × FirstStore rs n n.sets
 
   abbrev pub BlockRecorded : List Rec → List Inner → Type 0
   BlockRecorded rs ns = StandsIn (block_stretch ns) rs × Every (InnerRecorded rs ns) ns

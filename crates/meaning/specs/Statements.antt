@@ -80,7 +80,8 @@ module _ (slot : ℕ → ℕ) (v d v' d' : List Float) where
 
   -- an assigned slot the value of its expression over the final values
   abbrev pub AssignmentHolds : ℕ → ℕ → Tree → Type 0
-  AssignmentHolds l k e = (get_or v' (slot k) nan ≡ value_of slot v' e) × (get_or d' (slot k) nan ≡ get_or d (slot k) nan)
+  AssignmentHolds l k e =
+      (get_or v' (slot k) nan ≡ value_of slot v' e) × (get_or d' (slot k) nan ≡ get_or d (slot k) nan)
 
   -- a state's slot what it held, and its derivative the value of its expression over the final values
   abbrev pub StateHolds : ℕ → ℕ → Initial → Tree → Type 0
@@ -124,6 +125,7 @@ pub record Stepping (us : List TextUnit) (h : Float) (u d v' : List Float) : Typ
   pub each : let slot = slot_of us in
       EachAsked (λ l c. get_or v' (slot c.key) nan ≡ get_or u (slot c.key) nan)
       (λ l k e. get_or v' (slot k) nan ≡ get_or u (slot k) nan)
-      (λ l k i e. get_or v' (slot k) nan ≡ add binary64 (get_or u (slot k) nan) (mul binary64 h (get_or d (slot k) nan)))
+      (λ l k i e. get_or v' (slot k) nan
+      ≡ add binary64 (get_or u (slot k) nan) (mul binary64 h (get_or d (slot k) nan)))
       (Every (λ (n : Inner). get_or v' (slot n.key) nan ≡ get_or u (slot n.key) nan)) us
   pub rest : (p : ℕ) → length (names_of us) < p → get_or v' p nan ≡ get_or u p nan

@@ -2,10 +2,12 @@
 -- args are their drafts, lines and bounds those of their statements; where a unit is meant, of the units. Every read
 -- past an end gives 0, so that each of these says something of every array. What they mean for units that are laid out
 -- is said by the laws of proofs/ArraysMean.
-use Rattle.std.specs.Prelude.{ℕ, zero, suc, ◌+◌, ◌-◌, Bool, not, cond, ◌&&◌, ◌||◌, List, [], ◌∷◌, ◌++◌, map, eqb, ltb, length, get_or}
+use Rattle.std.specs.Prelude.{ℕ, zero, suc, ◌+◌, ◌-◌, Bool, not, cond, ◌&&◌, ◌||◌, List, [], ◌∷◌, ◌++◌, map, eqb, ltb}
+use Rattle.std.specs.Prelude.{length, get_or}
 use Rattle.laws.specs.Places.{gather, only_if}
 use Rattle.laws.specs.Counts.{has}
-use Rattle.drafts.specs.Kinds.{kind_constant, kind_from, kind_store, kind_own, kind_output, defines, is_use, asks, is_named}
+use Rattle.drafts.specs.Kinds.{kind_constant, kind_from, kind_store, kind_own, kind_output, defines, is_use, asks}
+use Rattle.drafts.specs.Kinds.{is_named}
 use Rattle.drafts.specs.Kinds.{closes}
 use Rattle.drafts.specs.Places.{begins, ends, in_statement, any_of, last_kind, home_of}
 use Rattle.sheet.specs.Sheet.{Fault}
@@ -29,7 +31,8 @@ places_in kinds = gather (λ i. only_if (defines (get_or kinds i 0)) i) (length 
 -- 21 at statement j: one of its definitions is of a name that is defined before it
 abbrev pub double_at : List ℕ → List ℕ → List ℕ → List ℕ → ℕ → List Fault
 double_at lines bounds kinds args j =
-    fault_if (again (gather (defined_at kinds args) (begins bounds j) 0) (in_statement bounds (defined_at kinds args) j))
+    fault_if (again (gather (defined_at kinds args) (begins bounds j) 0)
+    (in_statement bounds (defined_at kinds args) j))
     (get_or lines j 0) 21
 
 unfoldable pub doubles : List ℕ → List ℕ → List ℕ → List ℕ → List Fault

@@ -24,7 +24,8 @@ module _ (n : ℕ) (s u m : List ℕ) (j : ℕ) (lm : j < length m) where
   -- who was placed is
   placed_more : (x : ℕ) → placed_in m x ≡ true → placed_in (set m j 1) x ≡ true
   placed_more x h =
-      ⊎_elim (λ (e : x ≡ j). rw (e, get_or-set_same m j 1 0 lm)) (λ e. rw (get_or-set_other m j x 1 0 e) h) (eq_or_ne x j)
+      ⊎_elim (λ (e : x ≡ j). rw (e, get_or-set_same m j 1 0 lm))
+      (λ e. rw (get_or-set_other m j x 1 0 e) h) (eq_or_ne x j)
 
   -- who was ready is, but for j
   ready_more : (i : ℕ) → (i ≡ j → ⊥) → ready_in n s u m i ≡ true → ready_in n s u (set m j 1) i ≡ true
@@ -107,8 +108,8 @@ module _ {n : ℕ} {s u m f v : List ℕ} (t : Fit n s u) where
 
   -- ---- one statement more is settled: it is ready
   module _ {k p x : ℕ} {v' : List ℕ} (other : (i : ℕ) → (i ≡ x → ⊥) → get_or v' i 0 ≡ get_or v i 0) (hx : x < n) where
-    pub flags_ready : Flags n k s u m f v p → get_or v' x 0 ≡ none → ready_in n s u m x ≡ true → get_or m x 0 ≡ 0 → {c : ℕ}
-        → ((i : ℕ) → i < c → (i ≡ x → ⊥) → i < k) → Flags n c s u m (set f x 1) v' p
+    pub flags_ready : Flags n k s u m f v p → get_or v' x 0 ≡ none → ready_in n s u m x ≡ true → get_or m x 0 ≡ 0
+        → {c : ℕ} → ((i : ℕ) → i < c → (i ≡ x → ⊥) → i < k) → Flags n c s u m (set f x 1) v' p
     flags_ready g at r z up =
         let lf : x < length f = omega (arith, g.flags_size) in
         let old : (i : ℕ) → (i ≡ x → ⊥) → get_or (set f x 1) i 0 ≡ get_or f i 0 = λ i e. get_or-set_other f x i 1 0 e in

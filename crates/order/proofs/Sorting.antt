@@ -215,8 +215,12 @@ module _ (n : ℕ) (uses : ℕ → ℕ → Bool) where
   place_length zero l = omega arith
   place_length (suc k) l =
       cond_ind (λ r. length r ≤ length l + suc k) (ltb (least_ready n uses l) n) _ l
-      (λ t. omega (arith, place_length k (l ++ (least_ready n uses l ∷ [])), length-append l (least_ready n uses l ∷ [])))
-      (λ t. omega arith)
+      (λ t. omega (
+        arith,
+        place_length k (l ++ (least_ready n uses l ∷ [])),
+        length-append l
+            (least_ready n uses l ∷ []),
+      )) (λ t. omega arith)
 
   -- the numbers not placed and the places make n
   Full : List ℕ → Type 0

@@ -1,6 +1,7 @@
 -- What the code keeps while it places statements: a mark for each that is placed, a cursor for each past what it uses
 -- that is placed, a flag for each that is ready; any other waits for one that it uses, in a list of those that do.
-use Rattle.std.specs.Prelude.{◌≡◌, Bool, true, false, not, ◌&&◌, ◌||◌, List, [], ◌∷◌, ℕ, ◌+◌, ◌≤◌, ◌<◌, eqb, ltb, length, get_or, set}
+use Rattle.std.specs.Prelude.{◌≡◌, Bool, true, false, not, ◌&&◌, ◌||◌, List, [], ◌∷◌, ℕ, ◌+◌, ◌≤◌, ◌<◌, eqb, ltb}
+use Rattle.std.specs.Prelude.{length, get_or, set}
 use Rattle.limits.specs.Limits.{most_statements}
 use Rattle.laws.specs.Counts.{once, count, ◌∈◌}
 use Rattle.order.specs.Greedy.{all}
@@ -70,7 +71,8 @@ some_flag (a ∷ l) = ltb 0 a || some_flag l
 -- for one that it uses and that is not placed, unless that is p; there is a flag for each of n
 pub record Flags (n k : ℕ) (starts used marks flags waits : List ℕ) (p : ℕ) : Type 0 where
   pub flags_size : n ≤ length flags
-  pub flagged : (i : ℕ) → i < k → 0 < get_or flags i 0 → (ready_in n starts used marks i ≡ true) × (get_or waits i 0 ≡ none)
+  pub flagged : (i : ℕ) → i < k → 0 < get_or flags i 0
+      → (ready_in n starts used marks i ≡ true) × (get_or waits i 0 ≡ none)
   pub placed : (i : ℕ) → i < k → 0 < get_or marks i 0 → get_or waits i 0 ≡ none
   pub blocked : (i : ℕ) → i < k → get_or marks i 0 ≡ 0 → get_or flags i 0 ≡ 0
       → (get_or waits i 0 < n) × (uses_by_table starts used i (get_or waits i 0) ≡ true)

@@ -1,6 +1,7 @@
 -- The order of n statements, numbered 0 .. n - 1 as they stand in the text, of which `uses i j` says that i uses j:
 -- what it means.
-use Rattle.std.specs.Prelude.{◌≡◌, Bool, true, false, ◌&&◌, ◌||◌, ◌⊎◌, List, [], ◌∷◌, ℕ, zero, suc, ◌+◌, ◌≤◌, ◌<◌, ltb, length, get_or, take}
+use Rattle.std.specs.Prelude.{◌≡◌, Bool, true, false, ◌&&◌, ◌||◌, ◌⊎◌, List, [], ◌∷◌, ℕ, zero, suc, ◌+◌, ◌≤◌, ◌<◌, ltb}
+use Rattle.std.specs.Prelude.{length, get_or, take}
 use Rattle.laws.specs.Counts.{count, ◌∈◌}
 
 -- a permutation of 0 .. n - 1: each number below n stands in it once, and no other number does

@@ -37,8 +37,8 @@ entry k w l = record { key = k; what = w; line = l }
 abbrev pub entry_for : Def → Entry
 entry_for d = entry d.key (what_byte d.what) d.line
 
--- its bytes with a slot: the name's, filled up with zeros to eight (law `spelled_text` of crate meaning); what it is; 0;
--- the slot, two, low first; the line, four, low first
+-- its bytes with a slot: the name's, filled up with zeros to eight (law `spelled_text` of crate meaning); what it is;
+-- 0; the slot, two, low first; the line, four, low first
 abbrev pub entry_bytes : ℕ → Entry → List ℕ
 entry_bytes s e = low_bytes 8 e.key ++ (e.what ∷ 0 ∷ (low_bytes 2 s ++ low_bytes 4 e.line))
 

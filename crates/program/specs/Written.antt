@@ -1,11 +1,13 @@
 -- The program as code writes it: by place, over the arrays of a sheet whose names are resolved. Every read past an end
 -- gives 0.
-use Rattle.std.specs.Prelude.{ℕ, suc, ◌+◌, ◌-◌, ◌*◌, ◌/◌, ◌%◌, min, ◌≡◌, cond, List, [], ◌∷◌, ◌++◌, eqb, length, get_or, take}
+use Rattle.std.specs.Prelude.{ℕ, suc, ◌+◌, ◌-◌, ◌*◌, ◌/◌, ◌%◌, min, ◌≡◌, cond, List, [], ◌∷◌, ◌++◌, eqb, length, get_or}
+use Rattle.std.specs.Prelude.{take}
 use Rattle.std.proofs.lemmas.List.Edits.{sets}
 use Rattle.limits.specs.Limits.{record_bytes, roster_bytes}
 use Rattle.laws.specs.Places.{gather, only_if}
 use Rattle.bits.specs.Low.{low_bytes}
-use Rattle.drafts.specs.Kinds.{kind_constant, kind_initial, kind_from, kind_push, kind_fetch, kind_clock, is_step, step_kind}
+use Rattle.drafts.specs.Kinds.{kind_constant, kind_initial, kind_from, kind_push, kind_fetch, kind_clock, is_step}
+use Rattle.drafts.specs.Kinds.{step_kind}
 use Rattle.drafts.specs.Kinds.{kind_own, writes, defines}
 use Rattle.drafts.specs.Places.{begins, ends, in_statement, first_kind, home_of}
 use Rattle.program.specs.Roster.{what_constant, what_state, what_assigned, what_hidden, Entry, entry, entries_from}

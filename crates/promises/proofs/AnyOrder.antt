@@ -11,7 +11,8 @@ use Rattle.model.specs.Faults.{GoodOrder}
 use Rattle.model.specs.Text.{text_units}
 use Rattle.order.specs.Order.{Permutation}
 use Rattle.records.specs.Fields.{by_kind, instr_within}
-use Rattle.records.specs.Record.{Rec, rec_bytes, program_bytes, decode_at_within, decode_from_within, decoded, decoded_within}
+use Rattle.records.specs.Record.{Rec, rec_bytes, program_bytes, decode_at_within, decode_from_within, decoded}
+use Rattle.records.specs.Record.{decoded_within}
 use Rattle.translator.specs.declared.Verdict.TheVariants.{Translated}
 use Rattle.translator.specs.Verdict.{translated, verdict_of}
 use Rattle.translator.specs.Contract.{Translates, in_numbers}
@@ -65,6 +66,6 @@ sorting_needed = record { sorted = computed.5; early = computed.6 }
 -- another value
 pub block_whole : BlockWhole
 unfolding program_bytes rec_bytes low_bytes low_word concat_map numbers front_run cut_behind re_sorted decode_at_within
-    decode_from_within decoded_within instr_within by_kind judge_from good any_open run step of_bits to_bits add round units
-    size climb span odd
+    decode_from_within decoded_within instr_within by_kind judge_from good any_open run step of_bits to_bits add round
+    units size climb span odd
 block_whole = record { taken = refl; taken_apart = refl; whole = refl; apart = refl }

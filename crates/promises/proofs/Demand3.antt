@@ -136,7 +136,8 @@ whole_lines pre old new post = record { lines_old = cut old; lines_new = cut new
 
 -- cards put behind a text whose last line lacks its byte 10
 pub append_a_card : (x : List ℕ) (last : ℕ) (cards : List ℕ) → (last ≡ 10 → ⊥)
-    → Change (lines_of (x ++ (last ∷ []))) [] (lines_of cards) [] (x ++ (last ∷ [])) ((x ++ (last ∷ [])) ++ (10 ∷ cards))
+    → Change (lines_of (x ++ (last ∷ []))) [] (lines_of cards) [] (x ++ (last ∷ []))
+    ((x ++ (last ∷ [])) ++ (10 ∷ cards))
 append_a_card x last cards e =
     let text = x ++ (last ∷ []) in
     record {

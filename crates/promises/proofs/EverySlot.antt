@@ -32,7 +32,8 @@ every_slot text faults room rs ls e = lower.every_slot (clear text faults room r
 by_answer : (text f o : List ℕ) (g : NamesGiven) → g ≡ names_given text f o → g.number ≡ 0
     → RosterOf text g.count g.roster × EverySlot text (records_of text)
 by_answer text f o g e z =
-    ⊎_elim (λ h. refused h) (λ h. named (omega arith)) (lt_or_ge 0 (number_of (verdict_of text (length f) program_room)))
+    ⊎_elim (λ h. refused h)
+    (λ h. named (omega arith)) (lt_or_ge 0 (number_of (verdict_of text (length f) program_room)))
   where
     rule : NamesRule text f o
     rule = names_rule text f o
@@ -71,7 +72,8 @@ by_answer text f o g e z =
 -- FROM THE ENTRY: where `names` gives k entries
 pub named_slots : (text f o : List ℕ) (k : ℕ) (f' o' : List ℕ) → NamesSlots text f o (Entries k) f' o'
     → RosterOf text k o' × EverySlot text (records_of text)
-named_slots text f o k f' o' e = by_answer text f o (named_in_numbers (Entries k) f' o') (names_by_number text f o e) refl
+named_slots text f o k f' o' e =
+    by_answer text f o (named_in_numbers (Entries k) f' o') (names_by_number text f o e) refl
 
 -- the same at the boundary to other languages
 pub linked_names : (text f o : List ℕ) (r : CVerdict) (f' o' : List ℕ) → NamesFixed text f o r f' o' → r.number ≡ 0

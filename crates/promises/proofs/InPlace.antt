@@ -135,8 +135,10 @@ module _ (text : List ℕ) where
       let statements = if_in 5 (faults_of text) read in_place.statement_faults counted in
       cond_ind DecidedIn (ltb f fault_room) (refused 1) _ (λ _. tt)
       (λ _. cond_ind DecidedIn (ltb text_bytes (length text)) (refused 2) _ (λ _. tt)
-      (λ _. cond_ind DecidedIn (ltb text_lines (length (lines_of text))) (refused 3) (decided p (sheet_of text)) (λ _. tt)
-      (λ _. cond_ind DecidedIn (ltb most_statements (length (sheet_of text))) (refused 4) _ (λ _. tt) (λ _. statements))))
+      (λ _. cond_ind DecidedIn (ltb text_lines (length (lines_of text))) (refused 3) (decided p (sheet_of text))
+      (λ _. tt)
+      (λ _. cond_ind DecidedIn (ltb most_statements (length (sheet_of text))) (refused 4) _ (λ _. tt)
+      (λ _. statements))))
     where
       fitted_in : (room : ℕ) (rs : List Rec) (ls : List ℕ) → DecidedIn (fitted room rs ls)
       fitted_in room rs ls =

@@ -21,7 +21,8 @@ use Rattle.tokens.specs.Row.{row_from, row_of}
 use Rattle.drafts.specs.Tree.{names}
 use Rattle.drafts.specs.Items.{postfix}
 use Rattle.grammar.specs.Look.{next, rest, byte_of, give_to, factor_start, start_of}
-use Rattle.grammar.specs.Parser.{bind, parse, by_signed_number, many, initially, assigned, integrated, many_names, headed}
+use Rattle.grammar.specs.Parser.{bind, parse, by_signed_number, many, initially, assigned, integrated, many_names}
+use Rattle.grammar.specs.Parser.{headed}
 use Rattle.grammar.specs.Parser.{statement, entire, read_row}
 use Rattle.sheet.specs.Reader.{cards_told, told, sheet_of}
 use Rattle.order.specs.Order.{any, chained}
@@ -42,15 +43,15 @@ use Rattle.promises.specs.Table.{Trial, trials, shown, wanted, tank, deck, loop,
 
 -- THE TABLE. Each text has the verdict and the listing that stand beside it
 pub tried : map shown trials ≡ map wanted trials
-unfolding trials listing listing_of figures_in verdict_within decided_within lines_of trimmed dotted passed cards_of after
-    ended left reading line_part joined any_long size_flaw byte_spot last_spot cards_told told sheet_of
-    concat_map same_bytes numbers front_run count low_word decimal digits_from exponent_from ten_to scaled tokenOf number_cut
-    name_at token_at cut_at
+unfolding trials listing listing_of figures_in verdict_within decided_within lines_of trimmed dotted passed cards_of
+    after ended left reading line_part joined any_long size_flaw byte_spot last_spot cards_told told sheet_of
+    concat_map same_bytes numbers front_run count low_word decimal digits_from exponent_from ten_to scaled tokenOf
+    number_cut name_at token_at cut_at
     look_up symbol_named row_from row_of
     names postfix next rest byte_of give_to factor_start start_of bind parse by_signed_number many initially assigned
     integrated many_names headed statement entire read_row
-    any chained all first ready least_ready place order place_in again faults21 within meets model_faults value_in program
-    pairs_from nested faults25_from set_inside faults26_from block_faults units_from of_bits
+    any chained all first ready least_ready place order place_in again faults21 within meets model_faults value_in
+    program pairs_from nested faults25_from set_inside faults26_from block_faults units_from of_bits
     of_int mul div neg round
     units size climb span odd
 tried = refl
@@ -65,16 +66,16 @@ pub computed : (height_of (verdict_of deck fault_room program_room) ≡ stack_pl
     × (number_for (bytes tank) ≡ 0) × Plain (bytes tank)
     × (number_for loop ≡ 7) × Plain loop
     × (tank_judged tank_sorted ≡ answer 0 0) × (tank_judged tank_early ≡ answer 3 6)
-unfolding highest judge_from good any_open verdict_within decided_within lines_of trimmed dotted passed cards_of after ended
-    left reading line_part joined
+unfolding highest judge_from good any_open verdict_within decided_within lines_of trimmed dotted passed cards_of after
+    ended left reading line_part joined
     any_long size_flaw cards_told told sheet_of concat_map
     same_bytes numbers front_run count low_word decimal digits_from exponent_from ten_to scaled tokenOf number_cut
     name_at token_at cut_at
     look_up symbol_named row_from row_of names
-    postfix next rest byte_of give_to factor_start start_of bind parse by_signed_number many initially assigned integrated
-    many_names headed statement entire read_row any chained
-    all first ready least_ready place order place_in again faults21 within meets model_faults value_in program pairs_from
-    nested faults25_from set_inside faults26_from block_faults units_from of_bits of_int mul
+    postfix next rest byte_of give_to factor_start start_of bind parse by_signed_number many initially assigned
+    integrated many_names headed statement entire read_row any chained
+    all first ready least_ready place order place_in again faults21 within meets model_faults value_in program
+    pairs_from nested faults25_from set_inside faults26_from block_faults units_from of_bits of_int mul
     div neg round units size climb
     span odd
 computed = (refl, refl, (refl, refl, refl), refl, (refl, refl, refl), refl, refl)

@@ -175,7 +175,8 @@ pub whole_lines : (pre old new post : List ℕ)
 whole_lines = demand-three.whole_lines
 
 pub append_a_card : (x : List ℕ) (last : ℕ) (cards : List ℕ) → (last ≡ 10 → ⊥)
-    → Change (lines_of (x ++ (last ∷ []))) [] (lines_of cards) [] (x ++ (last ∷ [])) ((x ++ (last ∷ [])) ++ (10 ∷ cards))
+    → Change (lines_of (x ++ (last ∷ []))) [] (lines_of cards) [] (x ++ (last ∷ []))
+    ((x ++ (last ∷ [])) ++ (10 ∷ cards))
 append_a_card = demand-three.append_a_card
 
 pub a_card_appended : Change (bytes "A=1" ∷ bytes "B=2" ∷ []) [] (bytes "C=3" ∷ []) [] (bytes "A=1\nB=2")

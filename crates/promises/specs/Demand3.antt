@@ -35,10 +35,10 @@ pub record Afresh (pre old new p : List Line) : Type 0 where
 -- m or n of lines before them
 pub record SameFrom (pre q : List Line) (m n : ℕ) (a b : List ℕ) : Type 0 where
   pub statements : Share statement_line later (closed_of pre) (statements_in q) m n (statements_of a) (statements_of b)
-  pub sheet : Share report_line later_report (sheet_from (closed_of pre)) (sheet_from (statements_in q)) m n (sheet_of a)
-      (sheet_of b)
-  pub faults : Share fault_line later_fault (faults_from (closed_of pre)) (faults_from (statements_in q)) m n (faults_of a)
-      (faults_of b)
+  pub sheet : Share report_line later_report (sheet_from (closed_of pre)) (sheet_from (statements_in q)) m n
+      (sheet_of a) (sheet_of b)
+  pub faults : Share fault_line later_fault (faults_from (closed_of pre)) (faults_from (statements_in q)) m n
+      (faults_of a) (faults_of b)
 
 -- the lines before them are pre, the run and p
 pub record TailKept (pre old new p q : List Line) (a b : List ℕ) : Type 0 where

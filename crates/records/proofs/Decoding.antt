@@ -50,8 +50,8 @@ module _ (slotted valued : Bool) (k s b : ℕ) where
       no_slot m h = rw (sym e ∙ not-false _ n, sym f ∙ not-false _ m, le-ltb s slots h)
 
       -- all is in order
-      pub in_order_holds : {r : Instr} {x : Float} → not q ≡ false → s < slots → r ≡ by_kind k s x → x ≡ of_bits binary64 b
-          → r ≡ with_fields slotted valued k s b
+      pub in_order_holds : {r : Instr} {x : Float} → not q ≡ false → s < slots → r ≡ by_kind k s x
+          → x ≡ of_bits binary64 b → r ≡ with_fields slotted valued k s b
       in_order_holds m h i j = i ∙ rw (j, sym e ∙ not-false _ n, sym f ∙ not-false _ m, lt-ltb s slots h)
 
 -- what a kind that uses these fields holds
@@ -127,7 +127,8 @@ module _ (p : List ℕ) where
   slot_inside n o some = inside n (get_or p o 0) (get_or p (o + 1) 0) (field p (o + 2) 2) (field p (o + 8) 8) some
 
   -- with more slots one that is not refused is the same
-  pub decode_more : (n m o : ℕ) → n ≤ m → (decode_at_within n p o ≡ Bad → ⊥) → decode_at_within m p o ≡ decode_at_within n p o
+  pub decode_more : (n m o : ℕ) → n ≤ m → (decode_at_within n p o ≡ Bad → ⊥)
+      → decode_at_within m p o ≡ decode_at_within n p o
   unfolding decode_at_within
   decode_more n m o h f = instr_more n m (get_or p o 0) (get_or p (o + 1) 0) (field p (o + 2) 2) (field p (o + 8) 8) h f
 

@@ -109,7 +109,6 @@ fn allowed(used: bool, field: u64) -> bool
 }
 
 // The instruction of a kind with its operand and bits, of which it uses these, or the refusal.
-#[tactic(auto, using(crate::proofs::Decoding::operand_unused, crate::proofs::Decoding::bits_unused, crate::proofs::Decoding::no_slot, crate::proofs::Decoding::in_order_holds))]
 fn with_fields(slotted: bool, valued: bool, kind: u64, slot: u64, bits: u64) -> Instr
     ensures { result ≡ with_fields slotted valued kind slot bits }
 {

@@ -43,7 +43,8 @@ pub record PlaceMeans (lines : List Line) (closed : Bool) : Type 0 where
   -- whatever the fault, its place is a byte of one of the cards, or column 1 of an empty one
   pub in_statement : (c : ℕ) (p : Spot) → told lines closed ≡ faulty c p → InCard lines p
   -- 14 to 17: the token that is cut from there is the bad one; each before it is good
-  pub bad_token : size_flaw (cards_of lines) closed ≡ none → (c at : ℕ) → (row_of (joined (cards_of lines))).close ≡ bad c at
+  pub bad_token : size_flaw (cards_of lines) closed ≡ none → (c at : ℕ)
+      → (row_of (joined (cards_of lines))).close ≡ bad c at
       → (p : Spot) → told lines closed ≡ faulty c p
       → CutThere lines at (ill c) p × Every (GoodBefore lines p) (tokens_of (cards_of lines))
   -- 18 and 19, early end aside: the token that is cut from there is the one at fault; no token before it is

@@ -31,7 +31,8 @@ pub record StatementMeans (lines : List Line) (closed : Bool) : Type 0 where
   pub for_size : (c : ℕ) (p : Place) → size_flaw (cards_of lines) closed ≡ flaw c p
       → told lines closed ≡ faulty c (spot_of lines p)
   -- the first bad token
-  pub for_token : size_flaw (cards_of lines) closed ≡ none → (c at : ℕ) → (row_of (joined (cards_of lines))).close ≡ bad c at
+  pub for_token : size_flaw (cards_of lines) closed ≡ none → (c at : ℕ)
+      → (row_of (joined (cards_of lines))).close ≡ bad c at
       → told lines closed ≡ faulty c (spot_of lines (AtToken at))
   pub for_grammar : Scanned (cards_of lines) closed → (x : Says)
       → (told lines closed ≡ says x) ↔ Derives levels (symbols (tokens_of (cards_of lines))) x

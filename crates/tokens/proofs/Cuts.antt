@@ -76,8 +76,8 @@ module _ (s : List ℕ) (from at : ℕ) (read : at ≡ from + length (spaces_at 
       unfolding token_at
       at_mark m = rw (← begins, lt-leb (length s) at more, no_letter, mark_no_figure (get_or s at 0) m, m)
 
-      pub at_other : is_mark (get_or s at 0) ≡ false → (is_digit (get_or s at 0) || is_point (get_or s at 0)) ≡ false → (c : Cut)
-          → c ≡ bad_at 14 at
+      pub at_other : is_mark (get_or s at 0) ≡ false → (is_digit (get_or s at 0) || is_point (get_or s at 0)) ≡ false
+          → (c : Cut) → c ≡ bad_at 14 at
           → c ≡ cut_at s from
       unfolding token_at
       at_other m f c e = rw (← begins, lt-leb (length s) at more, no_letter, f, m) e

@@ -31,7 +31,8 @@ first_byte : (x : ℕ) (xs : List ℕ) → front_run is_word (x ∷ xs) ≡ x �
 first_byte x xs e = word_byte x (all_pass is_word x xs e).0
 
 -- of two lists of letters and digits with one key
-pub key_injective : (xs ys : List ℕ) → front_run is_word xs ≡ xs → front_run is_word ys ≡ ys → key_of xs ≡ key_of ys → xs ≡ ys
+pub key_injective : (xs ys : List ℕ) → front_run is_word xs ≡ xs → front_run is_word ys ≡ ys → key_of xs ≡ key_of ys
+    → xs ≡ ys
 unfolding low_word
 key_injective [] [] t u e = refl
 key_injective [] (y ∷ ys) t u e = absurd (let z : ⊥ = omega (arith, first_byte y ys u) in z)

@@ -125,7 +125,8 @@ module _ (s t : List ℕ) (i j : ℕ) (u r : List ℕ) (here : drop i s ≡ u ++
       rw (read_same is_point refl refl q) (⊎_elim pointed plain (bool_cases (is_point (get_or t n 0))))
     where
       pointed : is_point (get_or t n 0) ≡ true
-          → SameDigits (cond (is_point (get_or t n 0)) (point_digits w (digits_at s (m + 1)) (m + 1)) (plain_digits w m))
+          → SameDigits (cond (is_point (get_or t n 0)) (point_digits w (digits_at s (m + 1)) (m + 1))
+          (plain_digits w m))
           (cond (is_point (get_or t n 0)) (point_digits w (digits_at t (n + 1)) (n + 1)) (plain_digits w n))
       pointed e =
           let next = read_on is_point refl refl q e in
@@ -139,7 +140,8 @@ module _ (s t : List ℕ) (i j : ℕ) (u r : List ℕ) (here : drop i s ≡ u ++
           })
 
       plain : is_point (get_or t n 0) ≡ false
-          → SameDigits (cond (is_point (get_or t n 0)) (point_digits w (digits_at s (m + 1)) (m + 1)) (plain_digits w m))
+          → SameDigits (cond (is_point (get_or t n 0)) (point_digits w (digits_at s (m + 1)) (m + 1))
+          (plain_digits w m))
           (cond (is_point (get_or t n 0)) (point_digits w (digits_at t (n + 1)) (n + 1)) (plain_digits w n))
       plain e = rw e (record { amount = refl; after = refl; count = refl; end = q })
 

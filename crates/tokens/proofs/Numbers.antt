@@ -59,8 +59,10 @@ too_far m up down h k = ⊎_elim high low (lt_or_ge (down + most_tens) up)
         rw (le-leb m most_digits h, le-leb up (down + most_tens) l, lt-leb down (up + most_tens) d)
 
 -- neither is
-in_range_holds : (m up down : ℕ) → m ≤ most_digits → up ≤ down + most_tens → down ≤ up + most_tens → in_range m up down ≡ true
-in_range_holds m up down h k l = rw (le-leb m most_digits h, le-leb up (down + most_tens) k, le-leb down (up + most_tens) l)
+in_range_holds : (m up down : ℕ) → m ≤ most_digits → up ≤ down + most_tens → down ≤ up + most_tens
+    → in_range m up down ≡ true
+in_range_holds m up down h k l =
+    rw (le-leb m most_digits h, le-leb up (down + most_tens) k, le-leb down (up + most_tens) l)
 
 module _ (m up down k : ℕ) (x : Float) (h : m ≤ most_digits) (apart : k ≡ (up - down) + (down - up))
     (near : k ≤ most_tens) (power : x ≡ ten_to k) where
@@ -138,7 +140,14 @@ no_point s at d p q =
     let q' : get_or s end 0 ≡ 46 → ⊥ = rw p at q in
     rw (p, ne_eqb _ 46 q')
     (λ k.
-    record { value = min cap (decimal 0 w); after = 0; count = less at (length w) k; end = end; behind = get_or s end 0 })
+    record {
+      value = min cap (decimal 0 w);
+      after = 0;
+      count = less at
+          (length w) k;
+      end = end;
+      behind = get_or s end 0;
+    })
 
 -- a digit is at most 9
 digit_small : (x : ℕ) → is_digit x ≡ true → x - 48 ≤ 9
@@ -212,7 +221,8 @@ module _ (s : List ℕ) (at from : ℕ) (d : Decimal) (letter : get_or s at 0 �
   digits_plus z h e = rw (← (few_digits z h), ne_eqb _ 45 e, behinds s from 0 d read)
 
 -- no letter, no exponent
-pub no_letter : (s : List ℕ) (at b : ℕ) → b ≡ get_or s at 0 → (b ≡ 69 → ⊥) → Of 0 0 at b ≡ power_of s (exponent_from s at)
+pub no_letter : (s : List ℕ) (at b : ℕ) → b ≡ get_or s at 0 → (b ≡ 69 → ⊥)
+    → Of 0 0 at b ≡ power_of s (exponent_from s at)
 unfolding exponent_from
 no_letter s at b e h = rw (ne_eqb _ 69 (λ f. h (e ∙ f)), e)
 
@@ -240,7 +250,8 @@ module _ (s : List ℕ) (at : ℕ) (m : Mantissa) (read : m ≡ capped s (digits
       → end_of s at (digits_from s at) p ≡ number_cut s at
   unfolding number_cut
   through z p q =
-      rw (ne_eqb _ 0 (rw read at z), q, read) (end_held s at (digits_from s at) (exponent_from s (digits_from s at).end))
+      rw (ne_eqb _ 0 (rw read at z), q, read)
+      (end_held s at (digits_from s at) (exponent_from s (digits_from s at).end))
 
   -- the byte behind the digits
   pub behind_digits : m.behind ≡ get_or s m.end 0
@@ -248,7 +259,8 @@ module _ (s : List ℕ) (at : ℕ) (m : Mantissa) (read : m ≡ capped s (digits
 
   module _ (up down stop b : ℕ) where
     -- a letter, digit or point behind it makes it bad
-    pub tail_after : (is_word b || is_point b) ≡ true → bad_at 16 at ≡ end_of s at (digits_from s at) (Of up down stop b)
+    pub tail_after : (is_word b || is_point b) ≡ true
+        → bad_at 16 at ≡ end_of s at (digits_from s at) (Of up down stop b)
     tail_after h = rw h
 
     -- otherwise its value decides

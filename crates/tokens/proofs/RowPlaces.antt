@@ -40,8 +40,8 @@ name_at_holds s at =
 end_at : (s : List ℕ) (at : ℕ) (m : Digits) (x : Exponent) → (number_end s at m x).at ≡ at
 end_at s at m wrong = refl
 end_at s at m (exponent b e stop) =
-    either_at (is_word (get_or s stop 0) || is_point (get_or s stop 0)) (bad_at 16 at) (cut_of (number_with m b e) at stop) refl
-    refl
+    either_at (is_word (get_or s stop 0) || is_point (get_or s stop 0)) (bad_at 16 at)
+    (cut_of (number_with m b e) at stop) refl refl
 
 number_at : (s : List ℕ) (at : ℕ) → (number_cut s at).at ≡ at
 unfolding number_cut

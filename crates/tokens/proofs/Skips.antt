@@ -96,8 +96,8 @@ module _ (s : List ℕ) (at : ℕ) where
   end_ends : (n : ℕ) (m : Digits) (x : Exponent) → StopsAt n x → EndsAt n (number_end s at m x)
   end_ends n m wrong h = bad_ends n 16 at
   end_ends n m (exponent b e stop) h =
-      either_ends n (is_word (get_or s stop 0) || is_point (get_or s stop 0)) (bad_at 16 at) (cut_of (number_with m b e) at stop)
-      (bad_ends n 16 at) (λ _. h)
+      either_ends n (is_word (get_or s stop 0) || is_point (get_or s stop 0)) (bad_at 16 at)
+      (cut_of (number_with m b e) at stop) (bad_ends n 16 at) (λ _. h)
 
   number_ends : EndsAt (power_end s (point_end s (digits_end s at))) (number_cut s at)
   unfolding number_cut

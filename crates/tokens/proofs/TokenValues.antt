@@ -99,7 +99,8 @@ stands_run p s i =
     record { bytes = run_left p (drop i s) ∙ ap (λ r. w ++ r) (drop-drop (length w) i s); end = refl }
 
 -- two rows that pass make one
-run_both : (p : ℕ → Bool) (xs ys : List ℕ) → front_run p xs ≡ xs → front_run p ys ≡ ys → front_run p (xs ++ ys) ≡ xs ++ ys
+run_both : (p : ℕ → Bool) (xs ys : List ℕ) → front_run p xs ≡ xs → front_run p ys ≡ ys
+    → front_run p (xs ++ ys) ≡ xs ++ ys
 unfolding front_run
 run_both p [] ys e f = f
 run_both p (x ∷ xs) ys e f =
@@ -134,7 +135,8 @@ figures s at =
       after = refl;
       count = sym (length-append w f);
       stands = stands_both s at p (p + 1 + length f) w (46 ∷ f) (stands_run is_digit s at)
-          (stands_both s p (p + 1) (p + 1 + length f) (46 ∷ []) f (stands_byte s p 46 refl (eqb-true (get_or s p 0) 46 t))
+          (stands_both s p (p + 1) (p + 1 + length f) (46 ∷ []) f
+          (stands_byte s p 46 refl (eqb-true (get_or s p 0) 46 t))
           (stands_run is_digit s (p + 1)));
     })
     (λ _.

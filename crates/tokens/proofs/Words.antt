@@ -91,7 +91,8 @@ module _ (n : List ℕ) where
   -- a name's argument is its key
   arg_name : symbol_kind (symbol_named n) ≡ name_kind → arg_of (symbol_named n) ≡ key_of n
   arg_name =
-      symbol_ind (λ (t : Symbol). symbol_kind t ≡ name_kind → arg_of t ≡ key_of n) (λ w e. absurd (no_name w e)) (λ _. refl)
+      symbol_ind (λ (t : Symbol). symbol_kind t ≡ name_kind → arg_of t ≡ key_of n) (λ w e. absurd (no_name w e))
+      (λ _. refl)
 
   -- a word has none
   arg_word : (symbol_kind (symbol_named n) ≡ name_kind → ⊥) → arg_of (symbol_named n) ≡ 0
@@ -103,7 +104,8 @@ module _ (n : List ℕ) where
   name_key k e = ap arg_of (sym e) ∙ arg_name (ap symbol_kind e)
 
   -- a name as it is held: its key is read from its bytes
-  pub held_name : (k a : ℕ) → length n ≤ name_bytes → k ≡ kind_named n → k ≡ name_kind → a ≡ low_word (take name_bytes n)
+  pub held_name : (k a : ℕ) → length n ≤ name_bytes → k ≡ kind_named n → k ≡ name_kind
+      → a ≡ low_word (take name_bytes n)
       → ◌≡◌ {A = Held} (record { kind = name_kind; arg = a }) (held_as (symbol_named n))
   held_name k a h q e key =
       let f = sym kind_named_holds ∙ sym q ∙ e in

@@ -1,6 +1,7 @@
 -- Numbers: digits with at most one point and at least one digit, then optionally E, an optional sign and one or two
 -- digits.
-use Rattle.std.specs.Prelude.{ℕ, ◌+◌, ◌*◌, ◌-◌, ◌^◌, List, [], ◌∷◌, ◌++◌, Bool, true, false, ◌&&◌, ◌||◌, cond, length, get_or, eqb, leb, pos, Float}
+use Rattle.std.specs.Prelude.{ℕ, ◌+◌, ◌*◌, ◌-◌, ◌^◌, List, [], ◌∷◌, ◌++◌, Bool, true, false, ◌&&◌, ◌||◌, cond, length}
+use Rattle.std.specs.Prelude.{get_or, eqb, leb, pos, Float}
 use Rattle.std.specs.Float.{binary64}
 use Rattle.std.specs.Float.Ieee.{mul, div, of_int}
 use Rattle.limits.specs.Limits.{most_digits, most_tens, exponent_digits}
@@ -53,7 +54,8 @@ exponent_of minus d from =
 unfoldable pub exponent_from : List ℕ → ℕ → Exponent
 exponent_from s at =
     let from = sign_end s (at + 1) in
-    cond (eqb (get_or s at 0) 69) (exponent_of (eqb (get_or s (at + 1) 0) 45) (digits_at s from) from) (exponent false 0 at)
+    cond (eqb (get_or s at 0) 69) (exponent_of (eqb (get_or s (at + 1) 0) 45) (digits_at s from) from)
+    (exponent false 0 at)
 
 -- 10 to the k
 unfoldable pub ten_to : ℕ → Float

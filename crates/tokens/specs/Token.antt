@@ -18,7 +18,8 @@ bad_at code at = cut_of (Bad code) at at
 abbrev pub number_end : List ℕ → ℕ → Digits → Exponent → Cut
 number_end s at m wrong = bad_at 16 at
 number_end s at m (exponent minus e stop) =
-    cond (is_word (get_or s stop 0) || is_point (get_or s stop 0)) (bad_at 16 at) (cut_of (number_with m minus e) at stop)
+    cond (is_word (get_or s stop 0) || is_point (get_or s stop 0)) (bad_at 16 at)
+    (cut_of (number_with m minus e) at stop)
 
 -- a number: at least one digit, and what follows decides
 unfoldable pub number_cut : List ℕ → ℕ → Cut

@@ -10,7 +10,8 @@ use Rattle.order.proofs.sort.Goals as goal
 
 pub place_few-requires : goal.place_few-requires
 place_few-requires c =
-    let passed : fits c.args.n c.args.starts.now c.args.used.now (length c.args.out.now) ≡ true = sym c.fit.ensures ∙ c.if-fit.true in
+    let passed : fits c.args.n c.args.starts.now c.args.used.now (length c.args.out.now)
+    ≡ true = sym c.fit.ensures ∙ c.if-fit.true in
     let fit_so : Fit c.args.n c.args.starts.now c.args.used.now × (c.args.n ≤ length c.args.out.now) = let s = c.args in
     (fits_iff s.n s.starts.now s.used.now (length s.out.now)).0 passed in
     let f = fit_so in
@@ -18,21 +19,24 @@ place_few-requires c =
 
 pub returns-then-n-le-FEW : goal.returns-then-n-le-FEW
 returns-then-n-le-FEW c =
-    let passed : fits c.args.n c.args.starts.now c.args.used.now (length c.args.out.now) ≡ true = sym c.fit.ensures ∙ c.if-fit.true in
+    let passed : fits c.args.n c.args.starts.now c.args.used.now (length c.args.out.now)
+    ≡ true = sym c.fit.ensures ∙ c.if-fit.true in
     let s = c.args in
     let placed = c.place_few.ensures in
     sorts_placed s.n s.starts.now s.used.now s.out.now passed placed
 
 pub place_many-requires : goal.place_many-requires
 place_many-requires c =
-    let passed : fits c.args.n c.args.starts.now c.args.used.now (length c.args.out.now) ≡ true = sym c.fit.ensures ∙ c.if-fit.true in
+    let passed : fits c.args.n c.args.starts.now c.args.used.now (length c.args.out.now)
+    ≡ true = sym c.fit.ensures ∙ c.if-fit.true in
     let fit_so : Fit c.args.n c.args.starts.now c.args.used.now × (c.args.n ≤ length c.args.out.now) = let s = c.args in
     (fits_iff s.n s.starts.now s.used.now (length s.out.now)).0 passed in
     fit_so
 
 pub returns-then-fit : goal.returns-then-fit
 returns-then-fit c =
-    let passed : fits c.args.n c.args.starts.now c.args.used.now (length c.args.out.now) ≡ true = sym c.fit.ensures ∙ c.if-fit.true in
+    let passed : fits c.args.n c.args.starts.now c.args.used.now (length c.args.out.now)
+    ≡ true = sym c.fit.ensures ∙ c.if-fit.true in
     let s = c.args in
     let placed = c.place_many.ensures in
     sorts_placed s.n s.starts.now s.used.now s.out.now passed placed

@@ -7,7 +7,8 @@ use Rattle.order.proofs.wake.Given as goal
 abbrev pub invariant-loop-x : goal.invariant-loop-x
 invariant-loop-x l =
     Waking l.n l.starts l.used l.marks l.ready l.cursors l.heads l.links l.waits l.j l.low l.x l.least_ready
-    × SameLengths l.initial.ready l.initial.cursors l.initial.heads l.initial.links l.initial.waits l.ready l.cursors l.heads l.links l.waits
+    × SameLengths l.initial.ready l.initial.cursors l.initial.heads l.initial.links l.initial.waits l.ready l.cursors
+    l.heads l.links l.waits
 
 abbrev pub decreases-loop-x : goal.decreases-loop-x
 decreases-loop-x l =

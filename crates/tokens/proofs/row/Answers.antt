@@ -25,53 +25,65 @@ loop-code-init c =
 
 pub returns-in-Over : goal.returns-in-Over
 returns-in-Over c =
-    turn_over c.args.body.now c.args.kinds.now c.args.args.now c.loop-code.kinds c.loop-code.args c.loop-code.from c.loop-code.n c.loop-code.invariant
-    (sym c.in-Over.is ∙ c.take_step-s.ensures)
+    turn_over c.args.body.now c.args.kinds.now c.args.args.now c.loop-code.kinds c.loop-code.args c.loop-code.from
+    c.loop-code.n c.loop-code.invariant (sym c.in-Over.is ∙ c.take_step-s.ensures)
 
 pub returns-in-Refused : goal.returns-in-Refused
 returns-in-Refused c =
-    turn_refused c.args.body.now c.args.kinds.now c.args.args.now c.loop-code.kinds c.loop-code.args c.loop-code.from c.loop-code.n c.loop-code.invariant
-    c.in-Refused.code c.in-Refused.at
+    turn_refused c.args.body.now c.args.kinds.now c.args.args.now c.loop-code.kinds c.loop-code.args c.loop-code.from
+    c.loop-code.n c.loop-code.invariant c.in-Refused.code c.in-Refused.at
     (sym c.in-Refused.is ∙ c.take_step-s.ensures)
 
 pub bounds-kinds-n : goal.bounds-kinds-n
 bounds-kinds-n c =
-    let good : Good c.in-Good.held c.in-Good.next ≡ row_step_at c.args.body.now c.loop-code.from = sym c.in-Good.is ∙ c.take_step-s.ensures in
-    let onward : Inside c.args.body.now c.loop-code.from c.in-Good.next = turn_inside c.args.body.now c.args.kinds.now c.args.args.now c.loop-code.kinds c.loop-code.args c.loop-code.from c.loop-code.n c.loop-code.invariant c.in-Good.held
-    c.in-Good.next good in
+    let good : Good c.in-Good.held c.in-Good.next
+    ≡ row_step_at c.args.body.now c.loop-code.from = sym c.in-Good.is ∙ c.take_step-s.ensures in
+    let onward : Inside c.args.body.now c.loop-code.from c.in-Good.next = turn_inside c.args.body.now c.args.kinds.now
+    c.args.args.now c.loop-code.kinds c.loop-code.args c.loop-code.from c.loop-code.n c.loop-code.invariant
+    c.in-Good.held c.in-Good.next good in
     let t = c.loop-code.invariant in omega (arith, onward, t.room.0, t.long.0, t.count)
 
 pub offset_bounds-args-n : goal.offset_bounds-args-n
 offset_bounds-args-n c =
-    let good : Good c.in-Good.held c.in-Good.next ≡ row_step_at c.args.body.now c.loop-code.from = sym c.in-Good.is ∙ c.take_step-s.ensures in
-    let onward : Inside c.args.body.now c.loop-code.from c.in-Good.next = turn_inside c.args.body.now c.args.kinds.now c.args.args.now c.loop-code.kinds c.loop-code.args c.loop-code.from c.loop-code.n c.loop-code.invariant c.in-Good.held
-    c.in-Good.next good in
+    let good : Good c.in-Good.held c.in-Good.next
+    ≡ row_step_at c.args.body.now c.loop-code.from = sym c.in-Good.is ∙ c.take_step-s.ensures in
+    let onward : Inside c.args.body.now c.loop-code.from c.in-Good.next = turn_inside c.args.body.now c.args.kinds.now
+    c.args.args.now c.loop-code.kinds c.loop-code.args c.loop-code.from c.loop-code.n c.loop-code.invariant
+    c.in-Good.held c.in-Good.next good in
     let t = c.loop-code.invariant in
     omega (arith, onward, t.room.1, t.long.1, t.count, c.well_formed)
 
 pub bounds-args-n : goal.bounds-args-n
 bounds-args-n c =
-    let good : Good c.in-Good.held c.in-Good.next ≡ row_step_at c.args.body.now c.loop-code.from = sym c.in-Good.is ∙ c.take_step-s.ensures in
-    let onward : Inside c.args.body.now c.loop-code.from c.in-Good.next = turn_inside c.args.body.now c.args.kinds.now c.args.args.now c.loop-code.kinds c.loop-code.args c.loop-code.from c.loop-code.n c.loop-code.invariant c.in-Good.held
-    c.in-Good.next good in
+    let good : Good c.in-Good.held c.in-Good.next
+    ≡ row_step_at c.args.body.now c.loop-code.from = sym c.in-Good.is ∙ c.take_step-s.ensures in
+    let onward : Inside c.args.body.now c.loop-code.from c.in-Good.next = turn_inside c.args.body.now c.args.kinds.now
+    c.args.args.now c.loop-code.kinds c.loop-code.args c.loop-code.from c.loop-code.n c.loop-code.invariant
+    c.in-Good.held c.in-Good.next good in
     let t = c.loop-code.invariant in omega (arith, onward, t.room.1, t.long.1, t.count)
 
 pub overflow_add-n : goal.overflow_add-n
 overflow_add-n c =
-    let good : Good c.in-Good.held c.in-Good.next ≡ row_step_at c.args.body.now c.loop-code.from = sym c.in-Good.is ∙ c.take_step-s.ensures in
-    let onward : Inside c.args.body.now c.loop-code.from c.in-Good.next = turn_inside c.args.body.now c.args.kinds.now c.args.args.now c.loop-code.kinds c.loop-code.args c.loop-code.from c.loop-code.n c.loop-code.invariant c.in-Good.held
-    c.in-Good.next good in
+    let good : Good c.in-Good.held c.in-Good.next
+    ≡ row_step_at c.args.body.now c.loop-code.from = sym c.in-Good.is ∙ c.take_step-s.ensures in
+    let onward : Inside c.args.body.now c.loop-code.from c.in-Good.next = turn_inside c.args.body.now c.args.kinds.now
+    c.args.args.now c.loop-code.kinds c.loop-code.args c.loop-code.from c.loop-code.n c.loop-code.invariant
+    c.in-Good.held c.in-Good.next good in
     omega (arith, onward, c.loop-code.invariant.count, c.well_formed)
 
 pub loop-code-smaller : goal.loop-code-smaller
 loop-code-smaller c =
-    let good : Good c.in-Good.held c.in-Good.next ≡ row_step_at c.args.body.now c.loop-code.from = sym c.in-Good.is ∙ c.take_step-s.ensures in
-    let onward : Inside c.args.body.now c.loop-code.from c.in-Good.next = turn_inside c.args.body.now c.args.kinds.now c.args.args.now c.loop-code.kinds c.loop-code.args c.loop-code.from c.loop-code.n c.loop-code.invariant c.in-Good.held
-    c.in-Good.next good in
+    let good : Good c.in-Good.held c.in-Good.next
+    ≡ row_step_at c.args.body.now c.loop-code.from = sym c.in-Good.is ∙ c.take_step-s.ensures in
+    let onward : Inside c.args.body.now c.loop-code.from c.in-Good.next = turn_inside c.args.body.now c.args.kinds.now
+    c.args.args.now c.loop-code.kinds c.loop-code.args c.loop-code.from c.loop-code.n c.loop-code.invariant
+    c.in-Good.held c.in-Good.next good in
     omega (arith, onward)
 
 pub loop-code-preserved : goal.loop-code-preserved
 loop-code-preserved c =
-    let good : Good c.in-Good.held c.in-Good.next ≡ row_step_at c.args.body.now c.loop-code.from = sym c.in-Good.is ∙ c.take_step-s.ensures in
-    turn_next c.args.body.now c.args.kinds.now c.args.args.now c.loop-code.kinds c.loop-code.args c.loop-code.from c.loop-code.n c.loop-code.invariant c.in-Good.held c.in-Good.next
+    let good : Good c.in-Good.held c.in-Good.next
+    ≡ row_step_at c.args.body.now c.loop-code.from = sym c.in-Good.is ∙ c.take_step-s.ensures in
+    turn_next c.args.body.now c.args.kinds.now c.args.args.now c.loop-code.kinds c.loop-code.args c.loop-code.from
+    c.loop-code.n c.loop-code.invariant c.in-Good.held c.in-Good.next
     good

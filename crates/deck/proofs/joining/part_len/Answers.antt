@@ -18,7 +18,8 @@ overflow_sub-result c =
 pub returns-then-dots_at : goal.returns-then-dots_at
 unfolding dotted
 returns-then-dots_at c =
-    let test_is : (b : Bool) → c.dots_at.result ≡ b → dotted c.args.line.now ≡ b = λ b t. ap (dots_at c.args.line.now) (sym c.trim-n.ensures.value)
+    let test_is : (b : Bool) → c.dots_at.result ≡ b
+    → dotted c.args.line.now ≡ b = λ b t. ap (dots_at c.args.line.now) (sym c.trim-n.ensures.value)
     ∙ sym c.dots_at.ensures ∙ t in
     let l = c.args.line.now in
     omega (arith, part_dotted l (test_is _ c.if-dots_at.true), c.trim-n.ensures.value)
@@ -26,6 +27,7 @@ returns-then-dots_at c =
 pub returns : goal.returns
 unfolding dotted
 returns c =
-    let test_is : (b : Bool) → c.dots_at.result ≡ b → dotted c.args.line.now ≡ b = λ b t. ap (dots_at c.args.line.now) (sym c.trim-n.ensures.value)
+    let test_is : (b : Bool) → c.dots_at.result ≡ b
+    → dotted c.args.line.now ≡ b = λ b t. ap (dots_at c.args.line.now) (sym c.trim-n.ensures.value)
     ∙ sym c.dots_at.ensures ∙ t in
     sym (part_plain c.args.line.now (test_is _ c.if-dots_at.false))

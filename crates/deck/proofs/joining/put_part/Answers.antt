@@ -10,14 +10,16 @@ use Rattle.deck.proofs.joining.put_part.Goals as goal
 
 pub slice_bounds-put_bytes-end : goal.slice_bounds-put_bytes-end
 slice_bounds-put_bytes-end c =
-    let within : c.part_len-n.result ≤ length c.args.line.now = omega (arith, part_le c.args.line.now, c.part_len-n.ensures) in
+    let within : c.part_len-n.result ≤ length c.args.line.now = omega
+    (arith, part_le c.args.line.now, c.part_len-n.ensures) in
     sym
     (length-take-le c.part_len-n.result c.args.line.now
     within)
 
 pub overflow_add-result : goal.overflow_add-result
 overflow_add-result c =
-    let within : c.part_len-n.result ≤ length c.args.line.now = omega (arith, part_le c.args.line.now, c.part_len-n.ensures) in
+    let within : c.part_len-n.result ≤ length c.args.line.now = omega
+    (arith, part_le c.args.line.now, c.part_len-n.ensures) in
     omega (arith, within)
 
 pub returns : goal.returns

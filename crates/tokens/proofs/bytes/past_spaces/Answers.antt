@@ -27,29 +27,34 @@ returns-then-byte_at-ne32 c =
 
 pub overflow_add-i : goal.overflow_add-i
 overflow_add-i c =
-    let first : is_space (get_or c.args.body.now c.args.from 0) ≡ true = yes c.args.body.now c.args.from c.byte_at.result c.byte_at.ensures c.if-byte_at-ne32.false in
+    let first : is_space (get_or c.args.body.now c.args.from 0)
+    ≡ true = yes c.args.body.now c.args.from c.byte_at.result c.byte_at.ensures c.if-byte_at-ne32.false in
     omega (arith, inside is_space c.args.body.now c.args.from refl first)
 
 pub loop-i-init : goal.loop-i-init
 loop-i-init c =
-    let first : is_space (get_or c.args.body.now c.args.from 0) ≡ true = yes c.args.body.now c.args.from c.byte_at.result c.byte_at.ensures c.if-byte_at-ne32.false in
+    let first : is_space (get_or c.args.body.now c.args.from 0)
+    ≡ true = yes c.args.body.now c.args.from c.byte_at.result c.byte_at.ensures c.if-byte_at-ne32.false in
     sym (run_len is_space c.args.body.now c.args.from refl first)
 
 pub overflow_add-i-in-loop-i : goal.overflow_add-i-in-loop-i
 overflow_add-i-in-loop-i c =
-    let next : is_space (get_or c.args.body.now c.loop-i.i 0) ≡ true = yes c.args.body.now c.loop-i.i c.byte_at-in-loop-i.result c.byte_at-in-loop-i.ensures c.loop-i-test.true in
+    let next : is_space (get_or c.args.body.now c.loop-i.i 0)
+    ≡ true = yes c.args.body.now c.loop-i.i c.byte_at-in-loop-i.result c.byte_at-in-loop-i.ensures c.loop-i-test.true in
     let within : c.loop-i.i < length c.args.body.now = inside is_space c.args.body.now _ refl next in
     omega (arith, within)
 
 pub loop-i-smaller : goal.loop-i-smaller
 loop-i-smaller c =
-    let next : is_space (get_or c.args.body.now c.loop-i.i 0) ≡ true = yes c.args.body.now c.loop-i.i c.byte_at-in-loop-i.result c.byte_at-in-loop-i.ensures c.loop-i-test.true in
+    let next : is_space (get_or c.args.body.now c.loop-i.i 0)
+    ≡ true = yes c.args.body.now c.loop-i.i c.byte_at-in-loop-i.result c.byte_at-in-loop-i.ensures c.loop-i-test.true in
     let within : c.loop-i.i < length c.args.body.now = inside is_space c.args.body.now _ refl next in
     omega (arith, within)
 
 pub loop-i-preserved : goal.loop-i-preserved
 loop-i-preserved c =
-    let next : is_space (get_or c.args.body.now c.loop-i.i 0) ≡ true = yes c.args.body.now c.loop-i.i c.byte_at-in-loop-i.result c.byte_at-in-loop-i.ensures c.loop-i-test.true in
+    let next : is_space (get_or c.args.body.now c.loop-i.i 0)
+    ≡ true = yes c.args.body.now c.loop-i.i c.byte_at-in-loop-i.result c.byte_at-in-loop-i.ensures c.loop-i-test.true in
     sym (run_len is_space c.args.body.now _ refl next) ∙ c.loop-i.invariant
 
 pub returns : goal.returns

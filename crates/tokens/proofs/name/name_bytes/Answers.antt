@@ -23,14 +23,18 @@ loop-n-init c =
 
 pub loop-n-preserved : goal.loop-n-preserved
 loop-n-preserved c =
-    let test_is : (b : Bool) → c.is_word.result ≡ b → is_word (get_or c.args.body.now (c.args.at + c.loop-n.n) 0) ≡ b = λ b t. ap is_word (sym c.byte_at.ensures) ∙ sym c.is_word.ensures ∙ t in
+    let test_is : (b : Bool) → c.is_word.result ≡ b
+    → is_word (get_or c.args.body.now (c.args.at + c.loop-n.n) 0)
+    ≡ b = λ b t. ap is_word (sym c.byte_at.ensures) ∙ sym c.is_word.ensures ∙ t in
     let w = test_is _ c.if-is_word.true in
     let i = inside is_word c.args.body.now (c.args.at + c.loop-n.n) refl w in
     (omega arith, omega (arith, i), more c.args.body.now c.args.at c.loop-n.n w ∙ c.loop-n.invariant.2)
 
 pub returns-else-is_word : goal.returns-else-is_word
 returns-else-is_word c =
-    let test_is : (b : Bool) → c.is_word.result ≡ b → is_word (get_or c.args.body.now (c.args.at + c.loop-n.n) 0) ≡ b = λ b t. ap is_word (sym c.byte_at.ensures) ∙ sym c.is_word.ensures ∙ t in
+    let test_is : (b : Bool) → c.is_word.result ≡ b
+    → is_word (get_or c.args.body.now (c.args.at + c.loop-n.n) 0)
+    ≡ b = λ b t. ap is_word (sym c.byte_at.ensures) ∙ sym c.is_word.ensures ∙ t in
     let e = run_stop is_word c.args.body.now (c.args.at + c.loop-n.n) (test_is _ c.if-is_word.false) in
     omega (arith, c.loop-n.invariant, ap length e)
 

@@ -8,7 +8,8 @@ use Rattle.tokens.proofs.name.name_bytes.Given as goal
 
 abbrev pub invariant-loop-n : goal.invariant-loop-n
 invariant-loop-n l =
-    (l.n ≤ name_bytes + 1) × (l.at + l.n ≤ length l.body) × (l.n + length (word_at l.body (l.at + l.n)) ≡ length (word_at l.body l.at))
+    (l.n ≤ name_bytes + 1) × (l.at + l.n ≤ length l.body)
+    × (l.n + length (word_at l.body (l.at + l.n)) ≡ length (word_at l.body l.at))
 
 abbrev pub decreases-loop-n : goal.decreases-loop-n
 decreases-loop-n l =

@@ -17,24 +17,34 @@ loop-v-init c =
 
 pub overflow_add-i : goal.overflow_add-i
 overflow_add-i c =
-    let test_is : (b : Bool) → c.is_digit.result ≡ b → is_digit (get_or c.args.body.now c.loop-v.i 0) ≡ b = λ b t. ap is_digit (sym c.loop-v.invariant.3) ∙ sym c.is_digit.ensures ∙ t in
-    let within : c.loop-v.i < length c.args.body.now = inside is_digit c.args.body.now _ refl (test_is _ c.loop-v-test.true) in
+    let test_is : (b : Bool) → c.is_digit.result ≡ b
+    → is_digit (get_or c.args.body.now c.loop-v.i 0)
+    ≡ b = λ b t. ap is_digit (sym c.loop-v.invariant.3) ∙ sym c.is_digit.ensures ∙ t in
+    let within : c.loop-v.i < length c.args.body.now = inside is_digit c.args.body.now _ refl
+    (test_is _ c.loop-v-test.true) in
     omega (arith, within)
 
 pub loop-v-smaller : goal.loop-v-smaller
 loop-v-smaller c =
-    let test_is : (b : Bool) → c.is_digit.result ≡ b → is_digit (get_or c.args.body.now c.loop-v.i 0) ≡ b = λ b t. ap is_digit (sym c.loop-v.invariant.3) ∙ sym c.is_digit.ensures ∙ t in
-    let within : c.loop-v.i < length c.args.body.now = inside is_digit c.args.body.now _ refl (test_is _ c.loop-v-test.true) in
+    let test_is : (b : Bool) → c.is_digit.result ≡ b
+    → is_digit (get_or c.args.body.now c.loop-v.i 0)
+    ≡ b = λ b t. ap is_digit (sym c.loop-v.invariant.3) ∙ sym c.is_digit.ensures ∙ t in
+    let within : c.loop-v.i < length c.args.body.now = inside is_digit c.args.body.now _ refl
+    (test_is _ c.loop-v-test.true) in
     omega (arith, within)
 
 pub loop-v-preserved : goal.loop-v-preserved
 loop-v-preserved c =
-    let test_is : (b : Bool) → c.is_digit.result ≡ b → is_digit (get_or c.args.body.now c.loop-v.i 0) ≡ b = λ b t. ap is_digit (sym c.loop-v.invariant.3) ∙ sym c.is_digit.ensures ∙ t in
+    let test_is : (b : Bool) → c.is_digit.result ≡ b
+    → is_digit (get_or c.args.body.now c.loop-v.i 0)
+    ≡ b = λ b t. ap is_digit (sym c.loop-v.invariant.3) ∙ sym c.is_digit.ensures ∙ t in
     let d = test_is _ c.loop-v-test.true in
     let more =
-    run_more is_digit c.args.body.now c.loop-v.i refl d ∙ ap (λ (x : ℕ). x ∷ digits_at c.args.body.now (c.loop-v.i + 1)) (sym c.loop-v.invariant.3) in (
+    run_more is_digit c.args.body.now c.loop-v.i refl d
+    ∙ ap (λ (x : ℕ). x ∷ digits_at c.args.body.now (c.loop-v.i + 1)) (sym c.loop-v.invariant.3) in (
       sym (run_len is_digit c.args.body.now _ refl d) ∙ c.loop-v.invariant.0,
-      decimal_more c.loop-v.v c.with_digit-v.result _ (digits_at c.args.body.now (c.loop-v.i + 1)) (digits_at c.args.body.now c.loop-v.i)
+      decimal_more c.loop-v.v c.with_digit-v.result _ (digits_at c.args.body.now (c.loop-v.i + 1))
+          (digits_at c.args.body.now c.loop-v.i)
           c.with_digit-v.ensures more
           ∙ c.loop-v.invariant.1,
       omega (arith, c.with_digit-v.ensures),
@@ -43,9 +53,12 @@ loop-v-preserved c =
 
 pub returns : goal.returns
 returns c =
-    let test_is : (b : Bool) → c.is_digit.result ≡ b → is_digit (get_or c.args.body.now c.loop-v.i 0) ≡ b = λ b t. ap is_digit (sym c.loop-v.invariant.3) ∙ sym c.is_digit.ensures ∙ t in
+    let test_is : (b : Bool) → c.is_digit.result ≡ b
+    → is_digit (get_or c.args.body.now c.loop-v.i 0)
+    ≡ b = λ b t. ap is_digit (sym c.loop-v.invariant.3) ∙ sym c.is_digit.ensures ∙ t in
     let d = test_is _ c.loop-v-test.false in
-    let value = decimal_stop c.loop-v.v (digits_at c.args.body.now c.loop-v.i) c.loop-v.invariant.2 (run_stop is_digit c.args.body.now c.loop-v.i d)
+    let value = decimal_stop c.loop-v.v (digits_at c.args.body.now c.loop-v.i) c.loop-v.invariant.2
+    (run_stop is_digit c.args.body.now c.loop-v.i d)
     ∙ c.loop-v.invariant.1 in
     let end = sym (run_end is_digit c.args.body.now c.loop-v.i d) ∙ c.loop-v.invariant.0 in
     let behind = c.loop-v.invariant.3 ∙ ap (λ (i : ℕ). get_or c.args.body.now i 0) end in

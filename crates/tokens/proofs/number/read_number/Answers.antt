@@ -21,11 +21,15 @@ read_exponent-e-requires c =
 
 pub returns-then-is_tail : goal.returns-then-is_tail
 returns-then-is_tail c =
-    let found : (p : Power) → c.read_exponent-e.result ≡ p → end_of c.args.body.now c.args.at (digits_from c.args.body.now c.args.at) p ≡ number_cut c.args.body.now c.args.at = λ p e. through c.args.body.now c.args.at c.read_mantissa-m.result c.read_mantissa-m.ensures c.if-count-eq0.false p (sym e ∙ c.read_exponent-e.ensures) in
-    let tail_is : (b : Bool) → c.is_tail.result ≡ b → (is_word c.in-Of.tail || is_point c.in-Of.tail) ≡ b = λ b t. sym c.is_tail.ensures ∙ t in
+    let found : (p : Power) → c.read_exponent-e.result ≡ p
+    → end_of c.args.body.now c.args.at (digits_from c.args.body.now c.args.at) p
+    ≡ number_cut c.args.body.now c.args.at = λ p e. through c.args.body.now c.args.at c.read_mantissa-m.result
+    c.read_mantissa-m.ensures c.if-count-eq0.false p (sym e ∙ c.read_exponent-e.ensures) in
+    let tail_is : (b : Bool) → c.is_tail.result ≡ b
+    → (is_word c.in-Of.tail || is_point c.in-Of.tail) ≡ b = λ b t. sym c.is_tail.ensures ∙ t in
     c.bad-then-is_tail.ensures
-    ∙ tail_after c.args.body.now c.args.at c.read_mantissa-m.result c.read_mantissa-m.ensures c.in-Of.up c.in-Of.down c.in-Of.stop c.in-Of.tail
-    (tail_is _ c.if-is_tail.true)
+    ∙ tail_after c.args.body.now c.args.at c.read_mantissa-m.result c.read_mantissa-m.ensures c.in-Of.up c.in-Of.down
+    c.in-Of.stop c.in-Of.tail (tail_is _ c.if-is_tail.true)
     ∙ found _ c.in-Of.is
 
 pub overflow_add-down : goal.overflow_add-down
@@ -40,14 +44,21 @@ overflow_add-down c =
 
 pub returns-in-Wrong : goal.returns-in-Wrong
 returns-in-Wrong c =
-    let found : (p : Power) → c.read_exponent-e.result ≡ p → end_of c.args.body.now c.args.at (digits_from c.args.body.now c.args.at) p ≡ number_cut c.args.body.now c.args.at = λ p e. through c.args.body.now c.args.at c.read_mantissa-m.result c.read_mantissa-m.ensures c.if-count-eq0.false p (sym e ∙ c.read_exponent-e.ensures) in
+    let found : (p : Power) → c.read_exponent-e.result ≡ p
+    → end_of c.args.body.now c.args.at (digits_from c.args.body.now c.args.at) p
+    ≡ number_cut c.args.body.now c.args.at = λ p e. through c.args.body.now c.args.at c.read_mantissa-m.result
+    c.read_mantissa-m.ensures c.if-count-eq0.false p (sym e ∙ c.read_exponent-e.ensures) in
     c.bad-in-Wrong.ensures ∙ found Wrong c.in-Wrong.is
 
 pub returns-else-is_tail : goal.returns-else-is_tail
 returns-else-is_tail c =
-    let found : (p : Power) → c.read_exponent-e.result ≡ p → end_of c.args.body.now c.args.at (digits_from c.args.body.now c.args.at) p ≡ number_cut c.args.body.now c.args.at = λ p e. through c.args.body.now c.args.at c.read_mantissa-m.result c.read_mantissa-m.ensures c.if-count-eq0.false p (sym e ∙ c.read_exponent-e.ensures) in
-    let tail_is : (b : Bool) → c.is_tail.result ≡ b → (is_word c.in-Of.tail || is_point c.in-Of.tail) ≡ b = λ b t. sym c.is_tail.ensures ∙ t in
-    no_tail c.args.body.now c.args.at c.read_mantissa-m.result c.read_mantissa-m.ensures c.in-Of.up c.in-Of.down c.in-Of.stop c.in-Of.tail
-    (tail_is _ c.if-is_tail.false)
+    let found : (p : Power) → c.read_exponent-e.result ≡ p
+    → end_of c.args.body.now c.args.at (digits_from c.args.body.now c.args.at) p
+    ≡ number_cut c.args.body.now c.args.at = λ p e. through c.args.body.now c.args.at c.read_mantissa-m.result
+    c.read_mantissa-m.ensures c.if-count-eq0.false p (sym e ∙ c.read_exponent-e.ensures) in
+    let tail_is : (b : Bool) → c.is_tail.result ≡ b
+    → (is_word c.in-Of.tail || is_point c.in-Of.tail) ≡ b = λ b t. sym c.is_tail.ensures ∙ t in
+    no_tail c.args.body.now c.args.at c.read_mantissa-m.result c.read_mantissa-m.ensures c.in-Of.up c.in-Of.down
+    c.in-Of.stop c.in-Of.tail (tail_is _ c.if-is_tail.false)
     c.scaled.result c.scaled.ensures
     ∙ found _ c.in-Of.is

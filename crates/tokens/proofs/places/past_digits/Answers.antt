@@ -8,7 +8,8 @@ use Rattle.tokens.proofs.places.past_digits.Goals as goal
 
 pub loop-i-preserved : goal.loop-i-preserved
 loop-i-preserved c =
-    let passes : is_digit (get_or c.args.body.now c.loop-i.i 0) ≡ true = sym (ap is_digit c.byte_at.ensures) ∙ sym c.is_digit.ensures ∙ c.if-is_digit.true in
+    let passes : is_digit (get_or c.args.body.now c.loop-i.i 0)
+    ≡ true = sym (ap is_digit c.byte_at.ensures) ∙ sym c.is_digit.ensures ∙ c.if-is_digit.true in
     sym (run_len is_digit c.args.body.now c.loop-i.i refl passes) ∙ c.loop-i.invariant
 
 pub returns-else-is_digit : goal.returns-else-is_digit

@@ -11,14 +11,20 @@ use Rattle.tokens.proofs.places.past_token.Goals as goal
 pub returns-then-is_letter : goal.returns-then-is_letter
 unfolding token_end
 returns-then-is_letter c =
-    let letter : (v : Bool) → c.is_letter.result ≡ v → is_letter (get_or c.args.body.now c.args.at 0) ≡ v = λ v e. sym (ap is_letter c.byte_at-b.ensures) ∙ sym c.is_letter.ensures ∙ e in
+    let letter : (v : Bool) → c.is_letter.result ≡ v
+    → is_letter (get_or c.args.body.now c.args.at 0)
+    ≡ v = λ v e. sym (ap is_letter c.byte_at-b.ensures) ∙ sym c.is_letter.ensures ∙ e in
     rw (letter _ c.if-is_letter.true) c.past_word.ensures
 
 pub returns-then-is_figure : goal.returns-then-is_figure
 unfolding token_end
 returns-then-is_figure c =
-    let letter : (v : Bool) → c.is_letter.result ≡ v → is_letter (get_or c.args.body.now c.args.at 0) ≡ v = λ v e. sym (ap is_letter c.byte_at-b.ensures) ∙ sym c.is_letter.ensures ∙ e in
-    let figure : (v : Bool) → c.is_figure.result ≡ v → let b = get_or c.args.body.now c.args.at 0 in (is_digit b || is_point b) ≡ v = λ v e. sym (ap (λ (b : ℕ). is_digit b || is_point b) c.byte_at-b.ensures)
+    let letter : (v : Bool) → c.is_letter.result ≡ v
+    → is_letter (get_or c.args.body.now c.args.at 0)
+    ≡ v = λ v e. sym (ap is_letter c.byte_at-b.ensures) ∙ sym c.is_letter.ensures ∙ e in
+    let figure : (v : Bool) → c.is_figure.result ≡ v
+    → let b = get_or c.args.body.now c.args.at 0 in (is_digit b || is_point b)
+    ≡ v = λ v e. sym (ap (λ (b : ℕ). is_digit b || is_point b) c.byte_at-b.ensures)
     ∙ sym c.is_figure.ensures ∙ e in
     let a = c.args in
     rw (letter _ c.if-is_letter.false, figure _ c.if-is_figure.true)
@@ -29,15 +35,23 @@ returns-then-is_figure c =
 pub returns-then-at-body : goal.returns-then-at-body
 unfolding token_end
 returns-then-at-body c =
-    let letter : (v : Bool) → c.is_letter.result ≡ v → is_letter (get_or c.args.body.now c.args.at 0) ≡ v = λ v e. sym (ap is_letter c.byte_at-b.ensures) ∙ sym c.is_letter.ensures ∙ e in
-    let figure : (v : Bool) → c.is_figure.result ≡ v → let b = get_or c.args.body.now c.args.at 0 in (is_digit b || is_point b) ≡ v = λ v e. sym (ap (λ (b : ℕ). is_digit b || is_point b) c.byte_at-b.ensures)
+    let letter : (v : Bool) → c.is_letter.result ≡ v
+    → is_letter (get_or c.args.body.now c.args.at 0)
+    ≡ v = λ v e. sym (ap is_letter c.byte_at-b.ensures) ∙ sym c.is_letter.ensures ∙ e in
+    let figure : (v : Bool) → c.is_figure.result ≡ v
+    → let b = get_or c.args.body.now c.args.at 0 in (is_digit b || is_point b)
+    ≡ v = λ v e. sym (ap (λ (b : ℕ). is_digit b || is_point b) c.byte_at-b.ensures)
     ∙ sym c.is_figure.ensures ∙ e in
     rw (letter _ c.if-is_letter.false, figure _ c.if-is_figure.false, lt-ltb _ _ c.if-at-body.true) refl
 
 pub returns : goal.returns
 unfolding token_end
 returns c =
-    let letter : (v : Bool) → c.is_letter.result ≡ v → is_letter (get_or c.args.body.now c.args.at 0) ≡ v = λ v e. sym (ap is_letter c.byte_at-b.ensures) ∙ sym c.is_letter.ensures ∙ e in
-    let figure : (v : Bool) → c.is_figure.result ≡ v → let b = get_or c.args.body.now c.args.at 0 in (is_digit b || is_point b) ≡ v = λ v e. sym (ap (λ (b : ℕ). is_digit b || is_point b) c.byte_at-b.ensures)
+    let letter : (v : Bool) → c.is_letter.result ≡ v
+    → is_letter (get_or c.args.body.now c.args.at 0)
+    ≡ v = λ v e. sym (ap is_letter c.byte_at-b.ensures) ∙ sym c.is_letter.ensures ∙ e in
+    let figure : (v : Bool) → c.is_figure.result ≡ v
+    → let b = get_or c.args.body.now c.args.at 0 in (is_digit b || is_point b)
+    ≡ v = λ v e. sym (ap (λ (b : ℕ). is_digit b || is_point b) c.byte_at-b.ensures)
     ∙ sym c.is_figure.ensures ∙ e in
     rw (letter _ c.if-is_letter.false, figure _ c.if-is_figure.false, le-ltb _ _ c.if-at-body.false) refl

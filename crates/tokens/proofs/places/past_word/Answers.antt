@@ -8,7 +8,8 @@ use Rattle.tokens.proofs.places.past_word.Goals as goal
 
 pub loop-i-preserved : goal.loop-i-preserved
 loop-i-preserved c =
-    let passes : is_word (get_or c.args.body.now c.loop-i.i 0) ≡ true = sym (ap is_word c.byte_at.ensures) ∙ sym c.is_word.ensures ∙ c.if-is_word.true in
+    let passes : is_word (get_or c.args.body.now c.loop-i.i 0)
+    ≡ true = sym (ap is_word c.byte_at.ensures) ∙ sym c.is_word.ensures ∙ c.if-is_word.true in
     sym (run_len is_word c.args.body.now c.loop-i.i refl passes) ∙ c.loop-i.invariant
 
 pub returns-else-is_word : goal.returns-else-is_word

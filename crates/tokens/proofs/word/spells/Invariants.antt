@@ -7,7 +7,8 @@ use Rattle.tokens.proofs.word.spells.Given as goal
 
 abbrev pub invariant-loop-i : goal.invariant-loop-i
 invariant-loop-i l =
-    (length l.name ≡ length l.word) × (l.i ≤ length l.word) × (same_bytes (drop l.i l.name) (drop l.i l.word) ≡ same_bytes l.name l.word)
+    (length l.name ≡ length l.word) × (l.i ≤ length l.word)
+    × (same_bytes (drop l.i l.name) (drop l.i l.word) ≡ same_bytes l.name l.word)
 
 abbrev pub decreases-loop-i : goal.decreases-loop-i
 decreases-loop-i l =
