@@ -170,7 +170,8 @@ module _ {t : Reached} {l : List ℕ} {i : Instr} {r : Reached} where
   pub found_value : {y : Float} → i ≡ Value y → Stands t l → r ≡ pushed t → Judges t l (rule_of (shape_of i)) r l
   found_value e w z = rw e (pushes w (fold_rule 0) refl refl refl refl refl z)
 
-  pub found_fold : {x : Instr} {n : ℕ} → i ≡ x → Stands t l → r ≡ folded t n → rule_of (shape_of x) ≡ fold_rule n → 0 < n
+  pub found_fold : {x : Instr} {n : ℕ} → i ≡ x → Stands t l → r ≡ folded t n → rule_of (shape_of x) ≡ fold_rule n
+      → 0 < n
       → Judges t l (rule_of (shape_of i)) r l
   found_fold {x} {n} e w z f h = rw (e, f) (folds w n h z)
 

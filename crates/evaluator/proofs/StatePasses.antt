@@ -52,7 +52,8 @@ later_phase (StoreAgain s) h = refl
 later_phase Bad h = refl
 
 -- so it has no initial value
-pub late_shape : (f : ℕ → Float → List Float) (v : List Float) (s : Shape) → 2 < (rule_of s).phase → v ≡ if_initial f v s
+pub late_shape : (f : ℕ → Float → List Float) (v : List Float) (s : Shape) → 2 < (rule_of s).phase
+    → v ≡ if_initial f v s
 late_shape f v (constant s x) h = refl
 late_shape f v (initial s x) h = absurd (omega arith)
 late_shape f v (push p) h = refl

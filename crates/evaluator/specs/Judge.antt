@@ -1,5 +1,6 @@
 -- Which programs are accepted: the first bad record, then what the end finds.
-use Rattle.std.specs.Prelude.{ℕ, suc, ◌+◌, ◌-◌, Bool, true, false, not, ◌&&◌, ◌||◌, cond, List, [], ◌∷◌, eqb, leb, get_or, set, replicate}
+use Rattle.std.specs.Prelude.{ℕ, suc, ◌+◌, ◌-◌, Bool, true, false, not, ◌&&◌, ◌||◌, cond, List, [], ◌∷◌, eqb, leb}
+use Rattle.std.specs.Prelude.{get_or, set, replicate}
 use Rattle.limits.specs.Limits.{slots, stack_places}
 use Rattle.records.specs.declared.Instr.{Instr}
 use Rattle.records.specs.Shape.{value, slot, operands}

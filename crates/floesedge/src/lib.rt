@@ -1,4 +1,4 @@
-// The library that other languages link: the translator and the evaluator with answers of fixed layout.
+// What other languages call: the translator and the evaluator with answers of fixed layout. floesedge_c exports it.
 #![tactic(auto)]
 
 ghost use Rattle.std.specs.Prelude.{◌≡◌, ◌≤◌};
@@ -46,12 +46,7 @@ fn fixed_verdict(v: translator::Verdict) -> CVerdict
 }
 
 // Translates a text; the fault list or the program is written to the front of what is lent.
-#[unsafe(no_mangle)]
-pub extern "C" fn floesedge_translate(
-    text: &[u8],
-    faults: &mut [u8],
-    program: &mut [u8],
-) -> CVerdict
+pub fn floesedge_translate(text: &[u8], faults: &mut [u8], program: &mut [u8]) -> CVerdict
     ensures { TranslatesFixed text.now faults.old program.old result
         faults.new program.new }
 {
@@ -71,8 +66,7 @@ fn fixed_named(v: translator::Named) -> CVerdict
 }
 
 // Names the slots of a text; the fault list or the roster is written to the front of what is lent.
-#[unsafe(no_mangle)]
-pub extern "C" fn floesedge_names(text: &[u8], faults: &mut [u8], names: &mut [u8]) -> CVerdict
+pub fn floesedge_names(text: &[u8], faults: &mut [u8], names: &mut [u8]) -> CVerdict
     ensures { NamesFixed text.now faults.old names.old result
         faults.new names.new }
 {
@@ -91,12 +85,7 @@ fn fixed_answer(a: evaluator::Answer) -> CAnswer
 }
 
 // Evaluates a program: writes its constants, its stored slots and the derivatives of its states.
-#[unsafe(no_mangle)]
-pub extern "C" fn floesedge_evaluate(
-    program: &[u8],
-    values: &mut [f64],
-    derivs: &mut [f64],
-) -> CAnswer
+pub fn floesedge_evaluate(program: &[u8], values: &mut [f64], derivs: &mut [f64]) -> CAnswer
     ensures { EvaluatesFixed program.now values.old derivs.old result
         values.new derivs.new }
 {
@@ -104,8 +93,7 @@ pub extern "C" fn floesedge_evaluate(
 }
 
 // Starts a program: slot 0 is 0, and each state has its initial value.
-#[unsafe(no_mangle)]
-pub extern "C" fn floesedge_start(program: &[u8], values: &mut [f64], derivs: &mut [f64]) -> CAnswer
+pub fn floesedge_start(program: &[u8], values: &mut [f64], derivs: &mut [f64]) -> CAnswer
     ensures { StartsFixed program.now values.old derivs.old result
         values.new derivs.new }
 {
@@ -113,13 +101,7 @@ pub extern "C" fn floesedge_start(program: &[u8], values: &mut [f64], derivs: &m
 }
 
 // One Euler step of h: evaluates, then moves each state and slot 0.
-#[unsafe(no_mangle)]
-pub extern "C" fn floesedge_step(
-    program: &[u8],
-    h: f64,
-    values: &mut [f64],
-    derivs: &mut [f64],
-) -> CAnswer
+pub fn floesedge_step(program: &[u8], h: f64, values: &mut [f64], derivs: &mut [f64]) -> CAnswer
     ensures { StepsFixed program.now h values.old derivs.old result
         values.new derivs.new }
 {

@@ -16,4 +16,5 @@ field_out s at n h = rw (drop_of_length-le s h, take-nil n)
 -- a field is read from what stands from its place on
 pub field_part : (s : List ℕ) (at n r : ℕ) → r ≡ low_word (take n (take (length s - at) (drop at s))) → r ≡ field s at n
 field_part s at n r e =
-    e ∙ ap (λ (l : List ℕ). low_word (take n l)) (take_all (length s - at) (drop at s) (omega (arith, length-drop at s)))
+    e
+    ∙ ap (λ (l : List ℕ). low_word (take n l)) (take_all (length s - at) (drop at s) (omega (arith, length-drop at s)))

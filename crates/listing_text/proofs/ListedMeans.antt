@@ -31,7 +31,8 @@ module _ (text f p o : List ℕ) (room-faults : fault_room ≤ length f) (room-o
 
   -- what is written is what is listed of its verdict
   written_of : (v : Decision) → verdict ≡ v → Fair v
-      → written (number_of v) (count_of v) (length (lines_in v)) (faults_after v f) (sets o 0 (lines_in v)) ≡ listing_of v
+      → written (number_of v) (count_of v) (length (lines_in v)) (faults_after v f) (sets o 0 (lines_in v))
+      ≡ listing_of v
   unfolding written listing_of gather
   written_of (refused n) e h = rw (ne_eqb n 0 (λ e. omega arith)) (append-nil (head 78 79 n))
   written_of (faulty n fs) e h =

@@ -1,5 +1,6 @@
 // The listing of a text, as bytes.
 #![tactic(auto)]
+
 ghost use Rattle.std.specs.Prelude.{◌≡◌, [], ◌∷◌, ◌++◌, ◌<◌, ◌≤◌, min};
 ghost use Rattle.limits.specs.Limits.{most_records};
 ghost use Rattle.laws.specs.Places.{gather};

@@ -211,7 +211,8 @@ Few (refused n) = Unit {0}
 Few (flawed n fs) = length fs ≤ most_statements
 Few (translated rs ls) = (length rs ≤ most_records) × (length ls ≤ most_statements)
 
-few_if : (n : ℕ) (fs : List Fault) (next : Decision) → length fs ≤ most_statements → Few next → Few (if_faults n fs next)
+few_if : (n : ℕ) (fs : List Fault) (next : Decision) → length fs ≤ most_statements → Few next
+    → Few (if_faults n fs next)
 few_if n [] next h k = k
 few_if n (f ∷ fs) next h k = h
 

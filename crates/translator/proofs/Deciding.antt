@@ -22,7 +22,7 @@ use Rattle.translator.specs.declared.Verdict.{Verdict}
 use Rattle.translator.specs.declared.Verdict.TheVariants.{Refused, Faulty, Translated}
 use Rattle.translator.specs.Verdict.{if_faults, programmed}
 use Rattle.translator.specs.Contract.{ordered}
-use Rattle.translator.specs.Working.{ordered_lines, UnitsProgrammed, UnitsConclude}
+use Rattle.translator.specs.Working.{ordered_lines, UnitsConclude, UnitsConcludeFor}
 use Rattle.translator.proofs.Handing.{order_handed}
 use Rattle.translator.proofs.Concluding.{sound_plan, Conclusion, flawed, sound}
 
@@ -43,16 +43,16 @@ module _ (us : List TextUnit) (kinds args lines bounds ulines ubounds firsts : L
 
   -- what the verdict on the model leaves, where nothing is ordered
   abbrev pub Decides : Verdict → List ℕ → List ℕ → Type 0
-  Decides r f p = UnitsProgrammed us faults prog lent (ordered r 0) f p lent
+  Decides r f p = UnitsConclude us faults prog lent (ordered r 0) f p lent
 
   module _ (o : PlanOutcome) (c : Conclusion us kinds args lines bounds ulines ubounds firsts laid used faults o) where
     -- number 7
     pub decides_seven : (b : Bool) → o.plan.number ≡ 7
-        → UnitsConclude b us faults prog lent (ordered (Faulty 7 o.plan.count) 0) o.faults prog lent
+        → UnitsConcludeFor b us faults prog lent (ordered (Faulty 7 o.plan.count) 0) o.faults prog lent
     decides_seven b e = go c
       where
         go : Conclusion us kinds args lines bounds ulines ubounds firsts laid used faults o
-            → UnitsConclude b us faults prog lent (ordered (Faulty 7 o.plan.count) 0) o.faults prog lent
+            → UnitsConcludeFor b us faults prog lent (ordered (Faulty 7 o.plan.count) 0) o.faults prog lent
         go (flawed f fs m n k l) = rw (m, k, l)
         go (sound m q) = absurd (let z : 0 ≡ 7 = sym (ap (λ (x : PlanOutcome). x.plan.number) q) ∙ e in omega arith)
 
@@ -89,7 +89,7 @@ module _ (us : List TextUnit) (kinds args lines bounds ulines ubounds firsts : L
 
     -- 0: the program is written, and the order handed out
     pub decides_zero : record_count kinds ≤ most_records → record_count kinds ≤ length prog / record_bytes
-        → UnitsProgrammed us faults prog lent (ordered (Translated (record_count kinds)) (length handed)) faults
+        → UnitsConclude us faults prog lent (ordered (Translated (record_count kinds)) (length handed)) faults
         (sets prog 0 written) (sets lent 0 handed)
     decides_zero h k =
         rw (

@@ -50,8 +50,12 @@ module _ (text : List ℕ) (f p : ℕ) (room : fault_room ≤ f) (ok : Admitted 
       let bytes = not_given 2 (ltb text_bytes (length text)) _ (λ e. ok.not_two (ap number_of roomy ∙ e)) in
       let a = rw bytes at roomy in
       let lines = not_given 3 (ltb text_lines (length (lines_of text))) _ (λ e. ok.not_three (ap number_of a ∙ e)) in
-      let b = rw lines at a in
-      (bytes, lines, not_given 4 (ltb most_statements (length (sheet_of text))) _ (λ e. ok.not_four (ap number_of b ∙ e)))
+      let b = rw lines at a in (
+        bytes,
+        lines,
+        not_given 4 (ltb most_statements (length (sheet_of text))) _
+            (λ e. ok.not_four (ap number_of b ∙ e)),
+      )
 
   -- and is 5 where a statement fault stands, else found by the model
   pub by_faults : verdict_of text f p ≡ if_faults 5 (faults_of text) (modelled p (said (sheet_of text)))
@@ -138,7 +142,8 @@ module _ (P : Decision → Type 0) (refuses : (n : ℕ) → 0 < n → P (refused
 -- ---- the verdict, by the faults 24 alone
 
 -- not given for its faults: there are none, and the next is given
-no_faults_given : (n : ℕ) (fs : List Fault) (v : Decision) → (number_of (if_faults n fs v) ≡ n → ⊥) → if_faults n fs v ≡ v
+no_faults_given : (n : ℕ) (fs : List Fault) (v : Decision) → (number_of (if_faults n fs v) ≡ n → ⊥)
+    → if_faults n fs v ≡ v
 no_faults_given n [] v h = refl
 no_faults_given n (x ∷ fs) v h = absurd (h refl)
 

@@ -21,7 +21,8 @@ use Rattle.blocks.specs.Members.{settings, units_of}
 use Rattle.blocks.specs.Layout.{UnitsLaid, drafts_stated}
 use Rattle.blocks.specs.Places.{firsts_in, unit_lines_in, unit_bounds_in}
 use Rattle.blocks.specs.InsidePlaces.{rewritten_kinds}
-use Rattle.blocks.specs.Grouped.{UnitArrays, unit_arrays, GroupOutcome, group_outcome, group_refused, group_faulted, some}
+use Rattle.blocks.specs.Grouped.{UnitArrays, unit_arrays, GroupOutcome, group_outcome, group_refused}
+use Rattle.blocks.specs.Grouped.{group_faulted, some}
 use Rattle.blocks.specs.Grouped.{group_fit}
 use Rattle.blocks.specs.Grouped.{with_units, united}
 use Rattle.blocks.specs.Contract.{Groups}
@@ -36,7 +37,7 @@ use Rattle.model.proofs.LaidFits.{laid_fits}
 use Rattle.translator.specs.declared.Ordered.{Ordered}
 use Rattle.translator.specs.declared.Verdict.TheVariants.{Refused, Faulty}
 use Rattle.translator.specs.Contract.{ordered}
-use Rattle.translator.specs.Working.{unitless, ArraysReady, UnitsReady, UnitsConclude, Concludes}
+use Rattle.translator.specs.Working.{unitless, ArraysReady, UnitsReady, UnitsConcludeFor, ConcludesFor}
 use Rattle.translator.proofs.Counted.{stated_many}
 
 module _ {lines bounds kinds args used faults : List ℕ} (ready : ArraysReady lines bounds kinds args used faults)
@@ -95,19 +96,19 @@ module _ {lines bounds kinds args used faults : List ℕ} (ready : ArraysReady l
   unfolding united
   listed_zero = refl
 
-  pub says_six : g.number ≡ 6 → Concludes b ss faults out lent (ordered (Refused 6) 0) faults' out lent
+  pub says_six : g.number ≡ 6 → ConcludesFor b ss faults out lent (ordered (Refused 6) 0) faults' out lent
   says_six e = go grouped
     where
-      go : Grouped → Concludes b ss faults out lent (ordered (Refused 6) 0) faults' out lent
+      go : Grouped → ConcludesFor b ss faults out lent (ordered (Refused 6) 0) faults' out lent
       go (over t n f) = rw (t, f)
       go (flawed f fs t m n k l) = absurd (omega arith)
       go (sound t m q) = absurd
           (let z : g.number ≡ 0 = ap (λ (o : GroupOutcome). o.grouping.number) q ∙ listed_zero in omega arith)
 
-  pub says_blocks : g.number ≡ 7 → Concludes b ss faults out lent (ordered (Faulty 7 g.count) 0) faults' out lent
+  pub says_blocks : g.number ≡ 7 → ConcludesFor b ss faults out lent (ordered (Faulty 7 g.count) 0) faults' out lent
   says_blocks e = go grouped
     where
-      go : Grouped → Concludes b ss faults out lent (ordered (Faulty 7 g.count) 0) faults' out lent
+      go : Grouped → ConcludesFor b ss faults out lent (ordered (Faulty 7 g.count) 0) faults' out lent
       go (over t n f) = absurd (omega arith)
       go (flawed f fs t m n k l) = rw (t, m, k, l)
       go (sound t m q) = absurd
@@ -246,10 +247,10 @@ module _ {lines bounds kinds args used faults : List ℕ} (ready : ArraysReady l
     pub says_units : (r : Ordered) {f'' out' lent' : List ℕ}
         → ((s : UnitsReady lines bounds (take g.units ulines) (take (g.units + 1) ubounds)
         (take (g.units + 1) firsts) kinds' args used faults')
-        → UnitsConclude b s.units faults' out lent r f'' out' lent')
-        → Concludes b ss faults out lent r f'' out' lent'
+        → UnitsConcludeFor b s.units faults' out lent r f'' out' lent')
+        → ConcludesFor b ss faults out lent r f'' out' lent'
     unfolding units_ready
     says_units r {f''} {out'} {lent'} w =
-        let same : UnitsConclude b us faults out lent r f'' out' lent' =
-        subst (λ (f : List ℕ). UnitsConclude b us f out lent r f'' out' lent') units_as.2 (w units_ready) in
+        let same : UnitsConcludeFor b us faults out lent r f'' out' lent' =
+        subst (λ (f : List ℕ). UnitsConcludeFor b us f out lent r f'' out' lent') units_as.2 (w units_ready) in
         rw (clear.0, unblocked) same

@@ -10,7 +10,6 @@ use Rattle.limits.specs.Limits.{most_records, program_room, roster_bytes}
 use Rattle.laws.proofs.Tests.{cond_ind}
 use Rattle.model.specs.Definitions.{Def, definitions}
 use Rattle.model.specs.Text.{text_units}
-use Rattle.program.specs.Roster.{roster}
 use Rattle.translator.specs.Verdict.{Decision, refused, faulty, translated, verdict_of, number_of, count_of}
 use Rattle.translator.specs.Verdict.{faults_after}
 use Rattle.translator.specs.Names.{Naming, unnamed, named, naming_by, naming_of, count_naming, names_given_of}

@@ -11,9 +11,13 @@ use lib.Seq.{sets, length-sets, take_all}
 use Rattle.limits.specs.Limits.{most_definitions, most_records, record_bytes, program_room, roster_bytes}
 use Rattle.laws.proofs.Sets.{sets_back}
 use Rattle.records.specs.Record.{Rec}
+use Rattle.sheet.specs.Sheet.{Numbered}
+use Rattle.sheet.specs.Reader.{sheet_of}
 use Rattle.blocks.specs.Units.{TextUnit}
+use Rattle.blocks.specs.Members.{units_of}
 use Rattle.model.specs.Definitions.{Def, definitions}
 use Rattle.model.specs.Faults.{model_faults, order_of}
+use Rattle.model.specs.Text.{text_units}
 use Rattle.model.specs.Plan.{lent as arrays}
 use Rattle.model.specs.Contract.{Plans}
 use Rattle.model.specs.declared.answer.Plan.{Plan}
@@ -25,20 +29,44 @@ use Rattle.program.proofs.WrittenMeans.{count_meant}
 use Rattle.program.proofs.RosterFilled.{length_entries}
 use Rattle.program.proofs.RosterMeans.{entries_meant}
 use Rattle.translator.specs.declared.Ordered.{Ordered}
+use Rattle.translator.specs.declared.room.Tried.{Tried}
 use Rattle.translator.specs.declared.Verdict.TheVariants.{Refused, Translated}
 use Rattle.translator.specs.Contract.{ordered, OrderedReply, ordered_reply}
-use Rattle.translator.specs.Verdict.{refused, translated, if_faults, programmed}
-use Rattle.translator.specs.Working.{asks_names, unfilled, UnitsReady, reply_for, UnitsProgrammed, NamesWritten}
-use Rattle.translator.specs.Working.{UnitsConclude}
+use Rattle.translator.specs.Verdict.{refused, translated, if_faults, programmed, modelled, decided}
+use Rattle.translator.specs.Working.{asks_names, unfilled, UnitsReady, reply_for, UnitsConclude, NamesWritten}
+use Rattle.translator.specs.Working.{UnitsConcludeFor, Concludes, ConcludesFor, Decides, DecidesFor, Tries, TriesFor}
 use Rattle.translator.proofs.Verdicts.{reply_program}
 use Rattle.translator.proofs.Writing.{clean_plan}
 
 -- where the program is asked for
 pub concludes_program : (us : List TextUnit) (f p o : List ℕ) {r : Ordered} {f' p' o' : List ℕ}
-    → UnitsProgrammed us f p o r f' p' o'
-    → UnitsConclude false us f p o r f' p' o'
+    → UnitsConclude us f p o r f' p' o'
+    → UnitsConcludeFor false us f p o r f' p' o'
 concludes_program us f p o e =
     e ∙ sym (reply_program (if_faults 7 (model_faults us) (programmed (length p) us)) (definitions us) f p o)
+
+-- and there these say what those without `For` say
+pub plain_units : (us : List TextUnit) (f p o : List ℕ) {r : Ordered} {f' p' o' : List ℕ}
+    → UnitsConcludeFor false us f p o r f' p' o'
+    → UnitsConclude us f p o r f' p' o'
+plain_units us f p o e =
+    e ∙ reply_program (if_faults 7 (model_faults us) (programmed (length p) us)) (definitions us) f p o
+
+pub plain_statements : (ss : List Numbered) (f p o : List ℕ) {r : Ordered} {f' p' o' : List ℕ}
+    → ConcludesFor false ss f p o r f' p' o'
+    → Concludes ss f p o r f' p' o'
+plain_statements ss f p o e = e ∙ reply_program (modelled (length p) ss) (definitions (units_of ss)) f p o
+
+pub plain_text : (text f p o : List ℕ) {r : Ordered} {f' p' o' : List ℕ}
+    → DecidesFor false text f p o r f' p' o'
+    → Decides text f p o r f' p' o'
+plain_text text f p o e =
+    e ∙ reply_program (decided (length p) (sheet_of text)) (definitions (text_units text)) f p o
+
+pub plain_tries : (text f p o : List ℕ) {k : ℕ} {r : Tried} {f' p' o' : List ℕ}
+    → TriesFor false text k f p o r f' p' o'
+    → Tries text k f p o r f' p' o'
+plain_tries text f p o t = record { decides = λ e. plain_text text f p o (t.decides e); full = t.full }
 
 -- ---- where names are asked for, and entered in the rows that are lent
 module _ {lines bounds ulines ubounds firsts kinds args used faults : List ℕ}
@@ -133,7 +161,7 @@ module _ {lines bounds ulines ubounds firsts kinds args used faults : List ℕ}
     by_records false ls = by_room (ltb (length out) (roster_bytes * length ds))
 
     pub says_names : (r : Ordered) {out' : List ℕ} → NamesWritten rows n kinds out r out'
-        → UnitsConclude true of faults out lent r faults' out' lent
+        → UnitsConcludeFor true of faults out lent r faults' out' lent
     unfolding over
     says_names r w =
         rw (clean, kept, over_so) (ap lift (rw (rows_front, entered_many) at w) ∙ by_records over _)

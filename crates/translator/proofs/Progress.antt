@@ -21,7 +21,8 @@ use Rattle.deck.specs.declared.Cursor.{Cursor}
 use Rattle.deck.specs.Walks.{Walk}
 use Rattle.drafts.specs.Tree.{Says}
 use Rattle.drafts.specs.Drafts.{Draft, drafts_of}
-use Rattle.sheet.specs.Sheet.{Told, says, faulty, Sheet, Numbered, said, Fault, fault_at_spot, statement_faults, entry_of}
+use Rattle.sheet.specs.Sheet.{Told, says, faulty, Sheet, Numbered, said, Fault, fault_at_spot}
+use Rattle.sheet.specs.Sheet.{statement_faults, entry_of}
 use Rattle.sheet.specs.Sheet.{fault_entry, fault_list}
 use Rattle.sheet.specs.Reader.{told, sheet_of}
 use Rattle.sheet.specs.Layout.{drafts_in, draft_kinds, draft_args, bounds_from}
@@ -81,7 +82,8 @@ drafts_snoc ss s =
     ∙ ap (λ (r : List Draft). drafts_in ss ++ r) (append-nil (drafts_of s.says))
 
 bounds_snoc : (o : ℕ) (ss : List Numbered) (s : Numbered)
-    → bounds_from o (ss ++ (s ∷ [])) ≡ bounds_from o ss ++ ((o + length (drafts_in ss) + length (drafts_of s.says)) ∷ [])
+    → bounds_from o (ss ++ (s ∷ []))
+    ≡ bounds_from o ss ++ ((o + length (drafts_in ss) + length (drafts_of s.says)) ∷ [])
 unfolding bounds_from concat_map
 bounds_snoc o [] s = rw add-zero
 bounds_snoc o (z ∷ ss) s =

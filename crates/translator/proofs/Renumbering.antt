@@ -74,7 +74,8 @@ module _ (g : ℕ → ℕ) where
       → fitted room (map (renumber_rec g) rs) (map g ls) ≡ renumber_decision g (fitted room rs ls)
   fitted_renumbered room rs ls =
       rw (length-map rs (renumber_rec g))
-      (test_renumbered (ltb most_records (length rs) || ltb (room / record_bytes) (length rs)) 8 (translated rs ls) refl)
+      (test_renumbered (ltb most_records (length rs) || ltb (room / record_bytes) (length rs)) 8
+      (translated rs ls) refl)
 
   module _ (z : g 0 ≡ 0) where
     -- the lines of the ordered units

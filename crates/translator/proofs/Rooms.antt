@@ -29,8 +29,8 @@ use Rattle.translator.specs.declared.room.Tried.{Tried}
 use Rattle.translator.specs.declared.Verdict.TheVariants.{Refused, Faulty}
 use Rattle.translator.specs.Contract.{ordered, ordered_reply}
 use Rattle.translator.specs.Verdict.{if_faults, modelled, decided_within}
-use Rattle.translator.specs.Working.{ReadThrough, ReadFar, AllRead, ArraysReady, Concludes, Taken, Room, Decides}
-use Rattle.translator.specs.Working.{Tries, room_for, reply_for}
+use Rattle.translator.specs.Working.{ReadThrough, ReadFar, AllRead, ArraysReady, ConcludesFor, Taken, Room, DecidesFor}
+use Rattle.translator.specs.Working.{TriesFor, room_for, reply_for}
 use Rattle.model.specs.Definitions.{definitions}
 use Rattle.model.specs.Text.{text_units}
 use Rattle.blocks.proofs.TextHeaded.{text_headed}
@@ -46,7 +46,7 @@ module _ {text list₀ : List ℕ} (taken : Taken text list₀) (not-many : leng
 
   -- 5: some fault stands, and the list is written
   pub says_five : (b : Bool) (p o : List ℕ) → 0 < n.faults
-      → Decides b text list₀ p o (ordered (Faulty 5 n.faults) 0) list p o
+      → DecidesFor b text list₀ p o (ordered (Faulty 5 n.faults) 0) list p o
   unfolding decided_within
   says_five b p o h = rw (few, r.faults, r.listed) (go (statement_faults (sheet_of text)) (rw (← r.faults) h))
     where
@@ -126,8 +126,8 @@ module _ {text list₀ : List ℕ} (taken : Taken text list₀) (not-many : leng
   pub says_model : n.faults ≤ 0 → (b : Bool) (v : Ordered) (p o : List ℕ) {used f' p' o' : List ℕ}
       → n.drafts ≤ length used
       → ((a : ArraysReady (take n.statements lines) (take (n.statements + 1) bounds) (take n.drafts kinds)
-      (take n.drafts args) used list) → Concludes b a.statements list p o v f' p' o')
-      → Decides b text list₀ p o v f' p' o'
+      (take n.drafts args) used list) → ConcludesFor b a.statements list p o v f' p' o')
+      → DecidesFor b text list₀ p o v f' p' o'
   unfolding decided_within ready_so
   says_model none b v p o uses w = rw (few, clean none, ← (listed_none none)) (w (ready_so uses))
 
@@ -173,7 +173,7 @@ read_so {text} {list₀} taken few r uses =
 
 -- 4: nothing is written
 pub says_four : (b : Bool) (text f p o : List ℕ) → most_statements < length (sheet_of text)
-    → Decides b text f p o (ordered (Refused 4) 0) f p o
+    → DecidesFor b text f p o (ordered (Refused 4) 0) f p o
 unfolding decided_within
 says_four b text f p o h = rw (lt-ltb most_statements (length (sheet_of text)) h)
 
@@ -222,14 +222,14 @@ module _ {text own₀ kinds args lines bounds own : List ℕ} {n : SoFar}
 -- ---- a room that was too small
 
 -- with a place for each byte it is not
-pub never_full : {b : Bool} {text f p o f' p' o' : List ℕ} {k : ℕ} {r : Tried} → Tries b text k f p o r f' p' o'
+pub never_full : {b : Bool} {text f p o f' p' o' : List ℕ} {k : ℕ} {r : Tried} → TriesFor b text k f p o r f' p' o'
     → length text ≤ k
-    → Decides b text f p o r.answer f' p' o'
+    → DecidesFor b text f p o r.answer f' p' o'
 never_full {r = r} t h =
     ⊎_elim (λ (e : r.full ≡ true). absurd (omega (arith, (t.full e).0))) (λ e. t.decides e) (bool_cases r.full)
 
 -- where nothing was written, a second try decides as the first would have
 pub second_try : (b : Bool) (text f p o : List ℕ) {f₁ p₁ o₁ f' p' o' : List ℕ} {r : Ordered} → f₁ ≡ f → p₁ ≡ p → o₁ ≡ o
-    → Decides b text f₁ p₁ o₁ r f' p' o'
-    → Decides b text f p o r f' p' o'
+    → DecidesFor b text f₁ p₁ o₁ r f' p' o'
+    → DecidesFor b text f p o r f' p' o'
 second_try b text f p o x y z d = rw (x, y, z) at d

@@ -74,7 +74,8 @@ all_hold (t ∷ ts) f = (holds t (f t (Memᴰ.head refl)), all_hold ts (λ q m. 
 
 module _ (s : List ℕ) where
   -- with a bad token
-  pub tokened_bad : {code n at : ℕ} → row_end (row_of s) ≡ Fault code n at → tokened (row_of s) ≡ faulty code (AtToken at)
+  pub tokened_bad : {code n at : ℕ} → row_end (row_of s) ≡ Fault code n at
+      → tokened (row_of s) ≡ faulty code (AtToken at)
   tokened_bad {code} {n} {at} e = ap (scanned (row_of s).tokens) (ends_badly (row_of s) code n at e).0
 
   -- with none

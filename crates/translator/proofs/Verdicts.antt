@@ -29,7 +29,7 @@ use Rattle.translator.specs.Contract.{TranslatesInOrder, in_numbers, Gives}
 use Rattle.translator.specs.Verdict.{Decision, refused, faulty, translated, verdict_of}
 use Rattle.translator.specs.Verdict.{verdict_within}
 use Rattle.translator.specs.Verdict.{translation_of, translation}
-use Rattle.translator.specs.Working.{reply_for, named_as, Decides, Answers}
+use Rattle.translator.specs.Working.{reply_for, named_as, DecidesFor, Answers}
 
 -- a report for each statement
 pub sheet_many : (text : List ℕ) → length (sheet_of text) ≡ length (reading fresh 1 (lines_of text))
@@ -66,7 +66,7 @@ module _ (b : Bool) (text f p o : List ℕ) where
         lined = le-ltb text_lines (length (lines_of text)) lines
 
         -- behind them the sheet's verdict is the text's
-        pub says_decided : (r : Ordered) {f' p' o' : List ℕ} → Decides b text f p o r f' p' o'
+        pub says_decided : (r : Ordered) {f' p' o' : List ℕ} → DecidesFor b text f p o r f' p' o'
             → Answers b text f p o r f' p' o'
         unfolding verdict_within
         says_decided r w = rw (enough, brief, lined) w
@@ -74,7 +74,8 @@ module _ (b : Bool) (text f p o : List ℕ) where
 -- ---- what is asked for
 
 -- the program with the order of its units
-pub reply_program : (v : Decision) (ds : List Def) (f p o : List ℕ) → reply_for v false ds f p o ≡ ordered_reply_of v f p o
+pub reply_program : (v : Decision) (ds : List Def) (f p o : List ℕ)
+    → reply_for v false ds f p o ≡ ordered_reply_of v f p o
 reply_program (refused n) ds f p o = refl
 reply_program (faulty n fs) ds f p o = refl
 reply_program (translated rs ls) ds f p o = refl

@@ -27,7 +27,7 @@ use Rattle.translator.specs.declared.Ordered.{Ordered}
 use Rattle.translator.specs.declared.Verdict.TheVariants.{Refused, Faulty, Translated}
 use Rattle.translator.specs.Contract.{ordered, OrderedReply, ordered_reply}
 use Rattle.translator.specs.Working.{unfilled, padded, UnitsReady, Planned, ordered_lines}
-use Rattle.translator.specs.Working.{UnitsProgrammed, UnitsConclude}
+use Rattle.translator.specs.Working.{UnitsConclude, UnitsConcludeFor}
 use Rattle.translator.proofs.Progress.{take_sets}
 use Rattle.translator.proofs.Concluding.{Conclusion, concluded, sound_plan, all_placed}
 use Rattle.translator.proofs.Deciding.{written, handed, decides_seven, decides_sound, decides_eight}
@@ -118,12 +118,12 @@ module _ {p : Plan} {places equated order lines bounds ulines firsts kinds args 
     where
       -- the records are too many, or too many for the room
       pub says_eight : over ≡ true → (f : List ℕ)
-          → UnitsProgrammed us f out lent (ordered (Refused 8) 0) f out lent
+          → UnitsConclude us f out lent (ordered (Refused 8) 0) f out lent
       says_eight t f = go (ltb most_records (record_count kinds)) refl (sym tested ∙ t)
         where
           go : (b : Bool) → ltb most_records (record_count kinds) ≡ b
               → (b || ltb (length out / record_bytes) (record_count kinds)) ≡ true
-              → UnitsProgrammed us f out lent (ordered (Refused 8) 0) f out lent
+              → UnitsConclude us f out lent (ordered (Refused 8) 0) f out lent
           go true e _ =
               decides_eight us kinds s.unresolved lines bounds ulines s.ubounds firsts s.laid [] f out lent
               s.clean (ltb-true most_records (record_count kinds) e)
@@ -179,7 +179,7 @@ module _ {p : Plan} {places equated order lines bounds ulines firsts kinds args 
             × (out' ≡ sets out 0 (fitting (length out) (written_program r₁ r₂ firsts lines bounds kinds args r₃)))
             → lent' ≡ sets lent 0 (ordered_lines r₂ ulines r₃)
             → (f : List ℕ)
-            → UnitsProgrammed us f out lent (ordered (Translated (n / record_bytes)) p.units) f out' lent'
+            → UnitsConclude us f out lent (ordered (Translated (n / record_bytes)) p.units) f out' lent'
         says_zero {n} {out'} {lent'} e g f =
             let count = counted (e.0 ∙ ap length all_fits) in
             let bytes = e.1 ∙ ap (sets out 0) (all_fits ∙ written_cut e₁ e₂ e₃) in
@@ -221,7 +221,7 @@ module _ {lines bounds ulines ubounds firsts kinds args used faults : List ℕ}
       omega (arith, leb-true (length lines) most_statements a.0, leb-true (length ulines) (length lines) c.0)
 
   pub says_seven : (b : Bool) → p.number ≡ 7
-      → UnitsConclude b of faults out lent (ordered (Faulty 7 p.count) 0) faults' out lent
+      → UnitsConcludeFor b of faults out lent (ordered (Faulty 7 p.count) 0) faults' out lent
   says_seven b e =
       decides_seven of kinds args lines bounds ulines ubounds firsts ready.laid used faults out lent reached
       conclusion b e
@@ -259,7 +259,7 @@ module _ {lines bounds ulines ubounds firsts kinds args used faults : List ℕ}
 
     pub says_rest : (r : Ordered) {out' lent' : List ℕ}
         → ((s : Planned p places equated order lines bounds ulines firsts kinds args') (f : List ℕ)
-        → UnitsProgrammed s.units f out lent r f out' lent')
-        → UnitsProgrammed of faults out lent r faults' out' lent'
+        → UnitsConclude s.units f out lent r f out' lent')
+        → UnitsConclude of faults out lent r faults' out' lent'
     unfolding planned_so
     says_rest r w = rw (ap (λ (o : PlanOutcome). o.faults) sound.1) (w planned_so faults)

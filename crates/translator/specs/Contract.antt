@@ -72,7 +72,8 @@ ordered_reply r f p o = record { answer = r; faults = f; program = p; order = o 
 -- beside the reply to a verdict: how many lines it names, and these, from the front on, as far as there are places
 abbrev pub ordered_reply_of : Decision → List ℕ → List ℕ → List ℕ → OrderedReply
 ordered_reply_of v f p o =
-    ordered_reply (ordered (answer_of v) (length (lines_in v))) (faults_after v f) (program_after v p) (sets o 0 (lines_in v))
+    ordered_reply (ordered (answer_of v) (length (lines_in v))) (faults_after v f) (program_after v p)
+    (sets o 0 (lines_in v))
 
 -- `translate_in_order`: likewise, with o lent for the order, and o' what it then holds
 abbrev pub TranslatesInOrder : List ℕ → List ℕ → List ℕ → List ℕ → Ordered → List ℕ → List ℕ → List ℕ → Type 0

@@ -1,5 +1,6 @@
 -- What the parts of `translate` meet.
-use Rattle.std.specs.Prelude.{ℕ, suc, ◌+◌, ◌-◌, ◌*◌, ◌/◌, ◌≤◌, ◌<◌, ◌≡◌, Bool, true, false, cond, ◌||◌, List, [], ◌∷◌, ◌++◌, map, leb, ltb, length, get_or, take, set, replicate}
+use Rattle.std.specs.Prelude.{ℕ, suc, ◌+◌, ◌-◌, ◌*◌, ◌/◌, ◌≤◌, ◌<◌, ◌≡◌, Bool, true, false, cond, ◌||◌, List, [], ◌∷◌}
+use Rattle.std.specs.Prelude.{◌++◌, map, leb, ltb, length, get_or, take, set, replicate}
 use Rattle.std.proofs.lemmas.List.Edits.{sets}
 use Rattle.limits.specs.Limits.{most_statements, most_definitions, text_bytes, fault_room, fault_bytes, program_room}
 use Rattle.limits.specs.Limits.{most_records, roster_bytes}
@@ -216,7 +217,8 @@ unfilled = lent (replicate most_definitions 0) (replicate most_statements 0) (re
 -- the three arrays that are lent for the units: a place for each statement, and one more
 abbrev pub unitless : UnitArrays
 unitless =
-    unit_arrays (replicate (most_statements + 1) 0) (replicate (most_statements + 1) 0) (replicate (most_statements + 1) 0)
+    unit_arrays (replicate (most_statements + 1) 0) (replicate (most_statements + 1) 0)
+    (replicate (most_statements + 1) 0)
 
 -- the arrays hold some statements, whose headers name outputs, and fit
 pub record ArraysReady (lines bounds kinds args used faults : List ℕ) : Type 0 where
@@ -286,10 +288,26 @@ named_as (Faulty n k) = Listed n k
 named_as (Translated k) = Entries k
 
 -- the answer r and the buffers f', p' and o' are what the verdict on the model of units gives for the buffers f, p and
--- o: with the program and the order
-abbrev pub UnitsProgrammed : List TextUnit → List ℕ → List ℕ → List ℕ → Ordered → List ℕ → List ℕ → List ℕ → Type 0
-UnitsProgrammed us f p o r f' p' o' =
+-- o
+abbrev pub UnitsConclude : List TextUnit → List ℕ → List ℕ → List ℕ → Ordered → List ℕ → List ℕ → List ℕ → Type 0
+UnitsConclude us f p o r f' p' o' =
     ordered_reply r f' p' o' ≡ ordered_reply_of (if_faults 7 (model_faults us) (programmed (length p) us)) f p o
+
+-- and on that of statements
+abbrev pub Concludes : List Numbered → List ℕ → List ℕ → List ℕ → Ordered → List ℕ → List ℕ → List ℕ → Type 0
+Concludes ss f p o r f' p' o' = ordered_reply r f' p' o' ≡ ordered_reply_of (modelled (length p) ss) f p o
+
+-- the answer r and the buffers f', p' and o' are what the sheet's verdict gives for the buffers f, p and o
+abbrev pub Decides : List ℕ → List ℕ → List ℕ → List ℕ → Ordered → List ℕ → List ℕ → List ℕ → Type 0
+Decides text f p o r f' p' o' = ordered_reply r f' p' o' ≡ ordered_reply_of (decided (length p) (sheet_of text)) f p o
+
+-- the same with so many places for drafts, unless these were too few: then the text has more bytes, and nothing is
+-- written
+pub record Tries (text : List ℕ) (places : ℕ) (f p o : List ℕ) (r : Tried) (f' p' o' : List ℕ) : Type 0 where
+  pub decides : r.full ≡ false → Decides text f p o r.answer f' p' o'
+  pub full : r.full ≡ true → (places < length text) × (f' ≡ f) × (p' ≡ p) × (o' ≡ o)
+
+-- ---- the same with what is asked for (law `plain_tries`: without names they are those above)
 
 -- what the writing of n names that stand in rows gives: 8, 10, or their entries
 abbrev pub NamesWritten : List ℕ → ℕ → List ℕ → List ℕ → Ordered → List ℕ → Type 0
@@ -299,29 +317,29 @@ NamesWritten rows n kinds p r p' =
     let roomed = cond (ltb (length p) (roster_bytes * n)) (ordered_reply (ordered (Refused 10) 0) [] p []) written in
     ordered_reply r [] p' [] ≡ cond over (ordered_reply (ordered (Refused 8) 0) [] p []) roomed
 
--- with what is asked for
-abbrev pub UnitsConclude : Bool → List TextUnit → List ℕ → List ℕ → List ℕ → Ordered → List ℕ → List ℕ → List ℕ
+-- what the verdict on the model of units gives
+abbrev pub UnitsConcludeFor : Bool → List TextUnit → List ℕ → List ℕ → List ℕ → Ordered → List ℕ → List ℕ → List ℕ
     → Type 0
-UnitsConclude b us f p o r f' p' o' =
+UnitsConcludeFor b us f p o r f' p' o' =
     ordered_reply r f' p' o'
     ≡ reply_for (if_faults 7 (model_faults us) (programmed (room_for b (length p)) us)) b (definitions us) f p o
 
 -- and on that of statements
-abbrev pub Concludes : Bool → List Numbered → List ℕ → List ℕ → List ℕ → Ordered → List ℕ → List ℕ → List ℕ → Type 0
-Concludes b ss f p o r f' p' o' =
+abbrev pub ConcludesFor : Bool → List Numbered → List ℕ → List ℕ → List ℕ → Ordered → List ℕ → List ℕ → List ℕ → Type 0
+ConcludesFor b ss f p o r f' p' o' =
     ordered_reply r f' p' o'
     ≡ reply_for (modelled (room_for b (length p)) ss) b (definitions (units_of ss)) f p o
 
 -- what the sheet's verdict gives
-abbrev pub Decides : Bool → List ℕ → List ℕ → List ℕ → List ℕ → Ordered → List ℕ → List ℕ → List ℕ → Type 0
-Decides b text f p o r f' p' o' =
+abbrev pub DecidesFor : Bool → List ℕ → List ℕ → List ℕ → List ℕ → Ordered → List ℕ → List ℕ → List ℕ → Type 0
+DecidesFor b text f p o r f' p' o' =
     ordered_reply r f' p' o'
     ≡ reply_for (decided (room_for b (length p)) (sheet_of text)) b (definitions (text_units text)) f p o
 
--- the same with so many places for drafts, unless these were too few: then the text has more bytes, and nothing is
--- written
-pub record Tries (b : Bool) (text : List ℕ) (places : ℕ) (f p o : List ℕ) (r : Tried) (f' p' o' : List ℕ) : Type 0 where
-  pub decides : r.full ≡ false → Decides b text f p o r.answer f' p' o'
+-- the same with so many places for drafts, unless these were too few
+pub record TriesFor (b : Bool) (text : List ℕ) (places : ℕ) (f p o : List ℕ) (r : Tried)
+    (f' p' o' : List ℕ) : Type 0 where
+  pub decides : r.full ≡ false → DecidesFor b text f p o r.answer f' p' o'
   pub full : r.full ≡ true → (places < length text) × (f' ≡ f) × (p' ≡ p) × (o' ≡ o)
 
 -- what the text's verdict gives

@@ -4,8 +4,8 @@ ghost use Rattle.std.proofs.lemmas.List.Edits.{sets};
 ghost use Rattle.limits.specs.Limits.{most_records, most_definitions, roster_bytes};
 ghost use Rattle.program.specs.Written.{record_count};
 ghost use Rattle.program.specs.Contract.{PutsRoster};
-ghost use Rattle.translator.specs.Working.{asks_names, Planned, UnitsReady, ArraysReady, UnitsProgrammed};
-ghost use Rattle.translator.specs.Working.{NamesWritten, UnitsConclude, Concludes, ordered_lines};
+ghost use Rattle.translator.specs.Working.{asks_names, Planned, UnitsReady, ArraysReady, UnitsConclude};
+ghost use Rattle.translator.specs.Working.{NamesWritten, UnitsConcludeFor, ConcludesFor, ordered_lines};
 
 use super::{Ordered, Verdict};
 use bits::put_bytes;
@@ -74,7 +74,7 @@ fn write_program(
     ensures { (s : Planned plan places.now equated.now order.now
         lines.now bounds.now ulines.now firsts.now
         kinds.now args.now) (f : List ℕ)
-        → UnitsProgrammed s.units f out.old ordered.old
+        → UnitsConclude s.units f out.old ordered.old
         result f out.new ordered.new }
 {
     if is_over(kinds, out.len() / RECORD_BYTES) {
@@ -161,7 +161,7 @@ fn conclude_units(
     ensures { (s : UnitsReady lines.now bounds.now ulines.now
         ubounds.now firsts.now kinds.now args.old used.old
         faults.old)
-        → UnitsConclude (asks_names (length rows.old)) s.units faults.old out.old
+        → UnitsConcludeFor (asks_names (length rows.old)) s.units faults.old out.old
         ordered.old result faults.new out.new ordered.new }
 {
     let mut places = [0u16; DEFINITIONS];
@@ -211,7 +211,7 @@ pub(crate) fn conclude(
     requires { ArraysReady lines.now bounds.now kinds.old args.old used.old faults.old }
     ensures { (s : ArraysReady lines.now bounds.now kinds.old
         args.old used.old faults.old)
-        → Concludes (asks_names (length rows.old)) s.statements faults.old out.old
+        → ConcludesFor (asks_names (length rows.old)) s.statements faults.old out.old
         ordered.old
         result faults.new out.new ordered.new }
 {

@@ -24,7 +24,7 @@ use tokens::RowEnd;
 
 // The verdict: refused with its number; faulty with its number and the count of faults; translated into so many
 // records.
-#[derive(Drop)]
+#[derive(Clone, Copy)]
 pub enum Verdict {
     Refused(u8),
     Faulty(u8, usize),

@@ -5,7 +5,7 @@
 // Where names are asked for, rows for them are lent from outside; else there are none.
 ghost use Rattle.std.specs.Prelude.{◌≡◌, true, false, ◌≤◌, length};
 ghost use Rattle.translator.specs.declared.Verdict.TheVariants.{Refused};
-ghost use Rattle.translator.specs.Working.{Taken, Room, AllRead, asks_names, Decides, Tries, small, quarter};
+ghost use Rattle.translator.specs.Working.{Taken, Room, AllRead, asks_names, DecidesFor, TriesFor, small, quarter};
 
 use super::finish::conclude;
 use super::{HowFar, Ordered, SoFar, Verdict, read_all};
@@ -74,7 +74,7 @@ fn decide(
     requires { AllRead n faults.old kinds.old args.old used.old lines.now bounds.now }
     ensures { (s : AllRead n faults.old kinds.old args.old used.old
         lines.now bounds.now)
-        → Decides (asks_names (length rows.old)) s.text s.list₀ out.old
+        → DecidesFor (asks_names (length rows.old)) s.text s.list₀ out.old
         ordered.old result faults.new
         out.new ordered.new }
 {
@@ -116,7 +116,7 @@ fn try_room(
 ) -> Tried
     requires { (Room text.now list.old kinds.old args.old lines.old bounds.old)
         × (Taken text.now faults.old) × (length kinds.old ≤ length used.old) }
-    ensures { Tries (asks_names (length rows.old)) text.now (length kinds.old)
+    ensures { TriesFor (asks_names (length rows.old)) text.now (length kinds.old)
         faults.old
         out.old ordered.old result faults.new out.new
         ordered.new }
@@ -155,7 +155,7 @@ pub(crate) fn in_small_room(
     ordered: &mut [u16],
 ) -> Ordered
     requires { (Taken text.now faults.old) × (length text.now ≤ small) }
-    ensures { Decides (asks_names (length rows.old)) text.now faults.old
+    ensures { DecidesFor (asks_names (length rows.old)) text.now faults.old
         out.old ordered.old
         result faults.new out.new ordered.new }
 {
@@ -190,7 +190,7 @@ fn in_quarter_room(
     ordered: &mut [u16],
 ) -> Tried
     requires { Taken text.now faults.old }
-    ensures { Tries (asks_names (length rows.old)) text.now quarter faults.old
+    ensures { TriesFor (asks_names (length rows.old)) text.now quarter faults.old
         out.old
         ordered.old result faults.new out.new ordered.new }
 {
@@ -224,7 +224,7 @@ fn in_whole_room(
     ordered: &mut [u16],
 ) -> Ordered
     requires { Taken text.now faults.old }
-    ensures { Decides (asks_names (length rows.old)) text.now faults.old
+    ensures { DecidesFor (asks_names (length rows.old)) text.now faults.old
         out.old ordered.old
         result faults.new out.new ordered.new }
 {
@@ -260,7 +260,7 @@ pub(crate) fn in_large_room(
     ordered: &mut [u16],
 ) -> Ordered
     requires { Taken text.now faults.old }
-    ensures { Decides (asks_names (length rows.old)) text.now faults.old
+    ensures { DecidesFor (asks_names (length rows.old)) text.now faults.old
         out.old ordered.old
         result faults.new out.new ordered.new }
 {

@@ -1,6 +1,4 @@
-use mathlib.Core.Path.{◌∙◌}
 use native.Mathlib.Omega.{arith}
-use borrow.Author.Rules.{rules}
 use lib.ListN.{length-set}
 use Rattle.evaluator.proofs.EntryAnswers.{granted, start_refused, start_done}
 use Rattle.evaluator.proofs.start.Goals as goal
@@ -13,3 +11,9 @@ pub start_all-requires : goal.start_all-requires
 start_all-requires c =
     let g = granted c.refuse-a.ensures c.if-a-ne0.false in
     (g.sound, simp length-set g.values)
+
+pub returns-then-a-ne0 : goal.returns-then-a-ne0
+returns-then-a-ne0 c = search start_refused
+
+pub returns : goal.returns
+returns c = search start_done

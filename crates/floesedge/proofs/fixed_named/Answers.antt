@@ -1,5 +1,4 @@
 -- Each case by itself; the counts are small.
-use borrow.Author.Rules.{rules}
 use Rattle.floesedge.proofs.Answers.{listed_count, entries_count}
 use Rattle.floesedge.proofs.fixed_named.Goals as goal
 

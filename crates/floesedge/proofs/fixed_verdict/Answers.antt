@@ -1,5 +1,4 @@
 -- Each case by itself; the counts are small.
-use borrow.Author.Rules.{rules}
 use Rattle.floesedge.proofs.Answers.{faulty_count, translated_count}
 use Rattle.floesedge.proofs.fixed_verdict.Goals as goal
 

@@ -1,5 +1,4 @@
 -- The evaluator's answer, in its fixed layout.
-use borrow.Author.Rules.{rules}
 use Rattle.floesedge.proofs.Answers.{evaluated_small}
 use Rattle.floesedge.proofs.floesedge_evaluate.Goals as goal
 

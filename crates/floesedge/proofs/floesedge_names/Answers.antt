@@ -1,5 +1,4 @@
 -- The answer where names are asked for, in its fixed layout.
-use borrow.Author.Rules.{rules}
 use Rattle.floesedge.proofs.Answers.{names_small, same_names}
 use Rattle.floesedge.proofs.floesedge_names.Goals as goal
 
@@ -12,5 +11,5 @@ pub returns : goal.returns
 returns c =
     let s = c.args in
     same_names s.text.now s.faults.now s.names.now _ _ c.names.result
-    c.Fixed-named.result c.names.ensures
-    c.Fixed-named.ensures.0 c.Fixed-named.ensures.1
+    c.fixed_named.result c.names.ensures
+    c.fixed_named.ensures.0 c.fixed_named.ensures.1

@@ -1,5 +1,4 @@
 -- The translator's verdict, in its fixed layout.
-use borrow.Author.Rules.{rules}
 use Rattle.floesedge.proofs.Answers.{count_small, same_translation}
 use Rattle.floesedge.proofs.floesedge_translate.Goals as goal
 

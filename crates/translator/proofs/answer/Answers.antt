@@ -1,7 +1,6 @@
 -- The first three refusals, then the verdict in a room.
 use Prim.Native.Nat.{◌≤◌}
 use native.Mathlib.Omega.{arith}
-use borrow.Author.Rules.{rules}
 use lib.ListN.{length}
 use Rattle.limits.specs.Limits.{text_lines}
 use Rattle.deck.specs.Lines.{lines_of}
@@ -27,8 +26,8 @@ returns-then-text-le-SMALL c =
     let a = c.args in
     says_decided (asks_names (length a.rows.now)) a.text.now a.faults.now a.out.now a.ordered.now
     c.if-faults-lt-FAULT_ROOM.false
-    c.if-text-gt-TEXT_BYTES.false (bytes_lines a.text.now (omega (arith, c.if-text-le-SMALL.true))) c.in_small_room.result
-    c.in_small_room.ensures
+    c.if-text-gt-TEXT_BYTES.false (bytes_lines a.text.now (omega (arith, c.if-text-le-SMALL.true)))
+    c.in_small_room.result c.in_small_room.ensures
 
 -- ---- no more bytes than there may be lines
 pub returns-then-text-le-TEXT_LINES : goal.returns-then-text-le-TEXT_LINES
@@ -47,7 +46,8 @@ returns-then-line_count-gt-TEXT_LINES c =
 
 pub returns : goal.returns
 returns c =
-    let few_lines : length (lines_of c.args.text.now) ≤ text_lines = rw c.line_count.ensures at c.if-line_count-gt-TEXT_LINES.false in
+    let few_lines : length (lines_of c.args.text.now) ≤ text_lines =
+    rw c.line_count.ensures at c.if-line_count-gt-TEXT_LINES.false in
     let a = c.args in
     says_decided (asks_names (length a.rows.now)) a.text.now a.faults.now a.out.now a.ordered.now
     c.if-faults-lt-FAULT_ROOM.false c.if-text-gt-TEXT_BYTES.false few_lines

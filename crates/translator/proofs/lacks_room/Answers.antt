@@ -2,7 +2,6 @@
 use Prim.Native.Nat.{◌-◌}
 use mathlib.Core.Path.{refl}
 use native.Mathlib.Omega.{arith}
-use borrow.Author.Rules.{rules}
 use borrow.Author.Tests.{ltb-true, ltb-false}
 use Rattle.laws.proofs.Tests.{not_both}
 use Rattle.translator.proofs.lacks_room.Goals as goal
@@ -13,7 +12,10 @@ returns-then-places-d c =
 
 pub returns-then-next-start : goal.returns-then-next-start
 returns-then-next-start c =
-    record { lacks = λ e. absurd (not_both e refl); has = λ _. omega (arith, c.if-places-d.false, c.if-next-start.true) }
+    record {
+      lacks = λ e. absurd (not_both e refl);
+      has = λ _. omega (arith, c.if-places-d.false, c.if-next-start.true);
+    }
 
 pub returns : goal.returns
 returns c =

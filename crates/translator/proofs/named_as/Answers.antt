@@ -1,5 +1,4 @@
 -- Each case by itself.
-use borrow.Author.Rules.{rules}
 use Rattle.translator.proofs.named_as.Goals as goal
 
 pub returns-in-Refused : goal.returns-in-Refused

@@ -1,6 +1,5 @@
 -- The answer where names are asked for, with no place lent for the order.
 use mathlib.Core.List.{[]}
-use borrow.Author.Rules.{rules}
 use Rattle.translator.proofs.Verdicts.{answers_names}
 use Rattle.translator.proofs.names.Goals as goal
 

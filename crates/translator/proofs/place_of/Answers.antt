@@ -1,6 +1,5 @@
 -- The place of the token, or the end.
 use mathlib.Core.Path.{refl, ap}
-use borrow.Author.Rules.{rules}
 use borrow.Author.Tests.{lt-ltb, le-ltb}
 use Rattle.deck.specs.declared.Place.TheVariants.{AtToken}
 use Rattle.translator.proofs.place_of.Goals as goal

@@ -1,13 +1,8 @@
 -- One statement after the other, from the first byte to the last.
-use Prim.Native.Nat.{◌-◌}
-use mathlib.Core.Path.{◌≡◌, refl, sym, ◌∙◌}
+use mathlib.Core.Path.{refl, sym, ◌∙◌}
 use native.Mathlib.Omega.{arith}
 use borrow.Author.Rules.{rules}
-use lib.ListN.{length}
-use Rattle.deck.specs.Codes.{joined_room}
-use Rattle.deck.specs.Next.{found_from}
-use Rattle.deck.specs.declared.Found.{Found}
-use Rattle.translator.proofs.Turns.{Going, going_first, going_list, going_last, going_less, left, going_full}
+use Rattle.translator.proofs.Turns.{going_first, going_last, going_less, left, going_full}
 use Rattle.translator.proofs.Turns.{going_able, going_next}
 use Rattle.translator.proofs.read_all.Goals as goal
 
@@ -17,8 +12,7 @@ loop-first-init c =
 
 pub returns-in_default : goal.returns-in_default
 returns-in_default c =
-    let found : (r : Found) → c.next_statement-found.result ≡ r → found_from c.args.text.now c.loop-first.c ≡ r = λ r e. sym c.next_statement-found.ensures.0 ∙ e in
-    going_last c.requires c.loop-first.invariant.0 (found _ c.in_default.is)
+    going_last c.requires c.loop-first.invariant.0 (sym c.next_statement-found.ensures.0 ∙ c.in_default.is)
 
 -- so many statements are a number
 pub overflow_add-n : goal.overflow_add-n
@@ -29,34 +23,31 @@ overflow_add-n c =
 -- one statement more than there may be
 pub returns-then-n-ge-STATEMENTS : goal.returns-then-n-ge-STATEMENTS
 returns-then-n-ge-STATEMENTS c =
-    let found : (r : Found) → c.next_statement-found.result ≡ r → found_from c.args.text.now c.loop-first.c ≡ r = λ r e. sym c.next_statement-found.ensures.0 ∙ e in
-    let more = left c.requires c.loop-first.invariant.0 (found _ c.in-Statement.is) in
+    let more = left c.requires c.loop-first.invariant.0 (sym c.next_statement-found.ensures.0 ∙ c.in-Statement.is) in
     omega (arith, more, c.if-n-ge-STATEMENTS.true)
 
 -- no room for the statement that was found
 pub returns-then-lacks_room : goal.returns-then-lacks_room
 returns-then-lacks_room c =
-    let found : (r : Found) → c.next_statement-found.result ≡ r → found_from c.args.text.now c.loop-first.c ≡ r = λ r e. sym c.next_statement-found.ensures.0 ∙ e in
-    going_full c.requires c.loop-first.invariant.0 (found _ c.in-Statement.is)
+    going_full c.requires c.loop-first.invariant.0 (sym c.next_statement-found.ensures.0 ∙ c.in-Statement.is)
     (c.lacks_room.ensures.lacks c.if-lacks_room.true)
 
 pub read_one-n-requires : goal.read_one-n-requires
 read_one-n-requires c =
-    let found : (r : Found) → c.next_statement-found.result ≡ r → found_from c.args.text.now c.loop-first.c ≡ r = λ r e. sym c.next_statement-found.ensures.0 ∙ e in
-    going_able c.requires c.loop-first.invariant.0 (found _ c.in-Statement.is) c.if-n-ge-STATEMENTS.false
-    (c.lacks_room.ensures.has c.if-lacks_room.false) (omega (arith, c.loop-first.invariant.1)) (omega (arith, c.loop-first.invariant.2))
+    going_able c.requires c.loop-first.invariant.0 (sym c.next_statement-found.ensures.0 ∙ c.in-Statement.is)
+    c.if-n-ge-STATEMENTS.false (c.lacks_room.ensures.has c.if-lacks_room.false)
+    (omega (arith, c.loop-first.invariant.1))
+    (omega (arith, c.loop-first.invariant.2))
 
 pub loop-first-smaller : goal.loop-first-smaller
 loop-first-smaller c =
-    let found : (r : Found) → c.next_statement-found.result ≡ r → found_from c.args.text.now c.loop-first.c ≡ r = λ r e. sym c.next_statement-found.ensures.0 ∙ e in
-    going_less c.requires c.loop-first.invariant.0 (found _ c.in-Statement.is)
+    going_less c.requires c.loop-first.invariant.0 (sym c.next_statement-found.ensures.0 ∙ c.in-Statement.is)
 
 pub loop-first-preserved : goal.loop-first-preserved
 loop-first-preserved c =
-    let found : (r : Found) → c.next_statement-found.result ≡ r → found_from c.args.text.now c.loop-first.c ≡ r = λ r e. sym c.next_statement-found.ensures.0 ∙ e in
-    let e = found _ c.in-Statement.is in
-    let fits = c.lacks_room.ensures.has c.if-lacks_room.left in (
-      going_next c.requires c.loop-first.invariant.0 e c.if-n-ge-STATEMENTS.left fits c.read_one-n.ensures,
+    let e = sym c.next_statement-found.ensures.0 ∙ c.in-Statement.is in
+    let fits = c.lacks_room.ensures.has c.if-lacks_room.false in (
+      going_next c.requires c.loop-first.invariant.0 e c.if-n-ge-STATEMENTS.false fits c.read_one-n.ensures,
       omega (arith, c.loop-first.invariant.1, c.read_one-n.auto),
       omega (arith, c.loop-first.invariant.2, c.read_one-n.auto),
     )

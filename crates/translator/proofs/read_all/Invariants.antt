@@ -1,19 +1,15 @@
 -- One statement after the other, from the first byte to the last.
 use Prim.Native.Nat.{◌-◌}
-use mathlib.Core.Path.{◌≡◌, refl, sym, ◌∙◌}
-use native.Mathlib.Omega.{arith}
-use borrow.Author.Rules.{rules}
+use mathlib.Core.Path.{◌≡◌}
 use lib.ListN.{length}
 use Rattle.deck.specs.Codes.{joined_room}
-use Rattle.deck.specs.Next.{found_from}
-use Rattle.deck.specs.declared.Found.{Found}
-use Rattle.translator.proofs.Turns.{Going, going_first, going_list, going_last, going_less, left, going_full}
-use Rattle.translator.proofs.Turns.{going_able, going_next}
+use Rattle.translator.proofs.Turns.{Going}
 use Rattle.translator.proofs.read_all.Given as goal
 
 abbrev pub invariant-loop-first : goal.invariant-loop-first
 invariant-loop-first l =
-    Going l.text l.initial.kinds l.initial.args l.initial.lines l.initial.bounds l.initial.list l.kinds l.args l.lines l.bounds l.list l.n l.c
+    Going l.text l.initial.kinds l.initial.args l.initial.lines l.initial.bounds l.initial.list
+    l.kinds l.args l.lines l.bounds l.list l.n l.c
     × (length l.row_kinds ≡ joined_room) × (length l.row_args ≡ joined_room)
 
 abbrev pub decreases-loop-first : goal.decreases-loop-first

@@ -3,7 +3,6 @@ use Prim.Native.Nat.{ℕ, ◌≤◌}
 use mathlib.Core.Path.{◌≡◌, sym, ap}
 use mathlib.Core.List.{List}
 use native.Mathlib.Omega.{arith}
-use borrow.Author.Rules.{rules}
 use lib.ListN.{length, take, replicate}
 use lib.Seq.{length-take-le}
 use Rattle.deck.specs.Joined.{joined}
@@ -16,18 +15,20 @@ use Rattle.translator.proofs.read_cards.Goals as goal
 
 pub slice_bounds-body-end : goal.slice_bounds-body-end
 slice_bounds-body-end c =
-    let within : c.join-n.result ≤ length c.join-n.new.1.1.1.0 = omega (arith, c.requires.short, c.join-n.ensures.0, c.join-n.auto) in
-    within
+    omega (arith, c.requires.short, c.join-n.ensures.0, c.join-n.auto)
 
 pub slice_bounds-read_joined-end : goal.slice_bounds-read_joined-end
 slice_bounds-read_joined-end c =
-    let within : c.join-n.result ≤ length c.join-n.new.1.1.1.0 = omega (arith, c.requires.short, c.join-n.ensures.0, c.join-n.auto) in
-    sym (length-take-le c.join-n.result c.join-n.new.1.1.1.0 within)
+    let within : c.join-n.result ≤ length c.join-n.new.out =
+    omega (arith, c.requires.short, c.join-n.ensures.0, c.join-n.auto) in
+    sym (length-take-le c.join-n.result c.join-n.new.out within)
 
 pub read_joined-requires : goal.read_joined-requires
 read_joined-requires c =
-    let body : take c.join-n.result c.join-n.new.1.1.1.0 ≡ (let a = c.args in joined (cards_at a.text.now a.start a.lines)) = taken (replicate joined_room 0) (let a = c.args in joined (cards_at a.text.now a.start a.lines)) c.join-n.new.1.1.1.0 c.join-n.ensures.0 c.requires.short
-    c.join-n.ensures.1 in
+    let a = c.args in
+    let cards = joined (cards_at a.text.now a.start a.lines) in
+    let body : take c.join-n.result c.join-n.new.out ≡ cards =
+    taken (replicate joined_room 0) cards c.join-n.new.out c.join-n.ensures.0 c.requires.short c.join-n.ensures.1 in
     let l = ap length body in
     let p = c.requires.room in
     record {
@@ -39,6 +40,8 @@ read_joined-requires c =
 
 pub returns : goal.returns
 returns c =
-    let body : take c.join-n.result c.join-n.new.1.1.1.0 ≡ (let a = c.args in joined (cards_at a.text.now a.start a.lines)) = taken (replicate joined_room 0) (let a = c.args in joined (cards_at a.text.now a.start a.lines)) c.join-n.new.1.1.1.0 c.join-n.ensures.0 c.requires.short
-    c.join-n.ensures.1 in
+    let a = c.args in
+    let cards = joined (cards_at a.text.now a.start a.lines) in
+    let body : take c.join-n.result c.join-n.new.out ≡ cards =
+    taken (replicate joined_room 0) cards c.join-n.new.out c.join-n.ensures.0 c.requires.short c.join-n.ensures.1 in
     tells_of (ap (λ (b : List ℕ). tokened (row_of b)) (sym body)) c.read_joined.ensures

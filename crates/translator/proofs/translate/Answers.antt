@@ -1,6 +1,5 @@
 -- With no place lent for the order.
 use mathlib.Core.List.{[]}
-use borrow.Author.Rules.{rules}
 use Rattle.translator.proofs.Verdicts.{without_order}
 use Rattle.translator.proofs.translate.Goals as goal
 

@@ -1,5 +1,4 @@
 -- The answer where the program is asked for.
-use borrow.Author.Rules.{rules}
 use Rattle.translator.proofs.Verdicts.{answers_program}
 use Rattle.translator.proofs.translate_in_order.Goals as goal
 

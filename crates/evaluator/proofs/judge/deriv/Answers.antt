@@ -1,4 +1,3 @@
-use borrow.Author.Rules.{rules}
 use borrow.Author.Tests.{ne_eqb}
 use lib.Dec.{eqb}
 use Rattle.laws.proofs.Bools.{and_fails}
@@ -13,8 +12,12 @@ returns-then-t-ne1 c =
 pub returns-then-marks-s-ne-STATE : goal.returns-then-marks-s-ne-STATE
 returns-then-marks-s-ne-STATE c =
     let height = c.args.t.height in
-    unfit _ c.bad-then-marks-s-ne-STATE.ensures (and_fails (eqb height 1) (λ _. ne_eqb _ state_mark c.if-marks-s-ne-STATE.true))
+    unfit _ c.bad-then-marks-s-ne-STATE.ensures
+    (and_fails (eqb height 1) (λ _. ne_eqb _ state_mark c.if-marks-s-ne-STATE.true))
 
 pub overflow_sub-t : goal.overflow_sub-t
 overflow_sub-t c =
     owing c.requires.0 c.args.s c.requires.1 c.if-marks-s-ne-STATE.false
+
+pub returns : goal.returns
+returns c = search deriv

@@ -1,5 +1,4 @@
 use borrow.Author.Tests.{le-leb, lt-leb}
-use borrow.Author.Rules.{rules}
 use Rattle.evaluator.proofs.judge.fold.Goals as goal
 
 pub returns-then-k-t : goal.returns-then-k-t

@@ -1,6 +1,5 @@
 use Prim.Native.Nat.{◌-◌}
-use borrow.Author.Rules.{rules}
-use Rattle.evaluator.proofs.JudgedProgram.{Judging, first, ready, refused, next, tall, owing, well}
+use Rattle.evaluator.proofs.JudgedProgram.{Judging}
 use Rattle.evaluator.proofs.judge.judge.Given as goal
 
 abbrev pub invariant-loop-i : goal.invariant-loop-i

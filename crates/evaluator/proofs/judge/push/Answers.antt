@@ -1,5 +1,4 @@
 use borrow.Author.Tests.{lt-ltb, le-ltb}
-use borrow.Author.Rules.{rules}
 use Rattle.limits.specs.Limits.{stack_places}
 use Rattle.evaluator.proofs.judge.push.Goals as goal
 

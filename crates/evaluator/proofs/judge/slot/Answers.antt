@@ -1,4 +1,3 @@
-use borrow.Author.Rules.{rules}
 use borrow.Author.Tests.{ne_eqb}
 use Rattle.evaluator.specs.Judge.{unset_mark}
 use Rattle.evaluator.proofs.JudgedRecord.{unfit, pushes_slot}

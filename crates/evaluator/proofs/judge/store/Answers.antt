@@ -1,4 +1,3 @@
-use borrow.Author.Rules.{rules}
 use borrow.Author.Tests.{ne_eqb}
 use lib.Dec.{eqb}
 use Rattle.laws.proofs.Bools.{and_fails}
@@ -13,4 +12,8 @@ returns-then-t-ne1 c =
 pub returns-then-marks-s-ne-UNSET : goal.returns-then-marks-s-ne-UNSET
 returns-then-marks-s-ne-UNSET c =
     let height = c.args.t.height in
-    unfit _ c.bad-then-marks-s-ne-UNSET.ensures (and_fails (eqb height 1) (λ _. ne_eqb _ unset_mark c.if-marks-s-ne-UNSET.true))
+    unfit _ c.bad-then-marks-s-ne-UNSET.ensures
+    (and_fails (eqb height 1) (λ _. ne_eqb _ unset_mark c.if-marks-s-ne-UNSET.true))
+
+pub returns : goal.returns
+returns c = search store

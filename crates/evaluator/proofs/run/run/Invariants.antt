@@ -1,6 +1,5 @@
 use Prim.Native.Nat.{◌-◌}
-use borrow.Author.Rules.{rules}
-use Rattle.evaluator.proofs.RunProgram.{Running, first, ready, next, last}
+use Rattle.evaluator.proofs.RunProgram.{Running}
 use Rattle.evaluator.proofs.run.run.Given as goal
 
 abbrev pub invariant-loop-i : goal.invariant-loop-i

@@ -1,11 +1,20 @@
-use Prim.Native.Nat.{◌-◌}
-use mathlib.Core.Path.{◌∙◌}
 use borrow.Author.Rules.{rules}
-use Rattle.evaluator.specs.Evaluate.{moved}
-use Rattle.evaluator.proofs.StatePasses.{Passing, first, ready, next, over, done}
+use Rattle.evaluator.proofs.StatePasses.{first, ready, next, over, done}
 use Rattle.evaluator.proofs.states.move_all.Goals as goal
 
 pub loop-i-preserved : goal.loop-i-preserved
 loop-i-preserved c =
     next c.loop-i.invariant c.loop-i-test.true c.read-ins.ensures
     c.move_step.ensures (search rules)
+
+pub loop-i-init : goal.loop-i-init
+loop-i-init c = search first
+
+pub move_step-requires : goal.move_step-requires
+move_step-requires c = search (rules, ready)
+
+pub returns-then-not-move_step : goal.returns-then-not-move_step
+returns-then-not-move_step c = search over
+
+pub returns : goal.returns
+returns c = search done

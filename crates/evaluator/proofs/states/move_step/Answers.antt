@@ -1,7 +1,5 @@
-use borrow.Author.Rules.{rules}
 use Rattle.evaluator.specs.Evaluate.{moved}
-use Rattle.evaluator.proofs.JudgedRecord.{slot_found}
-use Rattle.evaluator.proofs.StatePasses.{later_passes, constant_passes, initial_passes}
+use Rattle.evaluator.proofs.StatePasses.{initial_passes}
 use Rattle.evaluator.proofs.states.move_step.Goals as goal
 
 pub returns-in-Initial : goal.returns-in-Initial

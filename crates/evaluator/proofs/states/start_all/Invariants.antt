@@ -1,8 +1,6 @@
 use Prim.Native.Nat.{◌-◌}
-use mathlib.Core.Path.{◌∙◌}
-use borrow.Author.Rules.{rules}
 use lib.ListN.{set}
-use Rattle.evaluator.proofs.StatePasses.{Passing, first, ready, next, over, done}
+use Rattle.evaluator.proofs.StatePasses.{Passing}
 use Rattle.evaluator.proofs.states.start_all.Given as goal
 
 abbrev pub invariant-loop-i : goal.invariant-loop-i

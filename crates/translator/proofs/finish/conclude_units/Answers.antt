@@ -1,9 +1,7 @@
 -- Names are entered if they are asked for, then the plan is made; by its number the answer is 7, or what the writing
 -- gives.
 use Prim.Native.Nat.{◌*◌}
-use mathlib.Core.Bool.{Bool}
 use native.Mathlib.Omega.{arith}
-use borrow.Author.Rules.{rules}
 use borrow.Author.Tests.{lt-leb, le-leb}
 use lib.ListN.{length}
 use Rattle.limits.specs.Limits.{most_definitions, roster_bytes}
@@ -14,7 +12,8 @@ use Rattle.translator.proofs.finish.conclude_units.Goals as goal
 
 pub returns-then-plan-eq7 : goal.returns-then-plan-eq7
 returns-then-plan-eq7 c ready =
-    says_seven ready c.plan-plan.ensures c.args.out.now c.args.ordered.now (asks_names (length c.args.rows.now)) c.if-plan-eq7.true
+    let a = c.args in
+    says_seven ready c.plan-plan.ensures a.out.now a.ordered.now (asks_names (length a.rows.now)) c.if-plan-eq7.true
 
 pub write_program-requires : goal.write_program-requires
 write_program-requires c =
@@ -25,7 +24,7 @@ pub returns-then-rows-lt-ROSTER_ROOM : goal.returns-then-rows-lt-ROSTER_ROOM
 returns-then-rows-lt-ROSTER_ROOM c ready =
     let a = c.args in
     let none = lt-leb (roster_bytes * most_definitions) (length a.rows.now)
-    (omega (arith, c.if-rows-lt-ROSTER_ROOM.true, c.enter_names-n.kept)) in
+    (omega (arith, c.if-rows-lt-ROSTER_ROOM.true)) in
     rw none
     (concludes_program ready.units a.faults.now a.out.now a.ordered.now
     (says_rest ready c.plan-plan.ensures a.out.now a.ordered.now c.if-plan-eq7.false c.write_program.result
@@ -35,7 +34,7 @@ pub write_names-requires : goal.write_names-requires
 write_names-requires c =
     let rows = c.args.rows.now in
     let some = le-leb (roster_bytes * most_definitions) (length rows)
-    (omega (arith, c.if-rows-lt-ROSTER_ROOM.false, c.enter_names-n.kept)) in
+    (omega (arith, c.if-rows-lt-ROSTER_ROOM.false)) in
     let entered = c.enter_names-n.ensures some in
     (entered_few c.requires rows some entered, rows_room c.requires rows some entered)
 
@@ -45,7 +44,7 @@ returns c ready =
     let a = c.args in
     let rows = a.rows.now in
     let some = le-leb (roster_bytes * most_definitions) (length rows)
-    (omega (arith, c.if-rows-lt-ROSTER_ROOM.false, c.enter_names-n.kept)) in
+    (omega (arith, c.if-rows-lt-ROSTER_ROOM.false)) in
     rw some
     (says_names ready rows some (c.enter_names-n.ensures some) c.plan-plan.ensures a.out.now a.ordered.now
     c.if-plan-eq7.false c.write_names.result c.write_names.ensures)

@@ -1,6 +1,5 @@
 -- Where the drafts are few, so are the records; else they are counted.
 use native.Mathlib.Omega.{arith}
-use borrow.Author.Rules.{rules}
 use borrow.Author.Tests.{lt-ltb, le-ltb}
 use Rattle.limits.specs.Limits.{most_records}
 use Rattle.program.specs.Written.{record_count}
@@ -27,6 +26,7 @@ pub returns : goal.returns
 returns c =
     let a = c.args in
     rw (
-      le-ltb most_records (record_count a.kinds.now) (omega (arith, c.if-n-gt-RECORDS.false, c.count_records-n.ensures)),
+      le-ltb most_records (record_count a.kinds.now)
+          (omega (arith, c.if-n-gt-RECORDS.false, c.count_records-n.ensures)),
       c.count_records-n.ensures,
     )

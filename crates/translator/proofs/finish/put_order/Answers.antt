@@ -1,8 +1,5 @@
 -- The loop goes over the order, until no place is left.
-use Prim.Native.Nat.{◌-◌}
-use lib.ListN.{length}
-use borrow.Author.Rules.{rules}
-use Rattle.translator.proofs.Handing.{Hands, hands_first, hands_next, hands_full, hands_last}
+use Rattle.translator.proofs.Handing.{hands_first, hands_next, hands_full, hands_last}
 use Rattle.translator.proofs.finish.put_order.Goals as goal
 
 pub loop-i-init : goal.loop-i-init

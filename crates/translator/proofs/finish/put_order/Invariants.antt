@@ -1,8 +1,7 @@
 -- The loop goes over the order, until no place is left.
 use Prim.Native.Nat.{◌-◌}
 use lib.ListN.{length}
-use borrow.Author.Rules.{rules}
-use Rattle.translator.proofs.Handing.{Hands, hands_first, hands_next, hands_full, hands_last}
+use Rattle.translator.proofs.Handing.{Hands}
 use Rattle.translator.proofs.finish.put_order.Given as goal
 
 abbrev pub invariant-loop-i : goal.invariant-loop-i

@@ -1,6 +1,5 @@
 -- The records are too many, or too many for the room; or the program is written, and the order handed out.
 use mathlib.Core.Path.{refl}
-use borrow.Author.Rules.{rules}
 use Rattle.model.proofs.PlanStages.{prefix_length}
 use Rattle.translator.proofs.Writing.{places_room, equated_room, order_room, says_eight, says_zero}
 use Rattle.translator.proofs.finish.write_program.Goals as goal

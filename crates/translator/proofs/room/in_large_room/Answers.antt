@@ -1,5 +1,4 @@
 -- In a quarter of the largest room, or once more in the largest.
-use borrow.Author.Rules.{rules}
 use lib.ListN.{length}
 use Rattle.translator.specs.Working.{asks_names}
 use Rattle.translator.proofs.Rooms.{second_try}
@@ -11,7 +10,7 @@ returns-then-tried c =
     let full = c.in_quarter_room-tried.ensures.full c.if-tried.true in
     let again = c.in_whole_room.ensures in
     second_try (asks_names (length a.rows.now)) a.text.now a.faults.now a.out.now a.ordered.now
-    full.1 full.2 full.3 (rw c.in_quarter_room-tried.auto.0 at again)
+    full.1 full.2 full.3 (rw c.in_quarter_room-tried.auto.rows at again)
 
 pub returns : goal.returns
 returns c =

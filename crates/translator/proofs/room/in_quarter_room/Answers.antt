@@ -1,6 +1,5 @@
 -- A quarter of the largest room.
 use native.Mathlib.Omega.{arith}
-use borrow.Author.Rules.{rules}
 use Rattle.translator.specs.Working.{quarter}
 use Rattle.translator.proofs.Rooms.{room_of, own_list}
 use Rattle.translator.proofs.room.in_quarter_room.Goals as goal

@@ -1,13 +1,12 @@
 -- A place for each byte of a text of a few lines, which has no more statements than bytes: it is read through.
 use native.Mathlib.Omega.{arith}
-use borrow.Author.Rules.{rules}
 use Rattle.translator.proofs.Rooms.{came_through, text_few, read_so}
 use Rattle.translator.proofs.room.in_small_room.Goals as goal
 
 pub decide-requires : goal.decide-requires
 decide-requires c =
     let all = came_through c.read_all-far.ensures c.in-Through.is in
-    read_so c.requires.0 all.1 all.0 (omega (arith, c.read_all-far.kept))
+    read_so c.requires.0 all.1 all.0 (omega (arith, c.read_all-far.auto))
 
 -- there is room, and statements are not too many
 pub returns-in-NoRoom : goal.returns-in-NoRoom
@@ -25,4 +24,4 @@ pub returns-in-Through : goal.returns-in-Through
 unfolding read_so
 returns-in-Through c =
     let all = came_through c.read_all-far.ensures c.in-Through.is in
-    c.decide.ensures (read_so c.requires.0 all.1 all.0 (omega (arith, c.read_all-far.kept)))
+    c.decide.ensures (read_so c.requires.0 all.1 all.0 (omega (arith, c.read_all-far.auto)))

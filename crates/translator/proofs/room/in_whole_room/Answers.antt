@@ -1,6 +1,5 @@
 -- Any text that is taken.
 use native.Mathlib.Omega.{arith}
-use borrow.Author.Rules.{rules}
 use Rattle.limits.specs.Limits.{text_bytes}
 use Rattle.translator.proofs.Rooms.{room_of, own_list, never_full}
 use Rattle.translator.proofs.room.in_whole_room.Goals as goal

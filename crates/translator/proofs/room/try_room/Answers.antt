@@ -1,5 +1,5 @@
 -- The statements are read, as far as there is room and they are not too many; then what is read decides.
-use mathlib.Core.Path.{refl, sym, ◌∙◌}
+use mathlib.Core.Path.{refl, sym}
 use native.Mathlib.Omega.{arith}
 use borrow.Author.Rules.{rules}
 use lib.ListN.{length}
@@ -32,7 +32,7 @@ decide-answer-requires c =
     let pre = c.requires in
     let listed =
     read_listed all.0 all.1 pre.0.taken.list_room c.args.faults.now c.put_bytes.ensures in
-    read_so pre.1 all.1 listed (omega (arith, c.read_all-far.kept, pre.2))
+    read_so pre.1 all.1 listed (omega (arith, c.read_all-far.auto, pre.2))
 
 -- there was no room
 pub returns-in-NoRoom : goal.returns-in-NoRoom
@@ -65,7 +65,7 @@ returns-in-Through c =
     let listed =
     read_listed all.0 all.1 pre.0.taken.list_room c.args.faults.now c.put_bytes.ensures in
     let ready =
-    read_so {used = c.args.used.now} pre.1 all.1 listed (omega (arith, c.read_all-far.kept, pre.2)) in
+    read_so {used = c.args.used.now} pre.1 all.1 listed (omega (arith, c.read_all-far.auto, pre.2)) in
     record {
       decides = λ _. rw c.with_answer-in-Through.ensures.1 (c.decide-answer.ensures ready);
       full = λ e. absurd (not_both e c.with_answer-in-Through.ensures.0);
