@@ -118,18 +118,18 @@ module _ {ss : List Numbered} {kinds args lines bounds : List ℕ} (v : Laid ss 
         (take n after.lines) (take (n + 1) after.bounds) (take (n + 1) after.firsts)
     units_written =
         let held = units_held v h (shaped_text ss e) (kinds_rewritten ss kinds args lines bounds v h e) in
-        let at-lines = front_row a.lines (unit_lines_in lines bounds kinds) n lines_long
+        let at_lines = front_row a.lines (unit_lines_in lines bounds kinds) n lines_long
         (omega (arith, few, lines_long, room.lines_room)) in
         let at_Bounds = front_row a.bounds (unit_bounds_in (length lines) bounds kinds) (n + 1) bounds_long
         (omega (arith, few, bounds_long, room.bounds_room)) in
-        let at-firsts = front_row a.firsts (firsts_in (length lines) bounds kinds) (n + 1) firsts_long
+        let at_firsts = front_row a.firsts (firsts_in (length lines) bounds kinds) (n + 1) firsts_long
         (omega (arith, few, firsts_long, room.firsts_room)) in
         record {
           kinds_held = held.kinds_held;
           args_held = held.args_held;
           lines_held = held.lines_held;
           bounds_held = held.bounds_held;
-          unit_lines_held = at-lines ∙ held.unit_lines_held;
+          unit_lines_held = at_lines ∙ held.unit_lines_held;
           unit_bounds_held = at_Bounds ∙ held.unit_bounds_held;
-          firsts_held = at-firsts ∙ held.firsts_held;
+          firsts_held = at_firsts ∙ held.firsts_held;
         }

@@ -8,7 +8,7 @@ use lib.Dec.{eqb}
 use lib.ListN.{length, length-append}
 use Rattle.laws.specs.Lists.{concat_map}
 use Rattle.drafts.specs.Tree.{plus, minus, times, over, compar, insw, limit, Constant, Says}
-use Rattle.drafts.specs.Tree.{constants as constantsSaid, assignment as assignmentSaid, state as stateSaid, header}
+use Rattle.drafts.specs.Tree.{constants as constants_said, assignment as assignment_said, state as state_said, header}
 use Rattle.drafts.specs.Tree.{ending}
 use Rattle.drafts.specs.Items.{Item, push, fetch, clock, negate, apply_two, apply_three, postfix}
 use Rattle.drafts.specs.Kinds.{kind_store}
@@ -27,10 +27,10 @@ use Rattle.blocks.proofs.UnitsStated.{stood_by, stated_from, stated_from_holds}
 
 -- ---- kinds: what the store of a statement becomes
 abbrev pub role_of : Pending → Says → ℕ
-role_of b (constantsSaid cs) = 0
-role_of idle (assignmentSaid k e) = 0
-role_of (partly h os is ns) (assignmentSaid k e) = sets_kind (sets_for os (keys_inside ns) k)
-role_of b (stateSaid k i e) = 0
+role_of b (constants_said cs) = 0
+role_of idle (assignment_said k e) = 0
+role_of (partly h os is ns) (assignment_said k e) = sets_kind (sets_for os (keys_inside ns) k)
+role_of b (state_said k i e) = 0
 role_of b (header os is) = 0
 role_of b ending = 0
 
@@ -65,12 +65,12 @@ kinds_stay (k ∷ l) = ap (◌∷◌ k) (kinds_stay l)
 
 pub stood_kinds : (b : Pending) (x : Says)
     → draft_kinds (drafts_stood (stood_by b x)) ≡ map (role_kind (role_of b x)) (draft_kinds (drafts_of x))
-stood_kinds b (constantsSaid cs) = kinds_stay (draft_kinds (drafts_of (constantsSaid cs)))
-stood_kinds idle (assignmentSaid k e) = kinds_stay (draft_kinds (drafts_of (assignmentSaid k e)))
-stood_kinds (partly h os is ns) (assignmentSaid k e) =
+stood_kinds b (constants_said cs) = kinds_stay (draft_kinds (drafts_of (constants_said cs)))
+stood_kinds idle (assignment_said k e) = kinds_stay (draft_kinds (drafts_of (assignment_said k e)))
+stood_kinds (partly h os is ns) (assignment_said k e) =
     let s = sets_for os (keys_inside ns) k in
     inner_kinds (sets_kind s) (sets_known s) (postfix e) k
-stood_kinds b (stateSaid k i e) = kinds_stay (draft_kinds (drafts_of (stateSaid k i e)))
+stood_kinds b (state_said k i e) = kinds_stay (draft_kinds (drafts_of (state_said k i e)))
 stood_kinds b (header os is) = kinds_stay (draft_kinds (drafts_of (header os is)))
 stood_kinds b ending = kinds_stay (draft_kinds (drafts_of ending))
 
@@ -87,15 +87,15 @@ defined_stood closing = []
 
 -- they are no more than the settings
 defined_few : (b : Pending) (x : Says) → length (defined_stood (stood_by b x)) ≤ length (settings_by x)
-defined_few b (constantsSaid cs) = omega arith
-defined_few idle (assignmentSaid k e) = omega arith
-defined_few (partly h os is ns) (assignmentSaid k e) = go (sets_for os (keys_inside ns) k)
+defined_few b (constants_said cs) = omega arith
+defined_few idle (assignment_said k e) = omega arith
+defined_few (partly h os is ns) (assignment_said k e) = go (sets_for os (keys_inside ns) k)
   where
     go : (s : Sets) → length (defined_stood (inner k e s)) ≤ 1
     go given = omega arith
     go own = omega arith
     go anew = omega arith
-defined_few b (stateSaid k i e) = omega arith
+defined_few b (state_said k i e) = omega arith
 defined_few b (header os is) = omega arith
 defined_few b ending = omega arith
 

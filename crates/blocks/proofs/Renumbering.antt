@@ -5,7 +5,7 @@ use mathlib.Core.Path.{◌≡◌, refl, sym, ap, ap₂, ◌∙◌}
 use mathlib.Core.Bool.{Bool, true, false, not}
 use mathlib.Core.List.{List, [], ◌∷◌, ◌++◌, map, map-map}
 use Rattle.laws.proofs.Concats.{map_append, concat_mapped, concat_moved, both_moved}
-use Rattle.drafts.specs.Tree.{Says, constants as constantsSaid, assignment as assignmentSaid, state as stateSaid}
+use Rattle.drafts.specs.Tree.{Says, constants as constants_said, assignment as assignment_said, state as state_said}
 use Rattle.drafts.specs.Tree.{Tree, header, ending}
 use Rattle.sheet.specs.Sheet.{Numbered, Fault}
 use Rattle.sheet.specs.Numbers.{renumber_fault}
@@ -122,9 +122,9 @@ module _ (g : ℕ → ℕ) where
   -- .. whatever it says
   fault26_renumbered : (free ks : List ℕ) (p : Standing) (s : Numbered) (x : Says)
       → fault26 free ks p (renumber_numbered g s) x ≡ renumber_faults (fault26 free ks p s x)
-  fault26_renumbered free ks p s (constantsSaid cs) = inner_renumbered free p s
-  fault26_renumbered free ks p s (assignmentSaid k e) = inner_renumbered free p s
-  fault26_renumbered free ks p s (stateSaid k i e) = inner_renumbered free p s
+  fault26_renumbered free ks p s (constants_said cs) = inner_renumbered free p s
+  fault26_renumbered free ks p s (assignment_said k e) = inner_renumbered free p s
+  fault26_renumbered free ks p s (state_said k i e) = inner_renumbered free p s
   fault26_renumbered free ks p s (header os is) = if_renumbered (head_wrong os ks) s.line 26
   fault26_renumbered free ks p s ending = refl
 
@@ -170,24 +170,24 @@ module _ (g : ℕ → ℕ) where
   -- the units that a statement ends
   ended_renumbered : (b : Pending) (l : ℕ) (x : Says)
       → units_by (renumber_pending b) (g l) x ≡ map renumber_unit (units_by b l x)
-  ended_renumbered idle l (constantsSaid cs) = refl
-  ended_renumbered idle l (assignmentSaid k e) = refl
-  ended_renumbered idle l (stateSaid k i e) = refl
+  ended_renumbered idle l (constants_said cs) = refl
+  ended_renumbered idle l (assignment_said k e) = refl
+  ended_renumbered idle l (state_said k i e) = refl
   ended_renumbered idle l (header os is) = refl
   ended_renumbered idle l ending = refl
-  ended_renumbered (partly h os is ns) l (constantsSaid cs) = refl
-  ended_renumbered (partly h os is ns) l (assignmentSaid k e) = refl
-  ended_renumbered (partly h os is ns) l (stateSaid k i e) = refl
+  ended_renumbered (partly h os is ns) l (constants_said cs) = refl
+  ended_renumbered (partly h os is ns) l (assignment_said k e) = refl
+  ended_renumbered (partly h os is ns) l (state_said k i e) = refl
   ended_renumbered (partly h os is ns) l (header os' is') = refl
   ended_renumbered (partly h os is ns) l ending = refl
 
   -- what has been read then
   pending_renumbered : (b : Pending) (l : ℕ) (x : Says)
       → pending_by (renumber_pending b) (g l) x ≡ renumber_pending (pending_by b l x)
-  pending_renumbered b l (constantsSaid cs) = refl
-  pending_renumbered idle l (assignmentSaid k e) = refl
-  pending_renumbered (partly h os is ns) l (assignmentSaid k e) = partly_renumbered h os is ns l k e
-  pending_renumbered b l (stateSaid k i e) = refl
+  pending_renumbered b l (constants_said cs) = refl
+  pending_renumbered idle l (assignment_said k e) = refl
+  pending_renumbered (partly h os is ns) l (assignment_said k e) = partly_renumbered h os is ns l k e
+  pending_renumbered b l (state_said k i e) = refl
   pending_renumbered b l (header os is) = refl
   pending_renumbered b l ending = refl
 

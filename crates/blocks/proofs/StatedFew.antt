@@ -7,8 +7,8 @@ use lib.ListN.{length, length-append}
 use Rattle.laws.specs.Lists.{concat_map}
 use Rattle.laws.proofs.Lists.{concat_append}
 use Rattle.laws.proofs.Concats.{map_append}
-use Rattle.drafts.specs.Tree.{Tree, Constant, Initial, Says, constants as constantsSaid, assignment as assignmentSaid}
-use Rattle.drafts.specs.Tree.{state as stateSaid, header, ending}
+use Rattle.drafts.specs.Tree.{Tree, Constant, Initial, Says, constants as constants_said, assignment as assignment_said}
+use Rattle.drafts.specs.Tree.{state as state_said, header, ending}
 use Rattle.sheet.specs.Sheet.{Numbered}
 use Rattle.blocks.specs.Units.{constants, assignment, state, Sets, Inner, block, alone, heading, inner}
 use Rattle.blocks.specs.Units.{closing, Stated, stated, stated_inner, stated_by, stated_in}
@@ -23,13 +23,13 @@ ones f (a ∷ l) = ap suc (ones f l)
 -- f gives of a statement of a unit no more than g of what was said
 pub record NoMore {A B : Type 0} (f : Stated → List A) (g : Says → List B) : Type 0 where
   pub of_constants : (l : ℕ) (cs : List Constant)
-      → length (f (stated l (alone (constants cs)))) ≤ length (g (constantsSaid cs))
+      → length (f (stated l (alone (constants cs)))) ≤ length (g (constants_said cs))
   pub of_assignment : (l k : ℕ) (e : Tree)
-      → length (f (stated l (alone (assignment k e)))) ≤ length (g (assignmentSaid k e))
+      → length (f (stated l (alone (assignment k e)))) ≤ length (g (assignment_said k e))
   pub of_state : (l k : ℕ) (i : Initial) (e : Tree)
-      → length (f (stated l (alone (state k i e)))) ≤ length (g (stateSaid k i e))
+      → length (f (stated l (alone (state k i e)))) ≤ length (g (state_said k i e))
   pub of_inner : (l k : ℕ) (e : Tree) (s : Sets)
-      → length (f (stated l (inner k e s))) ≤ length (g (assignmentSaid k e))
+      → length (f (stated l (inner k e s))) ≤ length (g (assignment_said k e))
   pub of_header : (l : ℕ) (os is : List ℕ) → length (f (stated l (heading os is))) ≤ length (g (header os is))
   pub of_ending : (l : ℕ) → length (f (stated l closing)) ≤ length (g ending)
 
@@ -98,26 +98,26 @@ module _ {A B : Type 0} (f : Stated → List A) (g : Says → List B) (less : No
 
       step : ((q : Pending) → size (stated_in (units_from q ss)) ≤ owed q + all ss) → (q : Pending) (x : Says)
           → Left q x
-      step on idle (constantsSaid cs) = omega (
+      step on idle (constants_said cs) = omega (
         arith,
         on idle,
         less.of_constants l cs,
         size_cons (stated l (alone (constants cs))) (stated_in (units_from idle ss)),
-        length-append (g (constantsSaid cs)) (concat_map (λ (s : Numbered). g s.says) ss),
+        length-append (g (constants_said cs)) (concat_map (λ (s : Numbered). g s.says) ss),
       )
-      step on idle (assignmentSaid k e) = omega (
+      step on idle (assignment_said k e) = omega (
         arith,
         on idle,
         less.of_assignment l k e,
         size_cons (stated l (alone (assignment k e))) (stated_in (units_from idle ss)),
-        length-append (g (assignmentSaid k e)) (concat_map (λ (s : Numbered). g s.says) ss),
+        length-append (g (assignment_said k e)) (concat_map (λ (s : Numbered). g s.says) ss),
       )
-      step on idle (stateSaid k i e) = omega (
+      step on idle (state_said k i e) = omega (
         arith,
         on idle,
         less.of_state l k i e,
         size_cons (stated l (alone (state k i e))) (stated_in (units_from idle ss)),
-        length-append (g (stateSaid k i e)) (concat_map (λ (s : Numbered). g s.says) ss),
+        length-append (g (state_said k i e)) (concat_map (λ (s : Numbered). g s.says) ss),
       )
       step on idle (header os is) = omega (
         arith,
@@ -130,22 +130,22 @@ module _ {A B : Type 0} (f : Stated → List A) (g : Says → List B) (less : No
         on idle,
         length-append (g ending) (concat_map (λ (s : Numbered). g s.says) ss),
       )
-      step on (partly h os is ns) (constantsSaid cs) = omega (
+      step on (partly h os is ns) (constants_said cs) = omega (
         arith,
         on (partly h os is ns),
-        length-append (g (constantsSaid cs)) (concat_map (λ (s : Numbered). g s.says) ss),
+        length-append (g (constants_said cs)) (concat_map (λ (s : Numbered). g s.says) ss),
       )
-      step on (partly h os is ns) (assignmentSaid k e) = omega (
+      step on (partly h os is ns) (assignment_said k e) = omega (
         arith,
         on (partly h os is (ns ++ (inner_of os ns l k e ∷ []))),
         owed_more h os is ns (inner_of os ns l k e),
         less.of_inner l k e (inner_of os ns l k e).sets,
-        length-append (g (assignmentSaid k e)) (concat_map (λ (s : Numbered). g s.says) ss),
+        length-append (g (assignment_said k e)) (concat_map (λ (s : Numbered). g s.says) ss),
       )
-      step on (partly h os is ns) (stateSaid k i e) = omega (
+      step on (partly h os is ns) (state_said k i e) = omega (
         arith,
         on (partly h os is ns),
-        length-append (g (stateSaid k i e)) (concat_map (λ (s : Numbered). g s.says) ss),
+        length-append (g (state_said k i e)) (concat_map (λ (s : Numbered). g s.says) ss),
       )
       step on (partly h os is ns) (header os' is') = omega (
         arith,

@@ -9,7 +9,7 @@ use lib.ListN.{length, get_or, length-map, length-append}
 use Rattle.laws.specs.Lists.{concat_map}
 use Rattle.laws.specs.Places.{only_if}
 use Rattle.laws.proofs.Along.{starts_at}
-use Rattle.drafts.specs.Tree.{Says, constants as constantsSaid, assignment as assignmentSaid, state as stateSaid}
+use Rattle.drafts.specs.Tree.{Says, constants as constants_said, assignment as assignment_said, state as state_said}
 use Rattle.drafts.specs.Tree.{header, ending}
 use Rattle.sheet.specs.Sheet.{Numbered}
 use Rattle.sheet.specs.Layout.{draft_kinds, Laid}
@@ -68,14 +68,14 @@ fronts_step : (b : Pending) (l : ℕ) (x : Says) (o : ℕ) → Stands (pending_i
     ++ pending_front (pending_by b l x) (o + length (stated_in (units_by b l x)))
     ≡ pending_front b o ++ only_if (starts_unit (pending_in b) (bracket_of x)) (o + length (pending_stated b))
 unfolding fronts_at concat_map
-fronts_step idle l (constantsSaid cs) o h = ap (λ (n : ℕ). n ∷ []) (sym (add-zero o))
-fronts_step idle l (assignmentSaid k e) o h = ap (λ (n : ℕ). n ∷ []) (sym (add-zero o))
-fronts_step idle l (stateSaid k i e) o h = ap (λ (n : ℕ). n ∷ []) (sym (add-zero o))
+fronts_step idle l (constants_said cs) o h = ap (λ (n : ℕ). n ∷ []) (sym (add-zero o))
+fronts_step idle l (assignment_said k e) o h = ap (λ (n : ℕ). n ∷ []) (sym (add-zero o))
+fronts_step idle l (state_said k i e) o h = ap (λ (n : ℕ). n ∷ []) (sym (add-zero o))
 fronts_step idle l (header os is) o h = refl
 fronts_step idle l ending o h = absurd h
-fronts_step (partly n os is ns) l (constantsSaid cs) o h = absurd h
-fronts_step (partly n os is ns) l (assignmentSaid k e) o h = ap (λ (m : ℕ). m ∷ []) (add-zero o)
-fronts_step (partly n os is ns) l (stateSaid k i e) o h = absurd h
+fronts_step (partly n os is ns) l (constants_said cs) o h = absurd h
+fronts_step (partly n os is ns) l (assignment_said k e) o h = ap (λ (m : ℕ). m ∷ []) (add-zero o)
+fronts_step (partly n os is ns) l (state_said k i e) o h = absurd h
 fronts_step (partly n os is ns) l (header os' is') o h = absurd h
 fronts_step (partly n os is ns) l ending o h = refl
 

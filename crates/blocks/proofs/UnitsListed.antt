@@ -109,7 +109,7 @@ module _ (lines bounds kinds : List ℕ) where
         let step = starts_step inside j h in
         let mapped : (f : ℕ → ℕ) (y : List ℕ) → map f (only_if here j ++ y) ≡ only_if here (f j) ++ map f y =
         λ f y. map_append f (only_if here j) y ∙ ap (λ (z : List ℕ). z ++ map f y) (map_only f here j) in
-        let firsts-step : firsts_left inside j ≡ only_if here j ++ firsts_left next (j + 1) =
+        let firsts_step : firsts_left inside j ≡ only_if here j ++ firsts_left next (j + 1) =
         ap (λ (z : List ℕ). z ++ (length lines ∷ [])) step ∙ append_assoc (only_if here j) rest (length lines ∷ []) in
         rw (ei, e)
         (record {
@@ -126,8 +126,8 @@ module _ (lines bounds kinds : List ℕ) where
           lines_row = row_next (only_if here (line_of j)) (map line_of rest) v.lines_row
               (ap (map line_of) step ∙ mapped line_of rest) q.line_put;
           bounds_row = row_next (only_if here (bound_of j)) (map bound_of (firsts_left next (j + 1))) v.bounds_row
-              (ap (map bound_of) firsts-step ∙ mapped bound_of (firsts_left next (j + 1))) q.bound_put;
-          firsts_row = row_next (only_if here j) (firsts_left next (j + 1)) v.firsts_row firsts-step q.first_put;
+              (ap (map bound_of) firsts_step ∙ mapped bound_of (firsts_left next (j + 1))) q.bound_put;
+          firsts_row = row_next (only_if here j) (firsts_left next (j + 1)) v.firsts_row firsts_step q.first_put;
         })
 
     -- behind the last statement: where it ends

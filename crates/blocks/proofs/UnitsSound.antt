@@ -13,8 +13,8 @@ use Rattle.laws.proofs.Tests.{not_both, and_true, eq_or_ne, or_blocked}
 use Rattle.laws.proofs.Counts.{once_other, has_true}
 use Rattle.laws.proofs.Concats.{map_append, none_left}
 use Rattle.laws.proofs.Members.{in_has}
-use Rattle.drafts.specs.Tree.{names, Says, constants as constantsSaid, assignment as assignmentSaid}
-use Rattle.drafts.specs.Tree.{state as stateSaid, header, ending}
+use Rattle.drafts.specs.Tree.{names, Says, constants as constants_said, assignment as assignment_said}
+use Rattle.drafts.specs.Tree.{state as state_said, header, ending}
 use Rattle.sheet.specs.Sheet.{Numbered}
 use Rattle.blocks.specs.Tests.{fault_if, within, again}
 use Rattle.blocks.specs.Inside.{free_said, free_known, set_next, set_inside, head_wrong, fault26, outer, enclosed}
@@ -83,9 +83,9 @@ free_from (s ∷ ss) =
 
     out : (x : Says) → Out → In → Stands false x × Shaped (inside_next false (bracket_of x)) ss
         → free_names (units_by idle s.line x ++ units_from (pending_by idle s.line x) ss) ≡ free_said x ++ free_known ss
-    out (constantsSaid cs) o n f = ap (λ r. free_said (constantsSaid cs) ++ r) (o f.1)
-    out (assignmentSaid k e) o n f = o f.1
-    out (stateSaid k i e) o n f = ap (λ r. k ∷ r) (o f.1)
+    out (constants_said cs) o n f = ap (λ r. free_said (constants_said cs) ++ r) (o f.1)
+    out (assignment_said k e) o n f = o f.1
+    out (state_said k i e) o n f = ap (λ r. k ∷ r) (o f.1)
     out (header os is) o n f = n s.line os is [] f.1
     out ending o n f = absurd f.0
 
@@ -94,9 +94,9 @@ free_from (s ∷ ss) =
         → free_names (units_by (partly h os is ns) s.line x ++ units_from
         (pending_by (partly h os is ns) s.line x) ss)
         ≡ free_said x ++ free_known ss
-    inner (constantsSaid cs) o n h os is ns f = absurd f.0
-    inner (assignmentSaid k e) o n h os is ns f = n h os is (ns ++ (inner_of os ns s.line k e ∷ [])) f.1
-    inner (stateSaid k i e) o n h os is ns f = absurd f.0
+    inner (constants_said cs) o n h os is ns f = absurd f.0
+    inner (assignment_said k e) o n h os is ns f = n h os is (ns ++ (inner_of os ns s.line k e ∷ [])) f.1
+    inner (state_said k i e) o n h os is ns f = absurd f.0
     inner (header os' is') o n h os is ns f = absurd f.0
     inner ending o n h os is ns f = o f.1
 
@@ -132,9 +132,9 @@ module _ (free : List ℕ) where
       out : (x : Says) → SoundOut ss → SoundIn ss → Stands false x × Shaped (inside_next false (bracket_of x)) ss
           → fault26 free (set_inside ss) outer s x ++ faults26_from free (standing_next outer x) ss ≡ []
           → Bodies (units_by idle s.line x ++ units_from (pending_by idle s.line x) ss)
-      out (constantsSaid cs) o n w f = (tt, o w.1 f)
-      out (assignmentSaid k e) o n w f = (tt, o w.1 f)
-      out (stateSaid k i e) o n w f = (tt, o w.1 f)
+      out (constants_said cs) o n w f = (tt, o w.1 f)
+      out (assignment_said k e) o n w f = (tt, o w.1 f)
+      out (state_said k i e) o n w f = (tt, o w.1 f)
       out (header os is) o n w f =
           let p = none_left (fault_if (head_wrong os (set_inside ss)) s.line 26)
           (faults26_from free (enclosed is []) ss) f in
@@ -149,12 +149,12 @@ module _ (free : List ℕ) where
           ++ faults26_from free (standing_next (enclosed is (keys_inside ns)) x) ss ≡ []
           → InnerSound free os is [] ns → ((k : ℕ) → k ∈ os → k ∈ (keys_inside ns ++ set_next x (set_inside ss)))
           → Bodies (units_by (partly h os is ns) s.line x ++ units_from (pending_by (partly h os is ns) s.line x) ss)
-      inner (constantsSaid cs) e o n h os is ns w f i g = absurd w.0
-      inner (assignmentSaid k t) e o n h os is ns w f i g =
+      inner (constants_said cs) e o n h os is ns w f i g = absurd w.0
+      inner (assignment_said k t) e o n h os is ns w f i g =
           let p = none_left (inner_fault free (enclosed is (keys_inside ns)) s)
           (faults26_from free (enclosed is (keys_inside ns ++ (k ∷ []))) ss) f in
           let right = and_true (not (has k is)) (within (names t) (is ++ (free ++ keys_inside ns)))
-          (inner_right_holds free is (keys_inside ns) s (assignmentSaid k t) e p.0) in
+          (inner_right_holds free is (keys_inside ns) s (assignment_said k t) e p.0) in
           let new = inner_of os ns s.line k t in
           let keys : keys_inside (ns ++ (new ∷ [])) ≡ keys_inside ns ++ (k ∷ []) =
           map_append (λ (n : Inner). n.key) ns (new ∷ []) in
@@ -164,7 +164,7 @@ module _ (free : List ℕ) where
           (inner_more free os is [] ns new i refl
           (λ m. not_both (in_has k is m) (not-true (has k is) right.0))
           (within_in (names t) (is ++ (free ++ keys_inside ns)) right.1)) (rw all at g)
-      inner (stateSaid k j t) e o n h os is ns w f i g = absurd w.0
+      inner (state_said k j t) e o n h os is ns w f i g = absurd w.0
       inner (header os' is') e o n h os is ns w f i g = absurd w.0
       inner ending e o n h os is ns w f i g =
           (record { inside = i; outputs = rw (append-nil (keys_inside ns)) at g }, o w.1 f)

@@ -7,7 +7,7 @@ use lib.ListN.{length, length-map}
 use Rattle.laws.specs.Lists.{concat_map}
 use Rattle.laws.proofs.Lists.{concat_append}
 use Rattle.laws.proofs.Concats.{map_append}
-use Rattle.drafts.specs.Tree.{Says, constants as constantsSaid, assignment as assignmentSaid, state as stateSaid}
+use Rattle.drafts.specs.Tree.{Says, constants as constants_said, assignment as assignment_said, state as state_said}
 use Rattle.drafts.specs.Tree.{header, ending}
 use Rattle.drafts.specs.Items.{Item, push, fetch, clock, negate, apply_two, apply_three, postfix}
 use Rattle.drafts.specs.Kinds.{kind_store}
@@ -36,10 +36,10 @@ pending_stated (partly h os is ns) = stated h (heading os is) ∷ map stated_inn
 
 -- what a statement is in its unit, behind what has been read
 abbrev pub stood_by : Pending → Says → Stood
-stood_by b (constantsSaid cs) = alone (constants cs)
-stood_by idle (assignmentSaid k e) = alone (assignment k e)
-stood_by (partly h os is ns) (assignmentSaid k e) = inner k e (sets_for os (keys_inside ns) k)
-stood_by b (stateSaid k i e) = alone (state k i e)
+stood_by b (constants_said cs) = alone (constants cs)
+stood_by idle (assignment_said k e) = alone (assignment k e)
+stood_by (partly h os is ns) (assignment_said k e) = inner k e (sets_for os (keys_inside ns) k)
+stood_by b (state_said k i e) = alone (state k i e)
 stood_by b (header os is) = heading os is
 stood_by b ending = closing
 
@@ -52,14 +52,14 @@ stated_from b (s ∷ ss) =
 -- behind a statement that may stand there: whether the next stands inside
 pub pending_next : (b : Pending) (l : ℕ) (x : Says) → Stands (pending_in b) x
     → pending_in (pending_by b l x) ≡ inside_next (pending_in b) (bracket_of x)
-pending_next idle l (constantsSaid cs) h = refl
-pending_next idle l (assignmentSaid k e) h = refl
-pending_next idle l (stateSaid k i e) h = refl
+pending_next idle l (constants_said cs) h = refl
+pending_next idle l (assignment_said k e) h = refl
+pending_next idle l (state_said k i e) h = refl
 pending_next idle l (header os is) h = refl
 pending_next idle l ending h = absurd h
-pending_next (partly n os is ns) l (constantsSaid cs) h = absurd h
-pending_next (partly n os is ns) l (assignmentSaid k e) h = refl
-pending_next (partly n os is ns) l (stateSaid k i e) h = absurd h
+pending_next (partly n os is ns) l (constants_said cs) h = absurd h
+pending_next (partly n os is ns) l (assignment_said k e) h = refl
+pending_next (partly n os is ns) l (state_said k i e) h = absurd h
 pending_next (partly n os is ns) l (header os' is') h = absurd h
 pending_next (partly n os is ns) l ending h = refl
 
@@ -68,15 +68,15 @@ pub stated_step : (b : Pending) (l : ℕ) (x : Says) → Stands (pending_in b) x
     → stated_in (units_by b l x) ++ pending_stated (pending_by b l x)
     ≡ pending_stated b ++ (stated l (stood_by b x) ∷ [])
 unfolding concat_map
-stated_step idle l (constantsSaid cs) h = refl
-stated_step idle l (assignmentSaid k e) h = refl
-stated_step idle l (stateSaid k i e) h = refl
+stated_step idle l (constants_said cs) h = refl
+stated_step idle l (assignment_said k e) h = refl
+stated_step idle l (state_said k i e) h = refl
 stated_step idle l (header os is) h = refl
 stated_step idle l ending h = absurd h
-stated_step (partly n os is ns) l (constantsSaid cs) h = absurd h
-stated_step (partly n os is ns) l (assignmentSaid k e) h =
+stated_step (partly n os is ns) l (constants_said cs) h = absurd h
+stated_step (partly n os is ns) l (assignment_said k e) h =
     ap (◌∷◌ (stated n (heading os is))) (map_append stated_inner ns (inner_of os ns l k e ∷ []))
-stated_step (partly n os is ns) l (stateSaid k i e) h = absurd h
+stated_step (partly n os is ns) l (state_said k i e) h = absurd h
 stated_step (partly n os is ns) l (header os' is') h = absurd h
 stated_step (partly n os is ns) l ending h =
     ap (◌∷◌ (stated n (heading os is))) (append-nil _ ∙ append-nil (map stated_inner ns ++ (stated l closing ∷ [])))
@@ -106,10 +106,10 @@ stated_from_holds b (s ∷ ss) h =
 
 -- ---- back to what was said
 pub said_back : (b : Pending) (x : Says) → said_of (stood_by b x) ≡ x
-said_back b (constantsSaid cs) = refl
-said_back idle (assignmentSaid k e) = refl
-said_back (partly h os is ns) (assignmentSaid k e) = refl
-said_back b (stateSaid k i e) = refl
+said_back b (constants_said cs) = refl
+said_back idle (assignment_said k e) = refl
+said_back (partly h os is ns) (assignment_said k e) = refl
+said_back b (state_said k i e) = refl
 said_back b (header os is) = refl
 said_back b ending = refl
 
@@ -150,11 +150,11 @@ inner_args [] k m n = refl
 inner_args (x ∷ xs) k m n = ap₂ ◌∷◌ (inner_arg x) (inner_args xs k m n)
 
 pub args_stood : (b : Pending) (x : Says) → draft_args (drafts_stood (stood_by b x)) ≡ draft_args (drafts_of x)
-args_stood b (constantsSaid cs) = refl
-args_stood idle (assignmentSaid k e) = refl
-args_stood (partly h os is ns) (assignmentSaid k e) =
+args_stood b (constants_said cs) = refl
+args_stood idle (assignment_said k e) = refl
+args_stood (partly h os is ns) (assignment_said k e) =
     inner_args (postfix e) k (sets_kind (sets_for os (keys_inside ns) k)) kind_store
-args_stood b (stateSaid k i e) = refl
+args_stood b (state_said k i e) = refl
 args_stood b (header os is) = refl
 args_stood b ending = refl
 

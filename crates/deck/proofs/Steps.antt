@@ -58,8 +58,8 @@ running_first t first start e h q =
 
 -- one line more, of which it was found whether it is a comment, 1 if not, and whether it is dotted
 module _ (t : List ℕ) (first start at e n k : ℕ) (long : Bool) (x : Running t first start at e n k long)
-    (comment dots : Bool) (one : ℕ) (is-comment : comment ≡ starred (line_of t at e))
-    (is_one : one ≡ once (not comment)) (is-dotted : dots ≡ dotted (line_of t at e)) where
+    (comment dots : Bool) (one : ℕ) (is_comment : comment ≡ starred (line_of t at e))
+    (is_one : one ≡ once (not comment)) (is_dotted : dots ≡ dotted (line_of t at e)) where
   -- this line, and the lines with it
   abbrev here : Line
   here = line_of t at e
@@ -79,18 +79,18 @@ module _ (t : List ℕ) (first start at e n k : ℕ) (long : Bool) (x : Running 
   count_with = simp length-append (omega (arith, x.count))
 
   cards_with : k + one ≡ length (cards_of with)
-  cards_with = rw (is_one, is-comment, x.cards) (sym (cards_count x.read here))
+  cards_with = rw (is_one, is_comment, x.cards) (sym (cards_count x.read here))
 
   long_with : longer ≡ any_long (cards_of with)
   long_with =
-      rw (is-comment, x.flag)
+      rw (is_comment, x.flag)
       (sym
       (cards_long x.read here
       ∙ ap (λ (m : ℕ). any_long (cards_of x.read) || (not (starred here) && ltb card_bytes m)) x.line.long))
 
   -- whether it leaves the statement open
   opens : {b : Bool} → (comment || dots) ≡ b → leaves_open here ≡ b
-  opens h = sym (ap₂ ◌||◌ is-comment is-dotted) ∙ h
+  opens h = sym (ap₂ ◌||◌ is_comment is_dotted) ∙ h
 
   number : suc (first + n) ≡ first + (n + 1)
   number = omega arith

@@ -226,9 +226,9 @@ order_cases i j f g h = ⊎_elim f (λ le. ⊎_elim h (λ ge. g (omega arith)) (
 apart : (row : List Symbol) (i j : ℕ) → Wrong row i → ((k : ℕ) → k < i → TooDeep row k → ⊥) → TooDeep row j → ⊥
 apart row i j W f T =
     let h = T.within in
-    let not-past : i ≤ j → ⊥ =
+    let not_past : i ≤ j → ⊥ =
     λ le. W.no_more (omega arith) (suc levels) (front_le row (i + 1) (j + 1) (omega arith) T.allowed) in
-    ⊎_elim (λ lt. f j lt T) not-past (lt_or_ge j i)
+    ⊎_elim (λ lt. f j lt T) not_past (lt_or_ge j i)
 
 -- two meanings of a row are one
 only : {row : List Symbol} {c b i j : ℕ} → Stops row c i → Stops row b j → (c ≡ b) × (i ≡ j)

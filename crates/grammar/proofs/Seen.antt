@@ -231,13 +231,13 @@ start_ending k a e = rw e
 pub start_none : {A : Type 0} (k a : ℕ) (c : Unit {0} → Res A) (n : ℕ → Res A) (b d : Unit {0} → Res A) (z : Res A)
     → (k ≡ name_kind → ⊥) → (k ≡ word_kind CONSTANTS → ⊥) → (k ≡ word_kind PROCED → ⊥) → (k ≡ word_kind ENDPRO → ⊥)
     → by_start (start_of (symbol_of k a)) c (λ _. z) n (λ _. z) b d (λ _. z) ≡ z
-start_none k a c n b d z no_name no_words no_Header no-ending = go (start_of (symbol_of k a)) (started k a)
+start_none k a c n b d z no_name no_words no_header no_ending = go (start_of (symbol_of k a)) (started k a)
   where
     go : (s : Start) → Started k a s → by_start s c (λ _. z) n (λ _. z) b d (λ _. z) ≡ z
     go Constants h = absurd (no_words h)
     go Integral h = refl
     go (Named m) h = absurd (no_name h.0)
     go (Valued v) h = refl
-    go Header h = absurd (no_Header h)
-    go Ending h = absurd (no-ending h)
+    go Header h = absurd (no_header h)
+    go Ending h = absurd (no_ending h)
     go Other h = refl

@@ -73,21 +73,21 @@ fault_back list rest i f e h =
     let first = low_bytes 2 f.line in
     let third = low_bytes 2 f.place in
     let last = low_bytes 2 f.column in
-    let behind-code = third ++ (last ++ rest) in
-    let at-line : drop o list ≡ first ++ (f.code ∷ 0 ∷ behind-code) = e ∙ simp append_assoc in
-    let at_code : drop (o + 2) list ≡ f.code ∷ 0 ∷ behind-code =
-    further list first (f.code ∷ 0 ∷ behind-code) o 2 at-line (length_low 2 f.line) in
+    let behind_code = third ++ (last ++ rest) in
+    let at_line : drop o list ≡ first ++ (f.code ∷ 0 ∷ behind_code) = e ∙ simp append_assoc in
+    let at_code : drop (o + 2) list ≡ f.code ∷ 0 ∷ behind_code =
+    further list first (f.code ∷ 0 ∷ behind_code) o 2 at_line (length_low 2 f.line) in
     let four : o + 2 + 2 ≡ o + 4 = omega arith in
-    let at_place : drop (o + 4) list ≡ behind-code =
-    rw four at (further list (f.code ∷ 0 ∷ []) behind-code (o + 2) 2 at_code refl) in
+    let at_place : drop (o + 4) list ≡ behind_code =
+    rw four at (further list (f.code ∷ 0 ∷ []) behind_code (o + 2) 2 at_code refl) in
     let six : o + 4 + 2 ≡ o + 6 = omega arith in
-    let at-column : drop (o + 6) list ≡ last ++ rest =
+    let at_column : drop (o + 6) list ≡ last ++ rest =
     rw six at (further list third (last ++ rest) (o + 4) 2 at_place (length_low 2 f.place)) in
     rw (
-      number_back list (f.code ∷ 0 ∷ behind-code) o 2 f.line at-line h.0,
-      byte_back list (0 ∷ behind-code) (o + 2) f.code at_code,
+      number_back list (f.code ∷ 0 ∷ behind_code) o 2 f.line at_line h.0,
+      byte_back list (0 ∷ behind_code) (o + 2) f.code at_code,
       number_back list (last ++ rest) (o + 4) 2 f.place at_place h.1,
-      number_back list rest (o + 6) 2 f.column at-column h.2,
+      number_back list rest (o + 6) 2 f.column at_column h.2,
     )
     refl
 

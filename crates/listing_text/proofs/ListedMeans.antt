@@ -25,7 +25,7 @@ use Rattle.listing_text.proofs.Back.{front, faults_back}
 use Rattle.listing_text.proofs.Fair.{Fair, fair}
 
 -- ---- of a text, where the lent bytes f and the places o have room
-module _ (text f p o : List ℕ) (room-faults : fault_room ≤ length f) (room-order : most_statements ≤ length o) where
+module _ (text f p o : List ℕ) (room_faults : fault_room ≤ length f) (room_order : most_statements ≤ length o) where
   abbrev verdict : Decision
   verdict = verdict_of text (length f) (length p)
 

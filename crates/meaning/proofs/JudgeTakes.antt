@@ -128,7 +128,7 @@ module _ (us : List TextUnit) (one : Once (keys (definitions us)))
         → InTurn ds es k w
         → Stand es' (mark_of w l (slot k))
     unfolding count
-    stand_next es' k stores next next-rate i =
+    stand_next es' k stores next next_rate i =
         let h = stored_mine k i.0 in
         record {
           long = length-set l (slot k) 4 ∙ t.long;
@@ -146,14 +146,14 @@ module _ (us : List TextUnit) (one : Once (keys (definitions us)))
           rated =
               λ j m s.
               marks_kept k 4 h j (λ z. omega (arith, rw z at m, one k, count_names k ds, i.0))
-              ∙ t.rated j m (omega (arith, next-rate j));
+              ∙ t.rated j m (omega (arith, next_rate j));
           unrated =
               λ j m s.
               marks_kept k 4 h j (λ z. omega (arith, rw z at m, one k, count_names k ds, i.0))
-              ∙ t.unrated j m (omega (arith, next-rate j));
+              ∙ t.unrated j m (omega (arith, next_rate j));
           other = two_kept k 4 h (λ z. omega arith);
         }
-    stand_next es' k restores next next-rate i =
+    stand_next es' k restores next next_rate i =
         record {
           long = t.long;
           time = t.time;
@@ -163,11 +163,11 @@ module _ (us : List TextUnit) (one : Once (keys (definitions us)))
               ⊎_elim (λ (z : j ≡ k). t.stored j m (rw z i.1))
               (λ n. t.stored j m (omega (arith, next j, once_other j k n))) (eq_or_ne j k);
           unset = λ j m s. t.unset j m (omega (arith, next j));
-          rated = λ j m s. t.rated j m (omega (arith, next-rate j));
-          unrated = λ j m s. t.unrated j m (omega (arith, next-rate j));
+          rated = λ j m s. t.rated j m (omega (arith, next_rate j));
+          unrated = λ j m s. t.unrated j m (omega (arith, next_rate j));
           other = t.other;
         }
-    stand_next es' k rates next next-rate i =
+    stand_next es' k rates next next_rate i =
         let h = state_mine k i.0 in
         record {
           long = length-set l (slot k) 3 ∙ t.long;
@@ -185,11 +185,11 @@ module _ (us : List TextUnit) (one : Once (keys (definitions us)))
           rated =
               λ j m s.
               ⊎_elim (mark_now k 3 h j)
-              (λ n. marks_kept k 3 h j n ∙ t.rated j m (omega (arith, next-rate j, once_other j k n))) (eq_or_ne j k);
+              (λ n. marks_kept k 3 h j n ∙ t.rated j m (omega (arith, next_rate j, once_other j k n))) (eq_or_ne j k);
           unrated =
               λ j m s.
-              marks_kept k 3 h j (λ (z : j ≡ k). omega (arith, rw z at (next-rate j), rw z at s, once_same k))
-              ∙ t.unrated j m (omega (arith, next-rate j));
+              marks_kept k 3 h j (λ (z : j ≡ k). omega (arith, rw z at (next_rate j), rw z at s, once_same k))
+              ∙ t.unrated j m (omega (arith, next_rate j));
           other = two_kept k 3 h (λ z. omega arith);
         }
 
@@ -208,7 +208,7 @@ module _ (us : List TextUnit) (one : Once (keys (definitions us)))
       let rest = pass_row (es ++ (e ∷ [])) r l₁ a.2 low.1
       (stand_next es l t (es ++ (e ∷ [])) e.key e.target (λ j. assigned_next j es e) (λ j. rated_next j es e)
       a.1) in
-      let one-equation : Passes 3 l (own ++ (last ∷ [])) l₁ =
+      let one_equation : Passes 3 l (own ++ (last ∷ [])) l₁ =
       λ p h.
       let tree = judge_tree slot e.tree p 0 l (reads es l t e a.0) (omega (arith, low.0)) h in (
         3,
@@ -219,7 +219,7 @@ module _ (us : List TextUnit) (one : Once (keys (definitions us)))
       let w : own ++ (last ∷ R) ≡ (own ++ (last ∷ [])) ++ R = sym (append_assoc own (last ∷ []) R) in (
         rest.0,
         rw (append_assoc es (e ∷ []) r) at rest.1,
-        rw (row_first ds e r, w) (passes_append 3 l l₁ rest.0 (own ++ (last ∷ [])) R one-equation rest.2),
+        rw (row_first ds e r, w) (passes_append 3 l l₁ rest.0 (own ++ (last ∷ [])) R one_equation rest.2),
       )
 
   -- ---- from the start: slot 0 is set, and no other

@@ -248,7 +248,7 @@ module _ (n : ℕ) (some : 0 < n) (xs : List Instr) (sound : SoundWithin n 1 0 x
   abbrev step_front : Float → List Float → List Float → List Float
   step_front h f g = advanced h (move_all h (run_front f g).derivs (run_front f g).values xs)
 
-  module _ (v d : List Float) (roomy : n ≤ length v) (roomy-too : n ≤ length d) where
+  module _ (v d : List Float) (roomy : n ≤ length v) (roomy_too : n ≤ length d) where
     abbrev f : List Float
     f = take n v
 
@@ -259,7 +259,7 @@ module _ (n : ℕ) (some : 0 < n) (xs : List Instr) (sound : SoundWithin n 1 0 x
     f_long = length-take-le n v roomy
 
     g_long : length g ≡ n
-    g_long = length-take-le n d roomy-too
+    g_long = length-take-le n d roomy_too
 
     -- evaluating
     run_parted : Parted n (run_front f g).values (run_front f g).derivs v d (run (begun v d) xs)
@@ -402,13 +402,13 @@ module _ (n m : ℕ) (some : 0 < n) (more : n ≤ m) (p : List ℕ) where
         (unless (refusal_within m p w e) w e (made (decoded_within m p) w e))
     goes f g made parts =
         let roomy : n ≤ length w = omega (arith, lent.values_room) in
-        let roomy-too : n ≤ length e = omega (arith, lent.derivs_room) in
+        let roomy_too : n ≤ length e = omega (arith, lent.derivs_room) in
         let k = made xs v d in
         let l = made xs w e in
         let x = parts v d few.values few.derivs in
-        let y = rw (lent.values, lent.derivs) at (parts w e roomy roomy-too) in
-        let k-long = parted_long n _ _ v d k x few.values few.derivs in
-        let l-long = parted_long n _ _ w e l y roomy roomy-too in
+        let y = rw (lent.values, lent.derivs) at (parts w e roomy roomy_too) in
+        let k_long = parted_long n _ _ v d k x few.values few.derivs in
+        let l_long = parted_long n _ _ w e l y roomy roomy_too in
         let same = parted_same n _ _ v d w e k l x y (answer 0 0) in
         rw (
           same_records v d lent.accepted,
@@ -420,10 +420,10 @@ module _ (n m : ℕ) (some : 0 < n) (more : n ≤ m) (p : List ℕ) where
           next = record {
             accepted =
                 ap (λ (a : Answer). a.number)
-                (by_few v d lent.accepted k.values k.derivs (omega (arith, k-long.0, few.values))
-                (omega (arith, k-long.1, few.derivs)));
-            values_room = omega (arith, l-long.0, lent.values_room);
-            derivs_room = omega (arith, l-long.1, lent.derivs_room);
+                (by_few v d lent.accepted k.values k.derivs (omega (arith, k_long.0, few.values))
+                (omega (arith, k_long.1, few.derivs)));
+            values_room = omega (arith, l_long.0, lent.values_room);
+            derivs_room = omega (arith, l_long.1, lent.derivs_room);
             values = same.values;
             derivs = same.derivs;
           };

@@ -130,7 +130,7 @@ late_behind p k (x ∷ xs) s =
 -- ---- two programs, of which the second has the statements of the first in the order q
 module _ (p r q : List ℕ) (sorted : decoded r ≡ sorted_by q (decoded p))
     (once : Permutation (length (statements (decoded p))) q) (kinds : NoneAgain (decoded p))
-    (taken : Accepted p) (taken-too : Accepted r) where
+    (taken : Accepted p) (taken_too : Accepted r) where
   abbrev xs : List Instr
   xs = decoded p
 
@@ -150,7 +150,7 @@ module _ (p r q : List ℕ) (sorted : decoded r ≡ sorted_by q (decoded p))
       let late = late_behind 1 0 xs g.sound in
       let first = firsts xs in
       let later = concat_map (λ (i : ℕ). get_or (statements xs) i []) q in
-      let moved-late : Every Late later =
+      let moved_late : Every Late later =
       every_part Late (λ (i : ℕ). get_or (statements xs) i []) (part_every stands_first ends_statement Late xs late)
       q in
       let own : each_state (put_by to) u xs ≡ each_state (put_by to) u first =
@@ -158,7 +158,7 @@ module _ (p r q : List ℕ) (sorted : decoded r ≡ sorted_by q (decoded p))
       ∙ all_append to u first (laters xs)
       ∙ states_none (put_by to) _ (laters xs) late in
       let other : each_state (put_by to) u (decoded r) ≡ each_state (put_by to) u first =
-      ap (each_state (put_by to) u) sorted ∙ all_append to u first later ∙ states_none (put_by to) _ later moved-late in
+      ap (each_state (put_by to) u) sorted ∙ all_append to u first later ∙ states_none (put_by to) _ later moved_late in
       own ∙ sym other
 
   -- ---- with two buffers that are long enough
@@ -236,14 +236,14 @@ module _ (p r q : List ℕ) (sorted : decoded r ≡ sorted_by q (decoded p))
         → (Same v v' s ⊎ SetSlot (shapes r) s → Same (ran r v d).values v' s)
         × (Same d d' s ⊎ DerivedSlot (shapes r) s → Same (ran r v d).derivs d' s)
     side_by_side s =
-        let a = refusal_judge r v d (ap (λ (x : Answer). x.number) (taken-too v d roomy)) in
-        let g = granted {r = answer 0 0} (sym (taken-too v d roomy)) refl in
+        let a = refusal_judge r v d (ap (λ (x : Answer). x.number) (taken_too v d roomy)) in
+        let g = granted {r = answer 0 0} (sym (taken_too v d roomy)) refl in
         let room : Roomy (begun v d) (begun v' d') =
         record { values = roomy.values; values_too = lv; derivs = roomy.derivs; derivs_too = ld } in
         let first : Alike judge₀.marks (begun v d) (begun v' d') =
         record { stack = refl; values = λ t u. rw (begun_marked t u) (stays 0 (inl refl)) } in
         let states : (t : ℕ) → StateSlot (shapes r) t → Same v v' t =
-        λ t z. ⊎_elim (λ y. absurd (read_apart r v d (taken-too v d roomy) t (inr z) (kept_set t y))) (λ e. sym e)
+        λ t z. ⊎_elim (λ y. absurd (read_apart r v d (taken_too v d roomy) t (inr z) (kept_set t y))) (λ e. sym e)
         (run_stays xs (begun v d) t).0 in
         rw rests at (alike_run (decoded r) 0 1 0 judge₀ (begun v d) (begun v' d') a g.sound room first states s)
 
@@ -270,4 +270,4 @@ module _ (p r q : List ℕ) (sorted : decoded r ≡ sorted_by q (decoded p))
   moved_alike =
       let v = replicate {A = Float} slots nan in
       let long : slots ≤ length v = rw (length-replicate {A = Float} slots nan) (omega arith) in
-      runs_alike p r taken taken-too ends_same (states_same v v (record { values = long; derivs = long }))
+      runs_alike p r taken taken_too ends_same (states_same v v (record { values = long; derivs = long }))

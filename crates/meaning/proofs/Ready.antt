@@ -104,7 +104,7 @@ module _ (ds : List Def) where
       let gives = rated_key e.target e.key in
       let later : (k : ℕ) → count k (sets ++ assigned_keys r) ≡ count k sets + count k (assigned_keys r) =
       λ k. count_append k sets (assigned_keys r) in
-      let later-rate : (k : ℕ) → count k (gives ++ rated_keys r) ≡ count k gives + count k (rated_keys r) =
+      let later_rate : (k : ℕ) → count k (gives ++ rated_keys r) ≡ count k gives + count k (rated_keys r) =
       λ k. count_append k gives (rated_keys r) in
       record {
         known =
@@ -124,12 +124,12 @@ module _ (ds : List Def) where
             let n = b.not_above k (omega (arith, later k)) (omega arith) in
             omega (arith, assigned_next k es e);
         stored = λ k h. b.stored k (omega (arith, later k));
-        states = λ k h. b.states k (omega (arith, later-rate k));
+        states = λ k h. b.states k (omega (arith, later_rate k));
         unrated =
             λ k h.
-            let n = b.unrated k (omega (arith, later-rate k)) in
-            omega (arith, rated_next k es e, b.once k, later-rate k);
-        once = λ k. omega (arith, b.once k, later-rate k);
+            let n = b.unrated k (omega (arith, later_rate k)) in
+            omega (arith, rated_next k es e, b.once k, later_rate k);
+        once = λ k. omega (arith, b.once k, later_rate k);
       }
     where
       further : (k : ℕ) → IsSet es k → IsSet (es ++ (e ∷ [])) k

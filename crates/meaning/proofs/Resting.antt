@@ -109,13 +109,13 @@ module _ (slot : ℕ → ℕ) (v d : List Float) where
       λ k m. sym (every_number
       (λ (k : ℕ). get_or v (slot k) nan ≡ get_or (carried slot ns v) (slot k) nan) (keys_inside ns)
       (every_mapped _ _ (λ (n : Inner). n.key) (λ n e. e) ns h) k m) in
-      let set-slot : (p : ℕ) → Taken slot (assigned_keys g) p → get_or (values_after slot g v) p nan ≡ get_or v p nan =
+      let set_slot : (p : ℕ) → Taken slot (assigned_keys g) p → get_or (values_after slot g v) p nan ≡ get_or v p nan =
       λ p t.
       subst (λ (s : ℕ). get_or (values_after slot g v) s nan ≡ get_or v s nan) t.2
       (ap (λ (z : List Float). get_or z (slot t.0) nan) (sym (carried_after slot ns v))
       ∙ at t.0 (rw (group_assigned ns) at t.1)) in (
         ext_get_or nan (values_after slot g v) v (long_values slot g v)
-            (λ p _. ⊎_elim (set-slot p) (kept_values slot g v p) (taken_or_free slot (assigned_keys g) p)),
+            (λ p _. ⊎_elim (set_slot p) (kept_values slot g v p) (taken_or_free slot (assigned_keys g) p)),
         ext_get_or nan (derivs_after slot g v d) d (long_derivs slot g v d)
             (λ p _. kept_derivs slot g v d p (rw (group_rated ns) (λ j m e. omega arith))),
       )
@@ -154,11 +154,11 @@ module _ (slot : ℕ → ℕ) (v d : List Float) where
         (every_left (Rests slot v d) (map alone (fixed ds)) (map (runs_at us) q) r) in
         let defs = each_defined DefRests us
         (every_parts ConstantRests (λ (a : Def). as_equation a.line a.key a.what) ds cs) in
-        let at-q = every_unmapped (Rests slot v d) (runs_at us) q
+        let at_q = every_unmapped (Rests slot v d) (runs_at us) q
         (every_right (Rests slot v d) (map alone (fixed ds)) (map (runs_at us) q) r) in
         let rows : Every RowRests (order_units us) =
         every_places RowRests no_unit (order_units us)
-        (λ i h. every_number (λ (i : ℕ). Rests slot v d (runs_at us i)) q at-q i (omega (arith, g.perm.within i h))) in
+        (λ i h. every_number (λ (i : ℕ). Rests slot v d (runs_at us i)) q at_q i (omega (arith, g.perm.within i h))) in
         let each : EachRests us =
         every_both _ _ us defs (every_parts RowRests (λ (u : TextUnit). order_unit_of u.line u.body) us rows) in
         every_map _ _ us (λ u t. unit_holds u.line u.body t.0 t.1) (every_both _ _ us p each)

@@ -117,13 +117,13 @@ module _ (us : List TextUnit) (sound : UnitsSound us) (one : Once (keys (definit
 
   each_holds : EachHolds slot
   each_holds =
-      let constant-kept : (k : ℕ) → k ∈ constant_keys ds → get_or d' (slot k) nan ≡ get_or d (slot k) nan =
+      let constant_kept : (k : ℕ) → k ∈ constant_keys ds → get_or d' (slot k) nan ≡ get_or d (slot k) nan =
       λ k h. kept_deriv k (mine k (inl h)) (omega (arith, one k, count_names k ds)) in
-      let stored-kept : (k : ℕ) → k ∈ stored_names ds → get_or d' (slot k) nan ≡ get_or d (slot k) nan =
+      let stored_kept : (k : ℕ) → k ∈ stored_names ds → get_or d' (slot k) nan ≡ get_or d (slot k) nan =
       λ k h. kept_deriv k (mine k (inr (inl h))) (omega (arith, one k, count_names k ds)) in
-      asked_two (λ l c m h. (m, constant-kept c.key h)) (λ l k e m h. (m, stored-kept k h))
+      asked_two (λ l c m h. (m, constant_kept c.key h)) (λ l k e m h. (m, stored_kept k h))
       (λ l k i e m h. (kept_value k h, m))
-      (λ ns m h. every_map _ _ ns (λ (n : Inner) t. (t.0, stored-kept n.key t.1)) (every_both _ _ ns m h))
+      (λ ns m h. every_map _ _ ns (λ (n : Inner) t. (t.0, stored_kept n.key t.1)) (every_both _ _ ns m h))
       us met (each_name us sound)
 
   -- THE SOLUTION

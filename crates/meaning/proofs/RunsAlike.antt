@@ -33,7 +33,7 @@ abbrev pub SameStates : List ℕ → List ℕ → Type 0
 SameStates p r = (to : Float → ℕ → Float → Float) (v : List Float) → slots ≤ length v
     → each_state (put_by to) v (decoded p) ≡ each_state (put_by to) v (decoded r)
 
-module _ (p r : List ℕ) (taken : Accepted p) (taken-too : Accepted r) where
+module _ (p r : List ℕ) (taken : Accepted p) (taken_too : Accepted r) where
   -- two buffers are long enough, or one is not
   long_or_short : (v d : List Float) → HasSlots v d
       ⊎ ((length v < slots) ⊎ ((slots ≤ length v) × (length d < slots)))
@@ -51,7 +51,7 @@ module _ (p r : List ℕ) (taken : Accepted p) (taken-too : Accepted r) where
   both_done : (v d : List Float) (m n : Machine) → HasSlots v d → SameEnds m n
       → unless (refusal p v d) v d m ≡ unless (refusal r v d) v d n
   both_done v d m n h s =
-      rw (taken v d h, taken-too v d h)
+      rw (taken v d h, taken_too v d h)
       (ap₂ (λ (x y : List Float). run_outcome (answer 0 0) x y) s.values s.derivs)
 
   -- the same outcome

@@ -247,7 +247,7 @@ module _ (slot : ℕ → ℕ) where
       let next : (q : ℕ) → Same v w q ⊎ Taken sets q → Same (stored t (slot k) x v) (stored t (slot k) y w) q =
       λ q h. subst (λ (a : Float). Same (stored t (slot k) x v) (stored t (slot k) a w) q) same
       (stored_alike t k x v w q l h) in
-      let next-rate : (q : ℕ) → Same d c q ⊎ Taken (rated_key t k) q
+      let next_rate : (q : ℕ) → Same d c q ⊎ Taken (rated_key t k) q
       → Same (derived t (slot k) x d) (derived t (slot k) y c) q =
       λ q h. subst (λ (a : Float). Same (derived t (slot k) x d) (derived t (slot k) a c) q) same
       (derived_alike t k x d c q m h) in
@@ -268,9 +268,9 @@ module _ (slot : ℕ → ℕ) where
             ⊎_elim (λ a. inl (next p (inr (q.0, a, q.2)))) (λ a. inr (q.0, a, q.2))
             (in_either q.0 sets (assigned_keys es) q.1)) h),
         λ h. rest.1
-            (⊎_elim (λ s. inl (next-rate p (inl s)))
+            (⊎_elim (λ s. inl (next_rate p (inl s)))
             (λ (q : Taken (rated_key t k ++ rated_keys es) p).
-            ⊎_elim (λ a. inl (next-rate p (inr (q.0, a, q.2)))) (λ a. inr (q.0, a, q.2))
+            ⊎_elim (λ a. inl (next_rate p (inr (q.0, a, q.2)))) (λ a. inr (q.0, a, q.2))
             (in_either q.0 (rated_key t k) (rated_keys es) q.1)) h),
       )
 

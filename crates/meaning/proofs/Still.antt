@@ -117,8 +117,8 @@ no_parts (x ∷ xs) e =
 -- a place that gets what it has there stays
 put_back : (u w : List Float) (s : ℕ) (x : Float) → u ≡ w → s < length w → Same w (set u s x) s → set u s x ≡ w
 put_back u w s x e b same =
-    let in-u : s < length u = rw e b in
-    let y : get_or w s nan ≡ x = same ∙ get_or-set_same u s x nan in-u in
+    let in_u : s < length u = rw e b in
+    let y : get_or w s nan ≡ x = same ∙ get_or-set_same u s x nan in_u in
     ap₂ (λ (l : List Float) (z : Float). set l s z) e (sym y) ∙ set-get_or w s nan
 
 -- ---- v and d are where a run ended
@@ -196,18 +196,18 @@ module _ (v d : List Float) (lv : slots ≤ length v) (ld : slots ≤ length d) 
       let n = act m h in
       let g = judge_next i j x xs q.taken in
       let fine = good_fine j x g.0 in
-      let ends-v : (run n xs).values ≡ v = rw (run_next m x xs) at q.last_values in
-      let ends-d : (run n xs).derivs ≡ d = rw (run_next m x xs) at q.last_derivs in
+      let ends_v : (run n xs).values ≡ v = rw (run_next m x xs) at q.last_values in
+      let ends_d : (run n xs).derivs ≡ d = rw (run_next m x xs) at q.last_derivs in
       let set_now : (s : ℕ) → Marked ((rule_of h).marks j.marks) s → Same v n.values s =
       λ s u. ⊎_elim (λ z. absurd (marked_once xs (suc i) (judged j x) g.1 q.kinds.1 s u z))
-      (λ (e : Same (run n xs).values n.values s). ap (λ (l : List Float). get_or l s nan) (sym ends-v) ∙ e)
+      (λ (e : Same (run n xs).values n.values s). ap (λ (l : List Float). get_or l s nan) (sym ends_v) ∙ e)
       (run_stays xs n s).0 in
-      let derived-now : (s : ℕ) → get_or ((rule_of h).marks j.marks) s 0 ≡ derived_mark → Same d n.derivs s =
+      let derived_now : (s : ℕ) → get_or ((rule_of h).marks j.marks) s 0 ≡ derived_mark → Same d n.derivs s =
       λ s u. ⊎_elim (λ z. absurd (derived_once xs (suc i) (judged j x) g.1 s u z))
-      (λ (e : Same (run n xs).derivs n.derivs s). ap (λ (l : List Float). get_or l s nan) (sym ends-d) ∙ e)
+      (λ (e : Same (run n xs).derivs n.derivs s). ap (λ (l : List Float). get_or l s nan) (sym ends_d) ∙ e)
       (run_stays xs n s).1 in
       let now = still j.marks j.height m q.long q.values q.derivs h fine q.sound.0.slot
-      q.kinds.0 set_now derived-now in
+      q.kinds.0 set_now derived_now in
       record {
         taken = g.1;
         sound = q.sound.1;
@@ -216,8 +216,8 @@ module _ (v d : List Float) (lv : slots ≤ length v) (ld : slots ≤ length d) 
         high = rw (← q.high) (stack_high m h);
         values = now.0;
         derivs = now.1;
-        last_values = ends-v;
-        last_derivs = ends-d;
+        last_values = ends_v;
+        last_derivs = ends_d;
       }
 
   -- the statements of records on the way

@@ -10,8 +10,8 @@ use Rattle.limits.specs.Limits.{stack_places}
 use Rattle.tokens.specs.Symbol.{Symbol, mark, number, name, word}
 use Rattle.tokens.specs.Row.{row_of, symbols}
 use Rattle.tokens.proofs.Rows.{Fine, symbols_fine}
-use Rattle.drafts.specs.Tree.{Tree, Constant, Says, constants as constantsSaid, assignment as assignmentSaid}
-use Rattle.drafts.specs.Tree.{state as stateSaid, header, ending}
+use Rattle.drafts.specs.Tree.{Tree, Constant, Says, constants as constants_said, assignment as assignment_said}
+use Rattle.drafts.specs.Tree.{state as state_said, header, ending}
 use Rattle.drafts.specs.Items.{peak, peak_of}
 use Rattle.grammar.proofs.Stack.{suffices}
 use Rattle.sheet.specs.Sheet.{says, Numbered, said}
@@ -109,16 +109,16 @@ units_from_holds p (s ∷ ss) i h = step (λ q j. units_from_holds q ss j h.1) p
 
     step : ((q : Pending) → FitsPending q → FitsUnits (units_from q ss)) → (q : Pending) (x : Says) → FitsPending q
         → Fits x → FitsUnits (units_by q l x ++ units_from (pending_by q l x) ss)
-    step on idle (constantsSaid cs) j f = (f.0, on idle tt)
-    step on idle (assignmentSaid k e) j f = (f, on idle tt)
-    step on idle (stateSaid k i e) j f = ((f.0.0, (f.0.1, f.1)), on idle tt)
+    step on idle (constants_said cs) j f = (f.0, on idle tt)
+    step on idle (assignment_said k e) j f = (f, on idle tt)
+    step on idle (state_said k i e) j f = ((f.0.0, (f.0.1, f.1)), on idle tt)
     step on idle (header os is) j f = on (partly l os is []) tt
     step on idle ending j f = on idle tt
-    step on (partly m os is ns) (constantsSaid cs) j f = on (partly m os is ns) j
-    step on (partly m os is ns) (assignmentSaid k e) j f =
+    step on (partly m os is ns) (constants_said cs) j f = on (partly m os is ns) j
+    step on (partly m os is ns) (assignment_said k e) j f =
         on (partly m os is (ns ++ (inner_of os ns l k e ∷ [])))
         (every_append FitsInner ns (inner_of os ns l k e ∷ []) j (f, tt))
-    step on (partly m os is ns) (stateSaid k i e) j f = on (partly m os is ns) j
+    step on (partly m os is ns) (state_said k i e) j f = on (partly m os is ns) j
     step on (partly m os is ns) (header os' is') j f = on (partly l os' is' []) tt
     step on (partly m os is ns) ending j f = (j, on idle tt)
 

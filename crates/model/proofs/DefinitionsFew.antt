@@ -3,7 +3,7 @@ use Prim.Native.Nat.{ℕ, ◌≤◌}
 use mathlib.Core.List.{List}
 use native.Mathlib.Omega.{arith}
 use lib.ListN.{length, length-map}
-use Rattle.drafts.specs.Tree.{Constant, constants as constantsSaid}
+use Rattle.drafts.specs.Tree.{Constant, constants as constants_said}
 use Rattle.sheet.specs.Sheet.{Numbered}
 use Rattle.blocks.specs.Units.{constants, Sets, given, own, anew, alone, Stated}
 use Rattle.blocks.specs.Members.{settings_by, settings, units_of}
@@ -18,7 +18,7 @@ inside_few l k anew = omega arith
 
 -- as many definitions as constants
 constants_many : (l : ℕ) (cs : List Constant) → length (defined_by l (alone (constants cs))) ≤ length
-    (settings_by (constantsSaid cs))
+    (settings_by (constants_said cs))
 constants_many l cs =
     omega (
       arith,

@@ -11,7 +11,7 @@ use Rattle.deck.specs.Reading.{Statement, fresh, reading}
 use Rattle.deck.specs.Reports.{Report, report}
 use Rattle.deck.proofs.Rising.{firsts, reading_rises}
 use Rattle.deck.specs.declared.Spot.{Spot}
-use Rattle.drafts.specs.Tree.{Says, constants as constantsSaid, assignment as assignmentSaid, state as stateSaid}
+use Rattle.drafts.specs.Tree.{Says, constants as constants_said, assignment as assignment_said, state as state_said}
 use Rattle.drafts.specs.Tree.{header, ending}
 use Rattle.sheet.specs.Sheet.{Told, says, faulty, Sheet, Numbered, said}
 use Rattle.sheet.specs.Reader.{told, sheet_of}
@@ -73,15 +73,15 @@ units_from_holds c b p (s ∷ ss) i r = step (λ d q j. units_from_holds d (suc 
 
     step : On → (q : Pending) (x : Says) → Since c b q
         → Rising c (unit_lines (units_by q l x ++ units_from (pending_by q l x) ss))
-    step on idle (constantsSaid cs) j = (omega (arith, r.0), on (suc l) idle (omega arith))
-    step on idle (assignmentSaid k e) j = (omega (arith, r.0), on (suc l) idle (omega arith))
-    step on idle (stateSaid k n e) j = (omega (arith, r.0), on (suc l) idle (omega arith))
+    step on idle (constants_said cs) j = (omega (arith, r.0), on (suc l) idle (omega arith))
+    step on idle (assignment_said k e) j = (omega (arith, r.0), on (suc l) idle (omega arith))
+    step on idle (state_said k n e) j = (omega (arith, r.0), on (suc l) idle (omega arith))
     step on idle (header os is) j = on c (partly l os is []) (omega (arith, r.0), omega arith)
     step on idle ending j = on c idle (omega (arith, r.0))
-    step on (partly h os is ns) (constantsSaid cs) j = on c (partly h os is ns) (j.0, omega (arith, r.0, j.1))
-    step on (partly h os is ns) (assignmentSaid k e) j =
+    step on (partly h os is ns) (constants_said cs) j = on c (partly h os is ns) (j.0, omega (arith, r.0, j.1))
+    step on (partly h os is ns) (assignment_said k e) j =
         on c (partly h os is (ns ++ (inner_of os ns l k e ∷ []))) (j.0, omega (arith, r.0, j.1))
-    step on (partly h os is ns) (stateSaid k n e) j = on c (partly h os is ns) (j.0, omega (arith, r.0, j.1))
+    step on (partly h os is ns) (state_said k n e) j = on c (partly h os is ns) (j.0, omega (arith, r.0, j.1))
     step on (partly h os is ns) (header os' is') j =
         on c (partly l os' is' []) (omega (arith, r.0, j.0, j.1), omega arith)
     step on (partly h os is ns) ending j = (j.0, on (suc h) idle (omega (arith, r.0, j.1)))

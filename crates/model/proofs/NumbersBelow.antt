@@ -16,7 +16,7 @@ use Rattle.deck.specs.Next.{spread}
 use Rattle.deck.specs.declared.Place.{Place}
 use Rattle.deck.specs.declared.Spot.{Spot}
 use Rattle.deck.proofs.Covered.{Covered, text_covered, spot_within, spot_column}
-use Rattle.drafts.specs.Tree.{Says, constants as constantsSaid, assignment as assignmentSaid, state as stateSaid}
+use Rattle.drafts.specs.Tree.{Says, constants as constants_said, assignment as assignment_said, state as state_said}
 use Rattle.drafts.specs.Tree.{header, ending}
 use Rattle.sheet.specs.Sheet.{Told, says, faulty, Sheet, Numbered, Fault, said_by, fault_by, said, statement_faults}
 use Rattle.sheet.specs.Reader.{cards_told, spotted, told, sheet_of}
@@ -102,16 +102,16 @@ module _ (P : ℕ → Type 0) where
       step : ((q : Pending) → PendingOn q → Every UnitOn (units_from q ss)) → (q : Pending) (x : Says)
           → PendingOn q
           → Every UnitOn (units_by q l x ++ units_from (pending_by q l x) ss)
-      step on idle (constantsSaid cs) j = ((h.0, tt), on idle tt)
-      step on idle (assignmentSaid k e) j = ((h.0, tt), on idle tt)
-      step on idle (stateSaid k i e) j = ((h.0, tt), on idle tt)
+      step on idle (constants_said cs) j = ((h.0, tt), on idle tt)
+      step on idle (assignment_said k e) j = ((h.0, tt), on idle tt)
+      step on idle (state_said k i e) j = ((h.0, tt), on idle tt)
       step on idle (header os is) j = on (partly l os is []) (h.0, tt)
       step on idle ending j = on idle tt
-      step on (partly m os is ns) (constantsSaid cs) j = on (partly m os is ns) j
-      step on (partly m os is ns) (assignmentSaid k e) j =
+      step on (partly m os is ns) (constants_said cs) j = on (partly m os is ns) j
+      step on (partly m os is ns) (assignment_said k e) j =
           on (partly m os is (ns ++ (inner_of os ns l k e ∷ [])))
           (j.0, every_append InnerOn ns (inner_of os ns l k e ∷ []) j.1 (h.0, tt))
-      step on (partly m os is ns) (stateSaid k i e) j = on (partly m os is ns) j
+      step on (partly m os is ns) (state_said k i e) j = on (partly m os is ns) j
       step on (partly m os is ns) (header os' is') j = on (partly l os' is' []) (h.0, tt)
       step on (partly m os is ns) ending j = (block_on m l os is ns j.0 h.0 j.1, on idle tt)
 
@@ -201,9 +201,9 @@ module _ (P : ℕ → Type 0) where
 
   standing_on : (free ks : List ℕ) (q : Standing) (s : Numbered) (x : Says) → P s.line
       → Every FirstFault (fault26 free ks q s x)
-  standing_on free ks q s (constantsSaid cs) h = inner_on free q s h
-  standing_on free ks q s (assignmentSaid k e) h = inner_on free q s h
-  standing_on free ks q s (stateSaid k i e) h = inner_on free q s h
+  standing_on free ks q s (constants_said cs) h = inner_on free q s h
+  standing_on free ks q s (assignment_said k e) h = inner_on free q s h
+  standing_on free ks q s (state_said k i e) h = inner_on free q s h
   standing_on free ks q s (header os is) h = if_on (head_wrong os ks) s.line 26 h
   standing_on free ks q s ending h = tt
 

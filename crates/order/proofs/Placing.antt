@@ -78,11 +78,11 @@ module _ {n : ℕ} {s u lent out marks flags cursors heads links waits : List �
   going_next : found ≡ chosen
   unfolding least_ready
   going_next =
-      let flag-so : (i : ℕ) → i < n → flag flags i ≡ ready_in n s u marks i =
+      let flag_so : (i : ℕ) → i < n → flag flags i ≡ ready_in n s u marks i =
       flags_tell g.fit g.state.known (λ i _ l e. omega (arith, g.fit.few)) in
       sym (first_skip (flag flags) n from g.begun (λ j h. le-ltb 0 (get_or flags j 0) (omega (arith, g.clear j h))))
       ∙ first_same (flag flags) (ready n uses placed) n n 0 (omega arith)
-      (λ i h. flag-so i h ∙ ready_same n s u marks i placed g.mark h)
+      (λ i h. flag_so i h ∙ ready_same n s u marks i placed g.mark h)
 
   -- what is found is one of the n, if it is not n itself
   pub going_found : (i : ℕ) → i ≡ found → (i ≡ n → ⊥) → i < n

@@ -173,12 +173,12 @@ pub fill_part : (vs b part : List ℕ) (w e : ℕ) → length vs ≡ record_byte
     → Fills vs w e b (take w b ++ (part ++ drop (e - w) (drop w b)))
 fill_part vs b part w e l p h q =
     let n = record_bytes * ((length b - w) / record_bytes) in
-    let all-over : part ≡ vs = q ∙ sets_all (take (e - w) (drop w b)) vs (mid_len w e b h ∙ omega arith) in
+    let all_over : part ≡ vs = q ∙ sets_all (take (e - w) (drop w b)) vs (mid_len w e b h ∙ omega arith) in
     let end : e ≡ w + length vs = omega arith in
     let all : take n vs ≡ vs = take_all n vs (omega arith) in
     record {
       behind = rw all end;
-      written = rw (all, all-over, Post-is w e b (omega arith), end, ← append_assoc)
+      written = rw (all, all_over, Post-is w e b (omega arith), end, ← append_assoc)
           (sym (sets-eq vs b w (omega arith)));
     }
 

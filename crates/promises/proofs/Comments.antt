@@ -38,13 +38,13 @@ use Rattle.promises.specs.Comments.{Commented, Unchanged, UnchangedFor}
 pub unchanged : (pre : List Line) (c : Line) (post : List Line) (a b : List ℕ) → Commented pre c post a b
     → (f p : ℕ) → Admitted (verdict_of a f p) → Admitted (verdict_of b f p)
     → Unchanged (length pre) a b f p
-unchanged pre c post a b w f p ok-a ok-b =
+unchanged pre c post a b w f p ok_a ok_b =
     let move = line_moved (length pre) in
     let zero = moved_stays (length pre) 0 zero-le in
     let sheet = sheet_commented pre c post a b w.without w.with w.comment in
     let ss = said (sheet_of a) in
     let said_moved = sheet.all_said in
-    let verdict = verdict_renumbered move zero a b sheet f p ok-a ok-b in
+    let verdict = verdict_renumbered move zero a b sheet f p ok_a ok_b in
     let us = text_units a in
     let sorted : List TextUnit → List Rec = λ (v : List TextUnit). program v (order_of v) in
     record {
@@ -67,12 +67,12 @@ pub unchanged_for : (pre : List Line) (c : Line) (post : List Line) (a b : List 
     → Admitted (verdict_of a (length f) (length p)) → Admitted (verdict_of b (length f) (length p))
     → (r t : Verdict) (f' p' g' s' : List ℕ) → Translates a f p r f' p' → Translates b g s t g' s'
     → UnchangedFor (length pre) r f p f' p' t g s g' s'
-unchanged_for pre c post a b w f p g s even-f even-p ok-a ok-b r t f' p' g' s' m n =
+unchanged_for pre c post a b w f p g s even_f even_p ok_a ok_b r t f' p' g' s' m n =
     let sheet = sheet_commented pre c post a b w.without w.with w.comment in
     let zero = moved_stays (length pre) 0 zero-le in
     let old = verdict_of a (length f) (length p) in
     let verdict : verdict_of b (length g) (length s) ≡ renumber_decision move old =
-    rw (even-f, even-p) (verdict_renumbered move zero a b sheet (length f) (length p) ok-a ok-b) in
+    rw (even_f, even_p) (verdict_renumbered move zero a b sheet (length f) (length p) ok_a ok_b) in
     go old m (n ∙ ap (λ (v : Decision). reply_of v g s) verdict)
   where
     move : ℕ → ℕ

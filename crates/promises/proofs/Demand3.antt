@@ -68,10 +68,10 @@ pub local_for : (pre old new post : List Line) (a b : List ℕ) → Change pre o
     → Faulted a → Faulted b
     → (r t : Verdict) (f' p' g' s' : List ℕ) → Translates a f p r f' p' → Translates b g s t g' s'
     → LocalFor pre old new post a b r f' p p' t g' s s'
-local_for pre old new post a b c f p g s room-old room-new ok-old ok-new w-old w-new r t f' p' g' s' m n =
+local_for pre old new post a b c f p g s room_old room_new ok_old ok_new w_old w_new r t f' p' g' s' m n =
     let both = local pre old new post a b c in
-    let first = answered a f p f' p' r room-old ok-old w-old m in
-    let second = answered b g s g' s' t room-new ok-new w-new n in
+    let first = answered a f p f' p' r room_old ok_old w_old m in
+    let second = answered b g s g' s' t room_new ok_new w_new n in
     let begins = both.front.faults in
     record {
       answer_old = first;

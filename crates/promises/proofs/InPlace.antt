@@ -94,13 +94,13 @@ module _ (text : List ℕ) where
   unfolding sheet_of
   in_place =
       let firsts = all_first FirstOf (said (sheet_of text)) said_first in
-      let faults-at : Report (Told Spot) → List Fault = λ r. fault_by r.line r.what in
+      let faults_at : Report (Told Spot) → List Fault = λ r. fault_by r.line r.what in
       record {
         statement_faults =
-            every_concat (λ (r : Report (Told Spot)). Every (InStatement text) (faults-at r)) (InStatement text)
-            faults-at (λ r h. h) (sheet_of text)
-            (every_mapped (λ (s : Statement). Every (InStatement text) (faults-at (report told s)))
-            (λ (r : Report (Told Spot)). Every (InStatement text) (faults-at r)) (report told) (λ s h. h)
+            every_concat (λ (r : Report (Told Spot)). Every (InStatement text) (faults_at r)) (InStatement text)
+            faults_at (λ r h. h) (sheet_of text)
+            (every_mapped (λ (s : Statement). Every (InStatement text) (faults_at (report told s)))
+            (λ (r : Report (Told Spot)). Every (InStatement text) (faults_at r)) (report told) (λ s h. h)
             (statements_of text) (every_member _ (statements_of text) fault_in));
         model_faults = every_map (FirstFault FirstOf) (InStatement text) (model_faults_of text) first_fault firsts;
         model_first = every_map (FirstFault FirstOf) _ (model_faults_of text) (λ f w. (w.1, w.2)) firsts;

@@ -14,7 +14,7 @@ use Rattle.deck.specs.Reading.{cards_of, after, ended, left, reading}
 use Rattle.deck.specs.Joined.{line_part, joined}
 use Rattle.deck.specs.Faults.{any_long, size_flaw}
 use Rattle.deck.specs.Spots.{byte_spot, last_spot}
-use Rattle.tokens.specs.Number.{decimal, digits_from, exponent_from, ten_to, scaled, ranged_number as tokenOf}
+use Rattle.tokens.specs.Number.{decimal, digits_from, exponent_from, ten_to, scaled, ranged_number as token_of}
 use Rattle.tokens.specs.Token.{number_cut, name_at, token_at, cut_at}
 use Rattle.tokens.specs.Symbol.{look_up, symbol_named}
 use Rattle.tokens.specs.Row.{row_from, row_of}
@@ -45,7 +45,7 @@ use Rattle.promises.specs.Table.{Trial, trials, shown, wanted, tank, deck, loop,
 pub tried : map shown trials ≡ map wanted trials
 unfolding trials listing listing_of figures_in verdict_within decided_within lines_of trimmed dotted passed cards_of
     after ended left reading line_part joined any_long size_flaw byte_spot last_spot cards_told told sheet_of
-    concat_map same_bytes numbers front_run count low_word decimal digits_from exponent_from ten_to scaled tokenOf
+    concat_map same_bytes numbers front_run count low_word decimal digits_from exponent_from ten_to scaled token_of
     number_cut name_at token_at cut_at
     look_up symbol_named row_from row_of
     names postfix next rest byte_of give_to factor_start start_of bind parse by_signed_number many initially assigned
@@ -69,7 +69,7 @@ pub computed : (height_of (verdict_of deck fault_room program_room) ≡ stack_pl
 unfolding highest judge_from good any_open verdict_within decided_within lines_of trimmed dotted passed cards_of after
     ended left reading line_part joined
     any_long size_flaw cards_told told sheet_of concat_map
-    same_bytes numbers front_run count low_word decimal digits_from exponent_from ten_to scaled tokenOf number_cut
+    same_bytes numbers front_run count low_word decimal digits_from exponent_from ten_to scaled token_of number_cut
     name_at token_at cut_at
     look_up symbol_named row_from row_of names
     postfix next rest byte_of give_to factor_start start_of bind parse by_signed_number many initially assigned

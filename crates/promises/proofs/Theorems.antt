@@ -7,7 +7,7 @@ use mathlib.Core.Logic.{◌↔◌}
 use mathlib.Core.List.{List, [], ◌∷◌, ◌++◌, map, Memᴰ}
 use lib.ListN.{length}
 use lib.Ieee.{Float, nan, lt, le}
-use Rattle.limits.specs.Limits.{levels, stack_places, fault_room, program_room, name_bytes, slots as slotCount}
+use Rattle.limits.specs.Limits.{levels, stack_places, fault_room, program_room, name_bytes, slots as slot_count}
 use Rattle.limits.specs.Before.{sizes_before, slots_before}
 use Rattle.laws.specs.Every.{Every}
 use Rattle.laws.specs.Text.{bytes}
@@ -59,7 +59,7 @@ use Rattle.meaning.specs.Depth.{highest, height_of}
 use Rattle.meaning.proofs.Acceptance as acceptance
 use Rattle.laws.proofs.Compares as compares
 use Rattle.meaning.proofs.ReadSlots as slots
-use Rattle.promises.specs.Table.{Trial, trials, shown, wanted, tank, deck as full-deck, loop, Plain}
+use Rattle.promises.specs.Table.{Trial, trials, shown, wanted, tank, deck as full_deck, loop, Plain}
 use Rattle.promises.specs.Table.{number_for}
 use Rattle.promises.specs.Demand2.{Decided, DecidedFor}
 use Rattle.promises.specs.Demand3.{Change, Local, LocalFor}
@@ -69,9 +69,9 @@ use Rattle.promises.specs.AnyOrder.{tank_sorted, tank_early, tank_judged, Sortin
 use Rattle.promises.specs.Before.{AsBefore, LinkedAsBefore}
 use Rattle.promises.specs.Agreement as agree
 use Rattle.promises.proofs.Table as table
-use Rattle.promises.proofs.Demand1 as demand-one
-use Rattle.promises.proofs.Demand2 as demand-two
-use Rattle.promises.proofs.Demand3 as demand-three
+use Rattle.promises.proofs.Demand1 as demand_one
+use Rattle.promises.proofs.Demand2 as demand_two
+use Rattle.promises.proofs.Demand3 as demand_three
 use Rattle.promises.proofs.Comments as comments
 use Rattle.promises.proofs.InPlace as places
 use Rattle.promises.proofs.Grammar as rows
@@ -91,7 +91,7 @@ tried = table.tried
 pub each_trial : (t : Trial) → Memᴰ t trials → shown t ≡ wanted t
 each_trial = table.each_trial
 
-pub computed : (height_of (verdict_of full-deck fault_room program_room) ≡ stack_places)
+pub computed : (height_of (verdict_of full_deck fault_room program_room) ≡ stack_places)
     × (number_for (bytes tank) ≡ 0) × Plain (bytes tank) × (number_for loop ≡ 7) × Plain loop
     × (tank_judged tank_sorted ≡ answer 0 0) × (tank_judged tank_early ≡ answer 3 6)
 computed = table.computed
@@ -99,38 +99,38 @@ computed = table.computed
 -- ---- demand 1: refusals
 
 pub exactly : (text : List ℕ) (f p : ℕ) → Exactly text f p
-exactly = demand-one.exactly
+exactly = demand_one.exactly
 
 pub writes : (text f p : List ℕ) → Writes text f p
-writes = demand-one.writes
+writes = demand_one.writes
 
 pub names_rule : (text f o : List ℕ) → NamesRule text f o
-names_rule = demand-one.names_rule
+names_rule = demand_one.names_rule
 
 pub unwritten : (p : List ℕ) (h : Float) (v d : List Float)
     → RefusedUnwritten v d (evaluated p v d) × RefusedUnwritten v d (started p v d)
     × RefusedUnwritten v d (stepped p h v d)
-unwritten = demand-one.unwritten
+unwritten = demand_one.unwritten
 
 -- ---- demand 2: sorting
 
 pub decided : (text : List ℕ) (f p : ℕ) → Unrefused text f p → Decided text f p
-decided = demand-two.decided
+decided = demand_two.decided
 
 pub decided_for : (text f p f' p' : List ℕ) (r : Verdict) → Translates text f p r f' p'
     → Unrefused text (length f) (length p) → DecidedFor (text_units text) r f' p p'
-decided_for = demand-two.decided_for
+decided_for = demand_two.decided_for
 
 pub tank_unrefused : Unrefused (bytes tank) fault_room program_room
-tank_unrefused = demand-two.tank_unrefused
+tank_unrefused = demand_two.tank_unrefused
 
 pub loop_unrefused : Unrefused loop fault_room program_room
-loop_unrefused = demand-two.loop_unrefused
+loop_unrefused = demand_two.loop_unrefused
 
 -- ---- demand 3: a change stays local
 
 pub local : (pre old new post : List Line) (a b : List ℕ) → Change pre old new post a b → Local pre old new post a b
-local = demand-three.local
+local = demand_three.local
 
 pub local_for : (pre old new post : List Line) (a b : List ℕ) → Change pre old new post a b
     → (f p g s : List ℕ) → fault_room ≤ length f → fault_room ≤ length g
@@ -138,7 +138,7 @@ pub local_for : (pre old new post : List Line) (a b : List ℕ) → Change pre o
     → Faulted a → Faulted b
     → (r t : Verdict) (f' p' g' s' : List ℕ) → Translates a f p r f' p' → Translates b g s t g' s'
     → LocalFor pre old new post a b r f' p p' t g' s s'
-local_for = demand-three.local_for
+local_for = demand_three.local_for
 
 pub no_program : (text f p : List ℕ) → Faulted text → NoProgram text f p
 no_program = replies.no_program
@@ -161,27 +161,27 @@ answered = replies.answered
 
 pub both_faulted : (pre old new post : List Line) (a b : List ℕ) → Change pre old new post a b
     → (faults_from (closed_of pre) ≡ [] → ⊥) → Faulted a × Faulted b
-both_faulted = demand-three.both_faulted
+both_faulted = demand_three.both_faulted
 
 pub both_convicted : (pre old new post : List Line) (a b : List ℕ) → Change pre old new post a b
     → (faults_from (closed_of pre) ≡ [] → ⊥) → (f p : List ℕ) → fault_room ≤ length f
     → Admitted (verdict_of a (length f) (length p)) → Admitted (verdict_of b (length f) (length p))
     → ((translation a f p).number ≡ 5) × ((translation b f p).number ≡ 5)
-both_convicted = demand-three.both_convicted
+both_convicted = demand_three.both_convicted
 
 pub whole_lines : (pre old new post : List ℕ)
     → Change (lines_of (pre ++ (10 ∷ []))) (lines_of (old ++ (10 ∷ []))) (lines_of (new ++ (10 ∷ []))) (lines_of post)
     (pre ++ (10 ∷ (old ++ (10 ∷ post)))) (pre ++ (10 ∷ (new ++ (10 ∷ post))))
-whole_lines = demand-three.whole_lines
+whole_lines = demand_three.whole_lines
 
 pub append_a_card : (x : List ℕ) (last : ℕ) (cards : List ℕ) → (last ≡ 10 → ⊥)
     → Change (lines_of (x ++ (last ∷ []))) [] (lines_of cards) [] (x ++ (last ∷ []))
     ((x ++ (last ∷ [])) ++ (10 ∷ cards))
-append_a_card = demand-three.append_a_card
+append_a_card = demand_three.append_a_card
 
 pub a_card_appended : Change (bytes "A=1" ∷ bytes "B=2" ∷ []) [] (bytes "C=3" ∷ []) [] (bytes "A=1\nB=2")
     (bytes "A=1\nB=2\nC=3")
-a_card_appended = demand-three.a_card_appended
+a_card_appended = demand_three.a_card_appended
 
 -- ---- comments change nothing
 
@@ -328,14 +328,14 @@ block_whole = any.block_whole
 
 -- ---- programs and texts from before
 
-pub old_programs : (p : List ℕ) → MoreSlots slots_before slotCount p
+pub old_programs : (p : List ℕ) → MoreSlots slots_before slot_count p
 old_programs = before.old_programs
 
-pub old_programs_for : (p : List ℕ) (v d w e : List Float) → LentAlike slots_before slotCount p v d w e
+pub old_programs_for : (p : List ℕ) (v d w e : List Float) → LentAlike slots_before slot_count p v d w e
     → AsBefore p v d w e
 old_programs_for = before.old_programs_for
 
-pub old_programs_linked : (p : List ℕ) (v d w e : List Float) → LentAlike slots_before slotCount p v d w e
+pub old_programs_linked : (p : List ℕ) (v d w e : List Float) → LentAlike slots_before slot_count p v d w e
     → LinkedAsBefore p v d w e
 old_programs_linked = before.old_programs_linked
 
@@ -371,7 +371,7 @@ depth_height = stack.depth_height
 pub enough : (text : List ℕ) (f p : ℕ) → height_of (verdict_of text f p) ≤ stack_places
 enough = stack.enough
 
-pub filled : height_of (verdict_of full-deck fault_room program_room) ≡ stack_places
+pub filled : height_of (verdict_of full_deck fault_room program_room) ≡ stack_places
 filled = stack.filled
 
 -- ---- agreement, crate by crate

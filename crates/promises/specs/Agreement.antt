@@ -68,8 +68,8 @@ pub record Drafts : Type 0 where
 
 -- a row of tokens parsed
 pub record Grammar : Type 0 where
-  pub parse_row : (kinds args out-kinds out-args : List ℕ) (place : ℕ)
-      → Agree3 (ParsesRow kinds args out-kinds out-args place)
+  pub parse_row : (kinds args out_kinds out_args : List ℕ) (place : ℕ)
+      → Agree3 (ParsesRow kinds args out_kinds out_args place)
 
 -- the order of a table of uses
 pub record Order : Type 0 where

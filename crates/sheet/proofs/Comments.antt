@@ -113,18 +113,18 @@ sheet_commented pre c post a b without with star =
     let old = reading fresh 1 (pre ++ post) in
     let new = reading fresh 1 (pre ++ (c ∷ post)) in
     let pairs = statements_commented c star pre post in
-    let said-by : Report (Told Spot) → List Numbered = λ (r : Report (Told Spot)). said_by r.line r.what in
-    let fault_by_holds : Report (Told Spot) → List Fault = λ (r : Report (Told Spot)). fault_by r.line r.what in
+    let by_said : Report (Told Spot) → List Numbered = λ (r : Report (Told Spot)). said_by r.line r.what in
+    let by_fault : Report (Told Spot) → List Fault = λ (r : Report (Told Spot)). fault_by r.line r.what in
     rw (with, without)
     (record {
       many =
           length-map new (report told) ∙ pairs_length (Beside c n) old new pairs ∙ sym (length-map old (report told));
       all_said =
-          concat_mapped said-by (report told) new
+          concat_mapped by_said (report told) new
           ∙ pairs_concat (Beside c n) _ _ (renumber_numbered (line_moved n)) (said_beside c star n) old new pairs
-          ∙ sym (ap (map (renumber_numbered (line_moved n))) (concat_mapped said-by (report told) old));
+          ∙ sym (ap (map (renumber_numbered (line_moved n))) (concat_mapped by_said (report told) old));
       all_faults =
-          concat_mapped fault_by_holds (report told) new
+          concat_mapped by_fault (report told) new
           ∙ pairs_concat (Beside c n) _ _ (renumber_fault (line_moved n)) (faults_beside c star n) old new pairs
-          ∙ sym (ap (map (renumber_fault (line_moved n))) (concat_mapped fault_by_holds (report told) old));
+          ∙ sym (ap (map (renumber_fault (line_moved n))) (concat_mapped by_fault (report told) old));
     })

@@ -165,11 +165,11 @@ module _ (lines : List Line) (begun : Begun lines) where
       record {
         in_statement = told_in (cards_told (cards_of lines) closed) (cards_in closed);
         bad_token = λ none c at e p t.
-            let with-bad = subst (RowThere body 0 toks) e row in
-            let w = bad_stood body 0 toks c at with-bad in
+            let with_bad = subst (RowThere body 0 toks) e row in
+            let w = bad_stood body 0 toks c at with_bad in
             let same = told_spot closed c c p _ t ((statement_means lines closed).for_token none c at e) in (
               subst (CutThere lines at (ill c)) (sym same) (stood_there w.1),
-              each_before p same w.1 0 toks (bad c at) with-bad w.2,
+              each_before p same w.1 0 toks (bad c at) with_bad w.2,
             );
         wrong_token = λ w c i f h p t.
             let close = (row_of body).close in

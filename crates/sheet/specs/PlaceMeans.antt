@@ -51,7 +51,7 @@ pub record PlaceMeans (lines : List Line) (closed : Bool) : Type 0 where
   pub wrong_token : Scanned (cards_of lines) closed
       → (c i : ℕ) → FaultAt (symbols (tokens_of (cards_of lines))) c i → i < length (tokens_of (cards_of lines))
       → (p : Spot) → told lines closed ≡ faulty c p
-      → (let at-fault = get_or (tokens_of (cards_of lines)) i no_token in
-      CutThere lines at-fault.at (token at-fault.symbol) p)
+      → (let at_fault = get_or (tokens_of (cards_of lines)) i no_token in
+      CutThere lines at_fault.at (token at_fault.symbol) p)
       × ((j : ℕ) → j < i → Earlier (token_spot lines (get_or (tokens_of (cards_of lines)) j no_token)) p
       × ((d : ℕ) → FaultAt (symbols (tokens_of (cards_of lines))) d j → ⊥))

@@ -118,12 +118,12 @@ module _ (s ks₀ us₀ ks us : List ℕ) (from n : ℕ) (t : Turn s ks₀ us₀
   closing : (c : Close) → rest s from ≡ bare c → WritesRow s ks₀ us₀ (close_end c n) ks us
   closing c e =
       let all : close_end c (n + 0) ≡ row_end (row_of s) = rw e at t.answer in
-      let ks-all : ks ≡ sets ks₀ 0 (kinds_of (row_of s)) = rw e at t.kinds in
-      let us-all : us ≡ sets us₀ 0 (args_of (row_of s)) = rw e at t.args in
+      let ks_all : ks ≡ sets ks₀ 0 (kinds_of (row_of s)) = rw e at t.kinds in
+      let us_all : us ≡ sets us₀ 0 (args_of (row_of s)) = rw e at t.args in
       record {
         answer = rw full (ap (close_end c) (sym (add-zero n)) ∙ all);
-        kinds = rw full ks-all;
-        args = rw full us-all;
+        kinds = rw full ks_all;
+        args = rw full us_all;
       }
 
   -- at the end of the text

@@ -15,7 +15,7 @@ use Rattle.laws.proofs.Bools.{or_false}
 use Rattle.laws.proofs.Tests.{cond_ind}
 use Rattle.deck.specs.Lines.{lines_of}
 use Rattle.deck.specs.declared.Spot.{Spot}
-use Rattle.drafts.specs.Tree.{Says, constants as constantsSaid, assignment as assignmentSaid, state as stateSaid}
+use Rattle.drafts.specs.Tree.{Says, constants as constants_said, assignment as assignment_said, state as state_said}
 use Rattle.drafts.specs.Tree.{header, ending}
 use Rattle.drafts.specs.Kinds.{writes}
 use Rattle.sheet.specs.Sheet.{Told, says, faulty, Sheet, Numbered, Fault, said, said_by, fault_by, statement_faults}
@@ -160,9 +160,9 @@ inner_one free outer s = omega arith
 inner_one free (enclosed is above) s = one_if (not (inner_right free is above s.says)) s.line 26
 
 standing_one : (free ks : List ℕ) (p : Standing) (s : Numbered) (x : Says) → length (fault26 free ks p s x) ≤ 1
-standing_one free ks p s (constantsSaid cs) = inner_one free p s
-standing_one free ks p s (assignmentSaid k e) = inner_one free p s
-standing_one free ks p s (stateSaid k i e) = inner_one free p s
+standing_one free ks p s (constants_said cs) = inner_one free p s
+standing_one free ks p s (assignment_said k e) = inner_one free p s
+standing_one free ks p s (state_said k i e) = inner_one free p s
 standing_one free ks p s (header os is) = one_if (head_wrong os ks) s.line 26
 standing_one free ks p s ending = omega arith
 

@@ -115,13 +115,13 @@ module _ {lines bounds kinds args used faults : List ℕ} (ready : ArraysReady l
           (let z : g.number ≡ 0 = ap (λ (o : GroupOutcome). o.grouping.number) q ∙ listed_zero in omega arith)
 
   -- neither number: the units are listed, the fault list untouched
-  module _ (not_six : g.number ≡ 6 → ⊥) (not-seven : g.number ≡ 7 → ⊥) where
+  module _ (not_six : g.number ≡ 6 → ⊥) (not_seven : g.number ≡ 7 → ⊥) where
     clear : (many ≡ false) × (block_faults ss ≡ []) × (reached ≡ listed)
     clear = go grouped
       where
         go : Grouped → (many ≡ false) × (block_faults ss ≡ []) × (reached ≡ listed)
         go (over t n f) = absurd (not_six n)
-        go (flawed f fs t m n k l) = absurd (not-seven n)
+        go (flawed f fs t m n k l) = absurd (not_seven n)
         go (sound t m q) = (t, m, q)
 
     unblocked : block_faults ss ≡ []

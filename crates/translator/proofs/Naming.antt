@@ -119,12 +119,12 @@ module _ {lines bounds ulines ubounds firsts kinds args used faults : List ℕ}
   -- ---- the model is sound: what is written is what is asked for
   module _ {p : Plan} {args' used' faults' places equated order : List ℕ}
       (plans : Plans lines bounds ulines ubounds kinds args used faults unfilled p args' used' faults'
-      (arrays places equated order)) (out lent : List ℕ) (not-seven : p.number ≡ 7 → ⊥) where
+      (arrays places equated order)) (out lent : List ℕ) (not_seven : p.number ≡ 7 → ⊥) where
     clean : model_faults of ≡ []
-    clean = (clean_plan ready plans out lent not-seven).0
+    clean = (clean_plan ready plans out lent not_seven).0
 
     kept : faults' ≡ faults
-    kept = (clean_plan ready plans out lent not-seven).1
+    kept = (clean_plan ready plans out lent not_seven).1
 
     abbrev recs : List Rec
     recs = program of (order_of of)

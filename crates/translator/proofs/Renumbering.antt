@@ -121,11 +121,11 @@ pub verdict_renumbered : (g : ℕ → ℕ) → g 0 ≡ 0 → (a b : List ℕ) �
     → (f p : ℕ) → Admitted (verdict_of a f p) → Admitted (verdict_of b f p)
     → verdict_of b f p ≡ renumber_decision g (verdict_of a f p)
 unfolding verdict_within
-verdict_renumbered g z a b sheet f p ok-a ok-b =
+verdict_renumbered g z a b sheet f p ok_a ok_b =
     go (ltb f fault_room) (ltb text_bytes (length a)) (ltb text_lines (length (lines_of a))) (ltb text_bytes (length b))
     (ltb text_lines (length (lines_of b))) (decided p (sheet_of a)) (decided p (sheet_of b))
     (decided_renumbered g z p (sheet_of a) (sheet_of b) sheet)
-    ok-a.not_two ok-a.not_three ok-b.not_two ok-b.not_three
+    ok_a.not_two ok_a.not_three ok_b.not_two ok_b.not_three
   where
     go : (room bytes lines bytes' lines' : Bool) (x y : Decision) → y ≡ renumber_decision g x
         → (number_of (sized room bytes lines x) ≡ 2 → ⊥) → (number_of (sized room bytes lines x) ≡ 3 → ⊥)

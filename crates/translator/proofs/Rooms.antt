@@ -38,11 +38,11 @@ use Rattle.blocks.proofs.SheetFits.{bounds_many, laid_groups}
 use Rattle.translator.proofs.Counted.{counts, faults_few}
 use Rattle.translator.proofs.Verdicts.{sheet_many}
 
-module _ {text list₀ : List ℕ} (taken : Taken text list₀) (not-many : length (sheet_of text) ≤ most_statements)
+module _ {text list₀ : List ℕ} (taken : Taken text list₀) (not_many : length (sheet_of text) ≤ most_statements)
     {n : SoFar} {kinds args lines bounds list : List ℕ}
     (r : ReadThrough text list₀ n kinds args lines bounds list) where
   few : ltb most_statements (length (sheet_of text)) ≡ false
-  few = le-ltb most_statements (length (sheet_of text)) not-many
+  few = le-ltb most_statements (length (sheet_of text)) not_many
 
   -- 5: some fault stands, and the list is written
   pub says_five : (b : Bool) (p o : List ℕ) → 0 < n.faults
@@ -72,7 +72,7 @@ module _ {text list₀ : List ℕ} (taken : Taken text list₀) (not-many : leng
 
   -- no more statements than there may be
   pub statements_few : n.statements ≤ most_statements
-  statements_few = omega (arith, r.statements, counts (sheet_of text), not-many)
+  statements_few = omega (arith, r.statements, counts (sheet_of text), not_many)
 
   -- the drafts stand in both arrays
   abbrev drafts : List Draft

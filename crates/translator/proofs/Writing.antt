@@ -137,9 +137,9 @@ module _ {p : Plan} {places equated order lines bounds ulines firsts kinds args 
           (e₃ : r₃ ≡ take p.units order) (z : over ≡ false) where
         under : (record_count kinds ≤ most_records) × (record_count kinds ≤ length out / record_bytes)
         under =
-            let over-most = ltb most_records (record_count kinds) in
-            let over-room = ltb (length out / record_bytes) (record_count kinds) in
-            let both = or_false over-most over-room (sym tested ∙ z) in (
+            let over_most = ltb most_records (record_count kinds) in
+            let over_room = ltb (length out / record_bytes) (record_count kinds) in
+            let both = or_false over_most over_room (sym tested ∙ z) in (
               ltb-false most_records (record_count kinds) both.0,
               ltb-false (length out / record_bytes) (record_count kinds) both.1,
             )
@@ -183,14 +183,14 @@ module _ {p : Plan} {places equated order lines bounds ulines firsts kinds args 
         says_zero {n} {out'} {lent'} e g f =
             let count = counted (e.0 ∙ ap length all_fits) in
             let bytes = e.1 ∙ ap (sets out 0) (all_fits ∙ written_cut e₁ e₂ e₃) in
-            let lines-out = g ∙ ap (sets lent 0) handed_cut in
+            let lines_out = g ∙ ap (sets lent 0) handed_cut in
             let many : ℕ =
             length (handed us kinds s.unresolved lines bounds ulines s.ubounds firsts s.laid [] [] [] []) in
             let Reply : ℕ → ℕ → List ℕ → List ℕ → OrderedReply = λ k u o l. ordered_reply
             (ordered (Translated k) u) f o l in
             ap (λ (k : ℕ). Reply k p.units out' lent') count
             ∙ ap (λ (u : ℕ). Reply (record_count kinds) u out' lent') handed_many
-            ∙ ap₂ (λ (o l : List ℕ). Reply (record_count kinds) many o l) bytes lines-out
+            ∙ ap₂ (λ (o l : List ℕ). Reply (record_count kinds) many o l) bytes lines_out
             ∙ decides_zero us kinds s.unresolved lines bounds ulines s.ubounds firsts s.laid [] f out lent
             s.clean under.0 under.1
 
@@ -227,12 +227,12 @@ module _ {lines bounds ulines ubounds firsts kinds args used faults : List ℕ}
       conclusion b e
 
   -- another number: the model is sound, the fault list untouched
-  module _ (not-seven : p.number ≡ 7 → ⊥) where
+  module _ (not_seven : p.number ≡ 7 → ⊥) where
     sound : (model_faults of ≡ [])
         × (reached ≡ sound_plan of kinds args lines bounds ulines ubounds firsts ready.laid used faults)
     sound =
         decides_sound of kinds args lines bounds ulines ubounds firsts ready.laid used faults out lent reached
-        conclusion not-seven
+        conclusion not_seven
 
     -- so there is no fault, and none is listed
     pub clean_plan : (model_faults of ≡ []) × (faults' ≡ faults)

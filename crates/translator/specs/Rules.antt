@@ -8,7 +8,7 @@ use Rattle.sheet.specs.Sheet.{Fault, said, fault_list}
 use Rattle.sheet.specs.Reader.{sheet_of, faults_of, Faulted}
 use Rattle.sheet.specs.Numbers.{statements_of}
 use Rattle.blocks.specs.Members.{settings}
-use Rattle.model.specs.Definitions.{Def, definitions as definitionsIn}
+use Rattle.model.specs.Definitions.{Def, definitions as definitions_in}
 use Rattle.model.specs.Faults.{order_of}
 use Rattle.model.specs.Text.{text_units, model_faults_in}
 use Rattle.records.specs.Record.{Rec, program_bytes}
@@ -23,7 +23,7 @@ records_of text = program (text_units text) (order_of (text_units text))
 
 -- its definitions, in the order of their slots
 abbrev pub definitions_of : List ℕ → List Def
-definitions_of text = definitionsIn (text_units text)
+definitions_of text = definitions_in (text_units text)
 
 -- its model faults
 abbrev pub model_faults_of : List ℕ → List Fault

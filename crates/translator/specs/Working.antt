@@ -15,7 +15,7 @@ use Rattle.deck.specs.Reports.{report}
 use Rattle.deck.specs.Next.{statements_from, cards_at}
 use Rattle.deck.specs.Walks.{BytesFrom}
 use Rattle.drafts.specs.Drafts.{drafts_of}
-use Rattle.sheet.specs.Sheet.{Told, says, faulty as faultyTold, Sheet, Numbered, said, statement_faults, fault_at_spot}
+use Rattle.sheet.specs.Sheet.{Told, says, faulty as faulty_told, Sheet, Numbered, said, statement_faults, fault_at_spot}
 use Rattle.sheet.specs.Sheet.{entry_of}
 use Rattle.sheet.specs.Sheet.{fault_list}
 use Rattle.sheet.specs.Reader.{told, sheet_of}
@@ -57,7 +57,7 @@ use Rattle.translator.specs.declared.room.Tried.{Tried}
 abbrev pub TellsOf : Told Place → ℕ → List ℕ → List ℕ → Answer → List ℕ → List ℕ → Type 0
 TellsOf (says x) p l u r l' u' = (r ≡ Says (p + length (drafts_of x))) × (l' ≡ sets l p (draft_kinds (drafts_of x)))
     × (u' ≡ sets u p (draft_args (drafts_of x)))
-TellsOf (faultyTold c q) p l u r l' u' = (r ≡ FaultTold c q) × (take p l' ≡ take p l) × (take p u' ≡ take p u)
+TellsOf (faulty_told c q) p l u r l' u' = (r ≡ FaultTold c q) × (take p l' ≡ take p l) × (take p u' ≡ take p u)
 
 -- of what was told, by reading, and by what stands in the buffers before and after
 pub record Tells (t : Told Place) (p : ℕ) (l u : List ℕ) (r : Answer) (l' u' : List ℕ) : Type 0 where
@@ -122,7 +122,7 @@ AddsOf (says x) first n l u ls bs fs r l' u' ls' bs' fs' =
     × (ls' ≡ set ls n.statements first)
     × (bs' ≡ set bs (n.statements + 1) (n.drafts + length (drafts_of x)))
     × (fs' ≡ fs)
-AddsOf (faultyTold c q) first n l u ls bs fs r l' u' ls' bs' fs' =
+AddsOf (faulty_told c q) first n l u ls bs fs r l' u' ls' bs' fs' =
     (r ≡ record { statements = n.statements; drafts = n.drafts; faults = n.faults + 1 })
     × (take n.drafts l' ≡ take n.drafts l)
     × (take n.drafts u' ≡ take n.drafts u)
