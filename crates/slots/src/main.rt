@@ -44,10 +44,8 @@ fn put_byte(out: &mut [u8; LINES], n: usize, b: u8) -> usize {
 // Writes bytes behind the first n0.
 fn put_bytes(out: &mut [u8; LINES], n0: usize, bytes: &[u8]) -> usize {
     let mut n = n0;
-    let mut i: usize = 0;
-    while i < bytes.len() {
-        n = put_byte(&mut *out, n, bytes[i]);
-        i += 1;
+    for b in bytes {
+        n = put_byte(&mut *out, n, *b);
     }
     n
 }
@@ -77,10 +75,8 @@ fn put_name(out: &mut [u8; LINES], n0: usize, roster: &[u8; ROSTER], at: usize) 
     requires { at < 16368 }
 {
     let mut n = n0;
-    let mut i: usize = 0;
-    while i < WHAT_AT {
+    for i in 0..WHAT_AT {
         n = put_letter(&mut *out, n, byte_at(roster, at + i));
-        i += 1;
     }
     put_byte(out, n, b' ')
 }
@@ -107,13 +103,11 @@ fn put_line(out: &mut [u8; LINES], n: usize, roster: &[u8; ROSTER], i: usize) ->
 // Writes the lines of so many entries.
 fn put_lines(out: &mut [u8; LINES], roster: &[u8; ROSTER], count: usize) -> usize {
     let mut n: usize = 0;
-    let mut i: usize = 0;
-    while i < DEFINITIONS {
+    for i in 0..DEFINITIONS {
         if count <= i {
             return n;
         }
         n = put_line(&mut *out, n, roster, i);
-        i += 1;
     }
     n
 }

@@ -44,10 +44,8 @@ pub fn mixture(k: usize) -> [f64; SLOTS]
     requires { k ≤ 256 }
 {
     let mut values = [float_of(MARK); SLOTS];
-    let mut i: usize = 0;
-    while i < PLACES {
+    for i in 0..PLACES {
         values[i] = mixed(k + i);
-        i += 1;
     }
     values
 }
@@ -70,12 +68,10 @@ fn wanted(left: &[u8], from: usize, i: usize) -> u64
 pub fn same_bits(values: &[f64; SLOTS], left: &[u8], from: usize) -> bool
     requires { from < 65536 }
 {
-    let mut i: usize = 0;
-    while i < SLOTS {
+    for i in 0..SLOTS {
         if bits_of(values[i]) != wanted(left, from, i) {
             return false;
         }
-        i += 1;
     }
     true
 }

@@ -93,15 +93,13 @@ fn evaluated(rt: &impl Print, t0: Tally, program: &[u8], left: &[u8]) -> Tally {
 
 // Steps of h; how many are no refusal.
 fn step_all(program: &[u8], h: f64, v: &mut [f64; SLOTS], d: &mut [f64; SLOTS]) -> usize {
-    let mut n: usize = 0;
-    while n < STEPS {
+    for n in 0..STEPS {
         let a = evaluator::step(program, h, &mut *v, &mut *d);
         if a.number != 0 {
             return n;
         }
-        n += 1;
     }
-    n
+    STEPS
 }
 
 // It is started from the mixture, and then stepped.

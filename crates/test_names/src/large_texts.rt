@@ -49,10 +49,8 @@ fn put_pair(text: &mut [u8], k: usize)
 // 1,024 constants in 512 statements.
 fn pairs() -> [u8; PAIR * PAIRS] {
     let mut text = [0u8; PAIR * PAIRS];
-    let mut k: usize = 0;
-    while k < PAIRS {
+    for k in 0..PAIRS {
         put_pair(&mut text, k);
-        k += 1;
     }
     text
 }
@@ -68,10 +66,8 @@ fn letter(i: usize) -> u8 {
 // The entries of all but the last: 16,368 bytes.
 fn pairs_roster() -> [u8; ROSTER_BYTES * DEFINITIONS] {
     let mut roster = [0u8; ROSTER_BYTES * DEFINITIONS];
-    let mut i: usize = 0;
-    while i < DEFINITIONS {
+    for i in 0..DEFINITIONS {
         put_entry(&mut roster, i, name(letter(i), i / 2), 1, i as u64 / 2 + 1);
-        i += 1;
     }
     roster
 }
@@ -120,10 +116,8 @@ fn sum_byte(r: usize) -> u8 {
 // 14, the last at 4190 with 35 bytes.
 fn sums(last: &[u8; 4]) -> [u8; SUMS] {
     let mut text = [0u8; SUMS];
-    let mut i: usize = 0;
-    while i < SUMS {
+    for i in 0..SUMS {
         text[i] = sum_byte((i + 58) % SUM);
-        i += 1;
     }
     bits::put_bytes(&mut text, 0, b"PROCED A=P(T)\n");
     bits::put_bytes(&mut text, 4225, b"\nENDPRO\n");
@@ -192,10 +186,8 @@ fn input_byte(i: usize) -> u8 {
 // As many of them as the text has bytes.
 fn inputs() -> [u8; HEADERS] {
     let mut text = [0u8; HEADERS];
-    let mut i: usize = 0;
-    while i < HEADERS {
+    for i in 0..HEADERS {
         text[i] = input_byte(i);
-        i += 1;
     }
     text
 }
@@ -203,10 +195,8 @@ fn inputs() -> [u8; HEADERS] {
 // 64 blocks of 129 inputs each: more drafts than a quarter of the largest text has bytes.
 fn headers() -> [u8; HEADERS] {
     let mut text = inputs();
-    let mut k: usize = 0;
-    while k < BLOCKS {
+    for k in 0..BLOCKS {
         put_block(&mut text, k);
-        k += 1;
     }
     bits::put_bytes(&mut text, BLOCK * BLOCKS, b"CONST B=1");
     text
@@ -215,10 +205,8 @@ fn headers() -> [u8; HEADERS] {
 // The entries of their outputs, each on the fifth line of its block, and that of the constant.
 fn headers_roster() -> [u8; ROSTER_BYTES * BLOCKS + ROSTER_BYTES] {
     let mut roster = [0u8; ROSTER_BYTES * BLOCKS + ROSTER_BYTES];
-    let mut k: usize = 0;
-    while k < BLOCKS {
+    for k in 0..BLOCKS {
         put_entry(&mut roster, k, name(b'A', k), 3, BLOCK_LINES * k as u64 + 5);
-        k += 1;
     }
     put_entry(&mut roster, BLOCKS, [b'B', 0, 0, 0], 1, 385);
     roster

@@ -44,10 +44,8 @@ const MANY: usize = 4 * (STATEMENTS + 1);
 // These statements.
 fn statements() -> [u8; MANY] {
     let mut text = [0u8; MANY];
-    let mut i: usize = 0;
-    while i < MANY {
+    for i in 0..MANY {
         text[i] = byte_at(b"A=1\n", i % 4);
-        i += 1;
     }
     text
 }

@@ -33,12 +33,10 @@ fn mixed(every: usize) -> [f64; SLOTS]
     requires { 0 < every }
 {
     let mut values = sevens();
-    let mut i: usize = 0;
-    while i < SLOTS {
+    for i in 0..SLOTS {
         if i % every == 0 {
             values[i] = odd(i);
         }
-        i += 1;
     }
     values
 }
@@ -105,10 +103,8 @@ fn run_both(rt: &impl Print, t0: Tally, p: &[u8; PROGRAM], q: &[u8; PROGRAM], h:
     let a = evaluator::start(p, &mut v, &mut d);
     let b = evaluator::start(q, &mut w, &mut e);
     let mut t = alike(rt, t0, a, b, &v, &w, &d, &e);
-    let mut i: usize = 0;
-    while i < STEPS {
+    for _ in 0..STEPS {
         t = step_both(rt, t, p, q, h, &mut v, &mut w, &mut d, &mut e);
-        i += 1;
     }
     t
 }

@@ -10,12 +10,10 @@ pub fn sevens() -> [f64; SLOTS] {
 
 // Whether all places have the same bits. All NaNs are one.
 pub fn same_bits(a: &[f64; SLOTS], b: &[f64; SLOTS]) -> bool {
-    let mut i: usize = 0;
-    while i < SLOTS {
+    for i in 0..SLOTS {
         if bits_of(a[i]) != bits_of(b[i]) {
             return false;
         }
-        i += 1;
     }
     true
 }

@@ -106,13 +106,11 @@ fn each_order(
     let head = read_line(text, 0, &mut order);
     let mut t = t0;
     let mut at = head.next;
-    let mut k: usize = 1;
-    while k < ORDERS {
+    for _ in 1..ORDERS {
         let line = read_line(text, at, &mut order);
         t = number(rt, t, line.count, UNITS);
         t = good_order(rt, t, program, first, &order);
         at = line.next;
-        k += 1;
     }
     number(rt, t, at, text.len())
 }

@@ -57,13 +57,11 @@ fn longer(number: u16, digit: u8) -> u16 {
 // The number whose digits begin at a place.
 fn number_at(text: &[u8], from: usize) -> u16 {
     let mut number: u16 = 0;
-    let mut i = from;
-    while i < text.len() {
+    for i in from..text.len() {
         if !is_digit(text[i]) {
             return number;
         }
         number = longer(number, text[i]);
-        i += 1;
     }
     number
 }
@@ -115,10 +113,8 @@ fn put_records(
     requires { (a < 65536) × (e < 65536) }
 {
     let mut n = n0;
-    let mut i = a * RECORD_BYTES;
-    while i < e * RECORD_BYTES {
+    for i in a * RECORD_BYTES..e * RECORD_BYTES {
         n = put_byte(&mut *out, n, byte_at(program, i));
-        i += 1;
     }
     n
 }
@@ -127,13 +123,11 @@ fn put_records(
 fn unit_end(first: &[u16; UNITS], a: usize) -> usize
     ensures { result < 65536 }
 {
-    let mut k: usize = 0;
-    while k < UNITS {
+    for k in 0..UNITS {
         let begin = index(first[k]);
         if a < begin {
             return begin;
         }
-        k += 1;
     }
     COUNT
 }
@@ -146,11 +140,9 @@ pub fn sort(
     out: &mut [u8; PROGRAM],
 ) -> usize {
     let mut n = put_records(program, 0, index(first[0]), &mut *out, 0);
-    let mut k: usize = 0;
-    while k < UNITS {
+    for k in 0..UNITS {
         let a = index(order[k]);
         n = put_records(program, a, unit_end(first, a), &mut *out, n);
-        k += 1;
     }
     n
 }

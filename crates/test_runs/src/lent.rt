@@ -32,12 +32,10 @@ pub fn kept_in(values: &[f64]) -> usize
     ensures { result ≤ length values.now }
 {
     let mut n: usize = 0;
-    let mut i: usize = 0;
-    while i < values.len() {
-        if values[i] == 7.0 {
+    for value in values {
+        if *value == 7.0 {
             n += 1;
         }
-        i += 1;
     }
     n
 }
@@ -57,10 +55,8 @@ pub fn record(p: &mut [u8], i: usize, kind: u64, slot: u64, value: u64)
 pub fn records(p: &mut [u8], i0: usize, e: usize, kind: u64, slot: u64, value: u64)
     requires { e < most_records }
 {
-    let mut i = i0;
-    while i < e {
+    for i in i0..e {
         record(p, i, kind, slot, value);
-        i += 1;
     }
 }
 

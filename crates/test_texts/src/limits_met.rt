@@ -455,10 +455,8 @@ fn fault_room(rt: &impl Print, t: Tally, n: usize) -> Tally
 // Half of that, and every room from a fault less to a fault more.
 fn fault_rooms(rt: &impl Print, t0: Tally) -> Tally {
     let mut t = fault_room(rt, t0, 2048);
-    let mut n: usize = 4088;
-    while n <= 4104 {
+    for n in 4088..4105 {
         t = fault_room(rt, t, n);
-        n += 1;
     }
     t
 }

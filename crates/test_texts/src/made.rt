@@ -101,10 +101,8 @@ fn byte_by(rule: Rule, k: usize, r: usize, w: usize) -> u8 {
 pub fn fill(out: &mut [u8], rule: Rule, from: usize, w: usize)
     requires { (from ≤ 1024) × (w ≤ 72) }
 {
-    let mut i: usize = 0;
-    while i < out.len() {
+    for i in 0..out.len() {
         out[i] = byte_by(rule, from + i / (w + 1) % 1024, i % (w + 1), w);
-        i += 1;
     }
 }
 
@@ -146,11 +144,9 @@ fn turn(j: usize, size: usize) -> u64
 pub fn put_sums(program: &mut [u8], start: usize, count: usize, size: usize, slot: u64, line: u64)
     requires { (start + count ≤ 4096) × ((0 < size) × ((slot ≤ 1024) × (line ≤ 1024))) }
 {
-    let mut j: usize = 0;
-    while j < count {
+    for j in 0..count {
         let k = turn(j, size);
         put_sum_record(&mut *program, start + j, slot + k, line + k, j % size, size);
-        j += 1;
     }
 }
 
@@ -167,8 +163,7 @@ pub fn sums_program(count: usize, size: usize) -> [u8; PROGRAM_ROOM]
 fn put_constants(program: &mut [u8], count: usize)
     requires { count ≤ 4096 }
 {
-    let mut i: usize = 0;
-    while i < count {
+    for i in 0..count {
         record(
             &mut *program,
             i,
@@ -177,7 +172,6 @@ fn put_constants(program: &mut [u8], count: usize)
             i as u64 / 8 + 1,
             0x3ff0_0000_0000_0000,
         );
-        i += 1;
     }
 }
 
@@ -192,12 +186,10 @@ pub fn constants_program(count: usize) -> [u8; PROGRAM_ROOM]
 
 // The records of 512 links, the last first: each pushes the slot of the next.
 fn put_links(program: &mut [u8]) {
-    let mut i: usize = 0;
-    while i < 512 {
+    for i in 0..512usize {
         let slot = 512 - i as u64;
         record(&mut *program, 2 * i, 4, slot + 1, slot, 0);
         record(&mut *program, 2 * i + 1, 13, slot, slot, 0);
-        i += 1;
     }
 }
 
@@ -225,9 +217,7 @@ fn put_fault(list: &mut [u8], k: usize, code: u64, column: u64)
 
 // The faults of 512 lines, all of one code and at one column.
 pub fn put_each(list: &mut [u8], code: u64, column: u64) {
-    let mut k: usize = 0;
-    while k < 512 {
+    for k in 0..512 {
         put_fault(&mut *list, k, code, column);
-        k += 1;
     }
 }

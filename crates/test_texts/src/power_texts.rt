@@ -9,12 +9,10 @@ use tally::Tally;
 fn put_numbers(program: &mut [u8], numbers: &[u64])
     requires { length numbers.now ≤ 255 }
 {
-    let mut i: usize = 0;
-    while i < numbers.len() {
+    for i in 0..numbers.len() {
         let line = i as u64 + 1;
         record(&mut *program, 2 * i, 3, 0, line, numbers[i]);
         record(&mut *program, 2 * i + 1, 13, line, line, 0);
-        i += 1;
     }
 }
 

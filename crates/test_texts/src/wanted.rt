@@ -107,12 +107,10 @@ fn fault_count(at: usize) -> usize {
 pub fn put_faults(wanted: &[u8], list: &mut [u8]) -> usize {
     let mut n: u64 = 0;
     let mut at: usize = 0;
-    let mut i: usize = 0;
-    while i < wanted.len() {
-        n = read_on(n, wanted[i]);
-        at = move_on(at, wanted[i]);
+    for b in wanted {
+        n = read_on(n, *b);
+        at = move_on(at, *b);
         bits::put_low(&mut *list, at, 2, n);
-        i += 1;
     }
     fault_count(at)
 }
@@ -156,14 +154,12 @@ fn next_bar(table: &[u8], at: usize) -> usize
     requires { at ≤ length table.now }
     ensures { (at ≤ result) × (result ≤ length table.now) }
 {
-    let mut i = at;
-    while i < table.len() {
+    for i in at..table.len() {
         if table[i] == b'|' {
             return i;
         }
-        i += 1;
     }
-    i
+    table.len()
 }
 
 // Each text of a table is refused with this number. A row has the faults, a bar, the text and a bar; what is no row
