@@ -296,14 +296,14 @@ module _ (us : List TextUnit) (sound : UnitsSound us) (one : Once (keys (definit
       let none : (n : ℕ) → Setting n → records_for n s (ordered_part us q) ≡ [] = λ n t. ordered_none n c.key t h in
       record {
         fixed = for_program kind_constant s (r ∷ []) [] [] (a.fixed kind_constant ∙ own_record r)
-        (a.begun kind_constant)
+            (a.begun kind_constant)
             (none kind_constant sets_constant);
         initials = for_program kind_initial s [] [] [] (a.fixed kind_initial) (a.begun kind_initial)
             (none kind_initial sets_initial);
         stores = for_program kind_store s [] [] [] (a.fixed kind_store) (a.begun kind_store)
-        (none kind_store sets_store);
+            (none kind_store sets_store);
         derivatives = for_program kind_rate s [] [] [] (a.fixed kind_rate) (a.begun kind_rate)
-        (none kind_rate sets_rate);
+            (none kind_rate sets_rate);
         stores_again = for_program kind_again s [] [] [] (a.fixed kind_again) (a.begun kind_again)
             (none kind_again sets_again);
       }
