@@ -1,8 +1,8 @@
 /* Floesedge: translate a model text into a program of records, name its slots, and run it.
  *
- * Link with libfloesedge.a (rt staticlib floesedge, or tools/native-lib). It needs memcpy and memset and nothing else:
- * no allocation, no file, no thread, no state kept between calls. Every call returns. Calls that share no buffer may
- * run at the same time.
+ * Link with libfloesedge.a, which tools/native-lib makes: the archive of `rt lib` in crates/floesedge_c. It needs memcpy
+ * and memset and nothing else: no allocation, no file, no thread, no state kept between calls. Every call returns. Calls
+ * that share no buffer may run at the same time.
  *
  * What is proved of the five functions holds for every content of the buffers: any text, any bytes as a program, any
  * floats. What C hands over is checked by nothing. The caller sees to it that
@@ -14,9 +14,9 @@
  *   - nobody else writes to the buffers, and nobody reads what may be written, until the call has returned;
  *   - no buffer is larger than PTRDIFF_MAX bytes;
  *   - rounding is to nearest, and subnormal numbers are not flushed to 0, as every C program starts;
- *   - there is stack: 512 KiB for floesedge_translate and floesedge_names, 16 KiB for the others. Measured on x86-64,
- *     with what a thread takes to begin: 400 KiB for translating a text of over 256 bytes, 42 KiB for a shorter one, and
- *     16 KiB more for its names; under 6 KiB for the others. */
+ *   - there is stack: 512 KiB for floesedge_translate and floesedge_names, 16 KiB for the others. Measured on x86-64 with
+ *     an older kit, rattle-kit-5b, and with what a thread takes to begin: 400 KiB for translating a text of over 256
+ *     bytes, 42 KiB for a shorter one, and 16 KiB more for its names; under 6 KiB for the others. */
 #ifndef FLOESEDGE_H
 #define FLOESEDGE_H
 

@@ -116,7 +116,8 @@ fn note_assigned(
     let end = short_at(bounds, j + 1);
     note_outputs(kinds, keys, hints, links, args, first, end, v, &mut *owners);
     let last = last_of(bounds, j);
-    if byte_at(kinds, last) == STORE {
+    let stores = byte_at(kinds, last) == STORE;
+    if stores {
         put_short(owners, find(keys, hints, links, word_at(args, last)) + 1, v);
     }
 }

@@ -29,7 +29,8 @@ use Rattle.translator.specs.declared.room.Tried.{Tried}
 use Rattle.translator.specs.declared.Verdict.TheVariants.{Refused, Faulty}
 use Rattle.translator.specs.Contract.{ordered, ordered_reply}
 use Rattle.translator.specs.Verdict.{if_faults, modelled, decided_within}
-use Rattle.translator.specs.Working.{ReadThrough, ReadFar, AllRead, ArraysReady, ConcludesFor, Taken, Room, DecidesFor}
+use Rattle.translator.specs.Working.{ReadThrough, ReadFar, AllRead, ArraysReady, ConcludesFor, Taken, Room, Decides}
+use Rattle.translator.specs.Working.{DecidesFor}
 use Rattle.translator.specs.Working.{TriesFor, room_for, reply_for}
 use Rattle.model.specs.Definitions.{definitions}
 use Rattle.model.specs.Text.{text_units}
@@ -172,10 +173,15 @@ read_so {text} {list₀} taken few r uses =
 -- ---- more statements than there may be
 
 -- 4: nothing is written
-pub says_four : (b : Bool) (text f p o : List ℕ) → most_statements < length (sheet_of text)
+pub says_four : (text f p o : List ℕ) → most_statements < length (sheet_of text)
+    → Decides text f p o (ordered (Refused 4) 0) f p o
+unfolding decided_within
+says_four text f p o h = rw (lt-ltb most_statements (length (sheet_of text)) h)
+
+pub says_four_for : (b : Bool) (text f p o : List ℕ) → most_statements < length (sheet_of text)
     → DecidesFor b text f p o (ordered (Refused 4) 0) f p o
 unfolding decided_within
-says_four b text f p o h = rw (lt-ltb most_statements (length (sheet_of text)) h)
+says_four_for b text f p o h = rw (lt-ltb most_statements (length (sheet_of text)) h)
 
 -- a short text has no more
 pub text_few : (text : List ℕ) → length text ≤ most_statements → length (sheet_of text) ≤ most_statements
@@ -229,7 +235,12 @@ never_full {r = r} t h =
     ⊎_elim (λ (e : r.full ≡ true). absurd (omega (arith, (t.full e).0))) (λ e. t.decides e) (bool_cases r.full)
 
 -- where nothing was written, a second try decides as the first would have
-pub second_try : (b : Bool) (text f p o : List ℕ) {f₁ p₁ o₁ f' p' o' : List ℕ} {r : Ordered} → f₁ ≡ f → p₁ ≡ p → o₁ ≡ o
-    → DecidesFor b text f₁ p₁ o₁ r f' p' o'
+pub second_try : (text f p o : List ℕ) {f₁ p₁ o₁ f' p' o' : List ℕ} {r : Ordered} → f₁ ≡ f → p₁ ≡ p → o₁ ≡ o
+    → Decides text f₁ p₁ o₁ r f' p' o'
+    → Decides text f p o r f' p' o'
+second_try text f p o x y z d = rw (x, y, z) at d
+
+pub second_try_for : (b : Bool) (text f p o : List ℕ) {f₁ p₁ o₁ f' p' o' : List ℕ} {r : Ordered} → f₁ ≡ f → p₁ ≡ p
+    → o₁ ≡ o → DecidesFor b text f₁ p₁ o₁ r f' p' o'
     → DecidesFor b text f p o r f' p' o'
-second_try b text f p o x y z d = rw (x, y, z) at d
+second_try_for b text f p o x y z d = rw (x, y, z) at d

@@ -328,6 +328,7 @@ fn read_all(
 // The verdict on a text, with the fault list written to the front of what is lent. For 0 the program is written, and
 // the order of its units handed out by their first lines; or, where names are asked for by lending rows for them, the
 // roster. Few bytes have few lines, which are not counted then.
+#[tactic(auto, using(crate::proofs::Verdicts::says_one))]
 fn answer(
     rows: &mut [u8],
     text: &[u8],

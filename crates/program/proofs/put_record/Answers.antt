@@ -15,4 +15,4 @@ returns c =
     let a = c.args in
     fill_part (field_bytes a.kind a.slot a.line a.bits) a.out.now _ a.w _
     (length_record a.kind a.slot a.line a.bits) refl
-    (omega (arith, c.requires, c.if-out-w-lt-RECORD_BYTES.false)) c.put_fields.ensures
+    (omega (arith, c.requires)) c.put_fields.ensures

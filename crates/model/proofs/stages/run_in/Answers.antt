@@ -157,7 +157,7 @@ returns-then-flaws-gt0 c =
     sheeted_few c.collect-n.ensures a.lines.now a.bounds.now a.ulines.now a.ubounds.now a.used.now a.faults.now
     a.equated.now a.placed.now c.if-n-gt-DEFINITIONS.false
     (distinct_none s.0 at_hand c.report_doubles-doubles.ensures (lent places a.equated.now a.placed.now)
-    c.if-doubles-gt0.false flawed)
+    (omega arith) flawed)
 
 -- ---- 24
 pub overflow_add-starts : goal.overflow_add-starts
@@ -254,4 +254,4 @@ returns c =
     sheeted_few c.collect-n.ensures a.lines.now a.bounds.now a.ulines.now a.ubounds.now a.used.now a.faults.now
     a.equated.now a.placed.now c.if-n-gt-DEFINITIONS.false
     (distinct_none s.0 at_hand c.report_doubles-doubles.ensures (lent places a.equated.now a.placed.now)
-    c.if-doubles-gt0.false clear)
+    (omega arith) clear)

@@ -1,5 +1,6 @@
 -- A fault stands, or the model decides.
 use mathlib.Core.Path.{sym}
+use native.Mathlib.Omega.{arith}
 use borrow.Author.Rules.{rules}
 use lib.ListN.{length}
 use Rattle.translator.specs.Working.{asks_names}
@@ -58,5 +59,5 @@ conclude-requires c =
 pub returns : goal.returns
 returns c s =
     let a = c.args in
-    says_model s.taken s.few s.read c.if-n-gt0.false (asks_names (length c.args.rows.now)) c.conclude.result a.out.now
+    says_model s.taken s.few s.read (omega arith) (asks_names (length c.args.rows.now)) c.conclude.result a.out.now
     a.ordered.now s.uses_room c.conclude.ensures

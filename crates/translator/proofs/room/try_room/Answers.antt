@@ -6,7 +6,7 @@ use lib.ListN.{length}
 use lib.Seq.{length-take-le}
 use Rattle.laws.proofs.Tests.{not_both}
 use Rattle.translator.specs.Working.{asks_names}
-use Rattle.translator.proofs.Rooms.{came_through, says_four, faults_most, own_room}
+use Rattle.translator.proofs.Rooms.{came_through, says_four_for, faults_most, own_room}
 use Rattle.translator.proofs.Rooms.{read_listed, read_so}
 use Rattle.translator.proofs.room.try_room.Goals as goal
 
@@ -51,7 +51,7 @@ returns-in-TooMany c =
     record {
       decides =
           λ _. rw (c.with_answer.ensures.1, c.too_many.ensures)
-          (says_four (asks_names (length a.rows.now)) a.text.now a.faults.now a.out.now a.ordered.now
+          (says_four_for (asks_names (length a.rows.now)) a.text.now a.faults.now a.out.now a.ordered.now
           many);
       full = λ e. absurd (not_both e c.with_answer.ensures.0);
     }
