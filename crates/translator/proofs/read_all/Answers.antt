@@ -35,7 +35,7 @@ returns-then-lacks_room c =
 pub read_one-n-requires : goal.read_one-n-requires
 read_one-n-requires c =
     going_able c.requires c.loop-first.invariant.0 (sym c.next_statement-found.ensures.0 ∙ c.in-Statement.is)
-    c.if-n-ge-STATEMENTS.false (c.lacks_room.ensures.has c.if-lacks_room.false)
+    (omega arith) (c.lacks_room.ensures.has c.if-lacks_room.false)
     (omega (arith, c.loop-first.invariant.1))
     (omega (arith, c.loop-first.invariant.2))
 
@@ -47,7 +47,7 @@ pub loop-first-preserved : goal.loop-first-preserved
 loop-first-preserved c =
     let e = sym c.next_statement-found.ensures.0 ∙ c.in-Statement.is in
     let fits = c.lacks_room.ensures.has c.if-lacks_room.false in (
-      going_next c.requires c.loop-first.invariant.0 e c.if-n-ge-STATEMENTS.false fits c.read_one-n.ensures,
+      going_next c.requires c.loop-first.invariant.0 e (omega arith) fits c.read_one-n.ensures,
       omega (arith, c.loop-first.invariant.1, c.read_one-n.auto),
       omega (arith, c.loop-first.invariant.2, c.read_one-n.auto),
     )
