@@ -5,7 +5,7 @@ use mathlib.Core.List.{List}
 use lib.Ieee.{Float}
 use Rattle.laws.specs.Agree.{Agree}
 use Rattle.bits.specs.Contract.{Widens, Indexes, ReadsByte, ReadsShort, ReadsWord, TakesLeast, LeavesRoom}
-use Rattle.bits.specs.Contract.{GetsLow, PutsBytes, PutsLow, PutsEight, GivesFloat, GivesBits}
+use Rattle.bits.specs.Contract.{GetsLow, PutsBytes, PutsLow, PutsEight, PutsAt, GivesFloat, GivesBits}
 
 -- ---- numbers of lists
 pub wide : (byte : ℕ) → Agree (Widens byte)
@@ -22,6 +22,9 @@ short_at l i r s p q = p.0 ∙ sym q.0
 
 pub word_at : (s : List ℕ) (i : ℕ) → Agree (ReadsWord s i)
 word_at l i r s p q = p ∙ sym q
+
+pub put : {A : Type 0} (s : List A) (i : ℕ) (v : A) → Agree (PutsAt s i v)
+put s i v a b p q = p ∙ sym q
 
 -- ---- numbers as bytes
 pub least : (x y : ℕ) → Agree (TakesLeast x y)

@@ -1,3 +1,4 @@
 pub mod Lows
 mod Nans
+mod Parts
 pub mod Agreement

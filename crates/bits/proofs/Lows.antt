@@ -2,16 +2,15 @@
 use Prim.Native.Nat.{ℕ, zero, suc, zero-le, ◌+◌, ◌-◌, ◌*◌, ◌/◌, ◌%◌, ◌^◌, ◌≤◌, ◌<◌, min}
 use mathlib.Core.Path.{◌≡◌, refl, sym, ap, ap₂, ◌∙◌}
 use mathlib.Core.Logic.{⊎_elim}
-use mathlib.Core.Bool.{Bool, true}
 use mathlib.Core.List.{List, ◌∷◌, ◌++◌}
 use native.Mathlib.Nat.{zero-add, add-zero, sub-zero, suc-add, pow-suc, pow-succ', pow-le-pow_right, lt_of_lt_of_le}
 use native.Mathlib.Nat.{div-one, div-lt_iff_lt-mul, div-div-eq-div-mul}
 use native.Mathlib.Omega.{arith}
-use borrow.Author.Tests.{leb-true}
-use lib.Dec.{lit<, leb}
+use lib.Dec.{lit<}
 use lib.ListN.{length, get_or, set, take, drop, length-take, length-set, drop_of_length-le}
 use lib.Seq.{sets, drop-cons, get_or-take}
-use Rattle.laws.proofs.Sets.{sets_out, sets_append}
+use Rattle.laws.proofs.Sets.{sets_out}
+use Rattle.std.specs.Int.{bytes_low_first}
 use Rattle.laws.proofs.Tests.{lt_or_ge}
 use Rattle.bits.specs.Low.{low_bytes, low_word}
 
@@ -113,11 +112,12 @@ word_bytes (suc n) v h =
     let q : v / 256 < 256 ^ n = (div-lt_iff_lt-mul (lit< tt)).1 (rw (pow-suc 256 n) at h) in
     rw (word_bytes n (v / 256) q) (omega arith)
 
--- ---- fixed widths
+-- ---- the machine's bytes
+pub eight_bytes : (v : ℕ) → bytes_low_first 0 8 v ≡ low_bytes 8 v
+unfolding low_bytes
+eight_bytes v = simp div-div-eq-div-mul
 
--- what a test of room says
-pub room_is : {t : Bool} (m n : ℕ) → t ≡ leb m n → t ≡ true → m ≤ n
-room_is m n e h = leb-true m n (sym e ∙ h)
+-- ---- one number behind another
 
 -- the lowest m bytes and then n of the rest
 pub low_append : (m n v : ℕ) → low_bytes (m + n) v ≡ low_bytes m v ++ low_bytes n (v / 256 ^ m)
@@ -125,9 +125,3 @@ unfolding low_bytes
 low_append zero n v = rw (zero-add, div-one)
 low_append (suc m) n v =
     rw (suc-add m n, low_append m n (v / 256), div-div-eq-div-mul v 256 (256 ^ m), ← (pow-succ' 256 m))
-
--- one behind the other
-pub low_both : (l half whole : List ℕ) (at m n v : ℕ) → half ≡ sets l at (low_bytes m v)
-    → whole ≡ sets half (at + m) (low_bytes n (v / 256 ^ m))
-    → whole ≡ sets l at (low_bytes (m + n) v)
-low_both l half whole at m n v p q = q ∙ rw (p, low_append m n v, sets_append l at (low_bytes m v), length_low m v)

@@ -1,5 +1,5 @@
 -- What the open entries promise: r is the answer, b the buffer afterwards.
-use Rattle.std.specs.Prelude.{ℕ, ◌-◌, ◌<◌, ◌^◌, min, ◌≡◌, List, get_or, take, Float}
+use Rattle.std.specs.Prelude.{ℕ, ◌-◌, ◌<◌, ◌^◌, min, ◌≡◌, List, get_or, set, take, Float}
 use Rattle.std.proofs.lemmas.List.Edits.{sets}
 use Rattle.std.specs.Float.{binary64}
 use Rattle.std.specs.Float.Ieee.{to_bits, of_bits}
@@ -26,6 +26,10 @@ ReadsShort s i r = (r ≡ get_or s i 0) × (r < 65536)
 -- `word_at`: the number of eight bytes at place i, 0 past the end
 abbrev pub ReadsWord : List ℕ → ℕ → ℕ → Type 0
 ReadsWord s i r = r ≡ get_or s i 0
+
+-- `put`: this value stands at place i, if there is one; the others are as lent
+abbrev pub PutsAt : {A : Type 0} → List A → ℕ → A → List A → Type 0
+PutsAt s i v s' = s' ≡ set s i v
 
 -- ---- numbers as bytes
 

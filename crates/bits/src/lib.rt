@@ -4,7 +4,7 @@
 ghost use Rattle.std.specs.Prelude.{◌≡◌, ◌+◌, leb};
 ghost use Rattle.std.proofs.lemmas.List.Edits.{sets};
 ghost use Rattle.bits.specs.Low.{low_bytes};
-ghost use Rattle.bits.specs.Contract.{TakesLeast, LeavesRoom, GetsLow, PutsBytes, PutsLow, PutsEight};
+ghost use Rattle.bits.specs.Contract.{TakesLeast, LeavesRoom, GetsLow, PutsBytes, PutsLow, PutsEight, PutsAt};
 ghost use Rattle.bits.specs.Contract.{GivesFloat, GivesBits};
 
 pub mod reads;
@@ -17,17 +17,14 @@ use reads::wide;
 pub fn least(a: usize, b: usize) -> usize
     ensures { TakesLeast a b result }
 {
-    if a < b { a } else { b }
+    a.min(b)
 }
 
 // How many of n places from a place on stand before an end.
 pub fn room(end: usize, at: usize, n: usize) -> usize
     ensures { LeavesRoom end at n result }
 {
-    if end < at {
-        return 0;
-    }
-    least(end - at, n)
+    end.saturating_sub(at).min(n)
 }
 
 // The number that the first n bytes of a part are, or as many as there are; of more than eight the first eight.
@@ -35,9 +32,7 @@ pub fn get_low(part: &[u8], n: usize) -> u64
     ensures { GetsLow part.now n result }
 {
     let mut word: u64 = 0;
-    let mut i = least(part.len(), least(n, 8));
-    while 0 < i {
-        i -= 1;
+    for i in (0..part.len().min(n.min(8))).rev() {
         word = wide(part[i]) + 256 * word;
     }
     word
@@ -48,10 +43,8 @@ pub fn put_bytes(buf: &mut [u8], at: usize, from: &[u8])
     ensures { PutsBytes buf.old at from.now buf.new }
 {
     let n = room(buf.len(), at, from.len());
-    let mut i: usize = 0;
-    while i < n {
+    for i in 0..n {
         buf[at + i] = from[i];
-        i += 1;
     }
 }
 
@@ -61,11 +54,18 @@ pub fn put_low(buf: &mut [u8], at: usize, n: usize, v: u64)
 {
     let count = room(buf.len(), at, n);
     let mut rest = v;
-    let mut i: usize = 0;
-    while i < count {
+    for i in 0..count {
         buf[at + i] = (rest % 256) as u8;
         rest = rest / 256;
-        i += 1;
+    }
+}
+
+// Stores a value at place i, if there is one.
+pub fn put<T: Copy>(s: &mut [T], i: usize, v: T)
+    ensures { PutsAt s.old i v s.new }
+{
+    if i < s.len() {
+        s[i] = v;
     }
 }
 
@@ -91,48 +91,14 @@ pub fn bits_of(x: f64) -> u64
     }
 }
 
-// Whether n bytes from a place on stand before an end.
-fn has_room(end: usize, at: usize, n: usize) -> bool
-    ensures { result ≡ leb (at + n) end }
-{
-    if end < n {
-        return false;
-    }
-    at <= end - n
-}
-
-// Writes the two lowest bytes of a number, as put_low does.
-fn put_two(buf: &mut [u8], at: usize, v: u64)
-    ensures { buf.new ≡ sets buf.old at (low_bytes 2 v) }
-{
-    if has_room(buf.len(), at, 2) {
-        buf[at] = (v % 256) as u8;
-        buf[at + 1] = (v / 256 % 256) as u8;
-        return;
-    }
-    put_low(buf, at, 2, v);
-}
-
-// Writes the four lowest bytes.
-fn put_four(buf: &mut [u8], at: usize, v: u64)
-    ensures { buf.new ≡ sets buf.old at (low_bytes 4 v) }
-{
-    if has_room(buf.len(), at, 4) {
-        put_two(&mut *buf, at, v);
-        put_two(buf, at + 2, v / 65536);
-        return;
-    }
-    put_low(buf, at, 4, v);
-}
-
-// Writes the eight lowest bytes.
+// Writes the eight lowest bytes, at once where each has its place.
 pub fn put_eight(buf: &mut [u8], at: usize, v: u64)
     ensures { PutsEight buf.old at v buf.new }
 {
-    if has_room(buf.len(), at, 8) {
-        put_four(&mut *buf, at, v);
-        put_four(buf, at + 4, v / 4294967296);
-        return;
+    let bytes = v.to_le_bytes();
+    if room(buf.len(), at, 8) == 8 {
+        buf[at..at + 8].copy_from_slice(&bytes);
+    } else {
+        put_bytes(buf, at, &bytes);
     }
-    put_low(buf, at, 8, v);
 }

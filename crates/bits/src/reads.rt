@@ -19,19 +19,19 @@ pub fn index(x: u16) -> usize
 pub fn byte_at(s: &[u8], i: usize) -> u8
     ensures { ReadsByte s.now i result }
 {
-    if i < s.len() { s[i] } else { 0 }
+    s.get(i).copied().unwrap_or(0)
 }
 
 // The number of two bytes at place i.
 pub fn short_at(s: &[u16], i: usize) -> usize
     ensures { ReadsShort s.now i result }
 {
-    if i < s.len() { s[i] as usize } else { 0 }
+    s.get(i).map_or(0, |&x| index(x))
 }
 
 // The number of eight bytes at place i.
 pub fn word_at(s: &[u64], i: usize) -> u64
     ensures { ReadsWord s.now i result }
 {
-    if i < s.len() { s[i] } else { 0 }
+    s.get(i).copied().unwrap_or(0)
 }

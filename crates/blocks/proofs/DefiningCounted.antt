@@ -1,15 +1,15 @@
 -- The drafts that define a name, counted one by one, and part by part.
-use Prim.Native.Nat.{ℕ, zero, suc, ◌+◌, ◌-◌, ◌≤◌, ◌<◌}
+use Prim.Native.Nat.{ℕ, zero, suc, ◌+◌, ◌≤◌, ◌<◌}
 use mathlib.Core.Path.{◌≡◌, refl, sym, ap, ◌∙◌}
 use mathlib.Core.Bool.{Bool, true, false}
-use mathlib.Core.List.{List, []}
-use native.Mathlib.Nat.{sub-zero, zero-add, add-zero}
+use mathlib.Core.List.{List, [], ◌∷◌, ◌++◌}
+use native.Mathlib.Nat.{add-zero}
 use native.Mathlib.Omega.{arith}
-use lib.ListN.{length, get_or, take, drop, length-append, length-drop}
-use lib.Seq.{get_or-take, get_or-drop, length-take-le}
+use lib.ListN.{length, get_or, length-append}
+use Rattle.std.specs.List.{sum_by}
+use Rattle.std.proofs.lemmas.List.Recursion.{is_sum_by}
 use Rattle.laws.specs.Places.{gather, only_if}
 use Rattle.laws.specs.Counts.{once}
-use Rattle.laws.proofs.Gathers.{gather_add, gather_short, gather_done}
 use Rattle.drafts.specs.Kinds.{defines}
 use Rattle.blocks.specs.Places.{defining_in}
 
@@ -44,73 +44,33 @@ as_many s t f g (suc k) i j h =
       as_many s t f g k (suc i) (suc j) (λ m l. rw (next i m, next j m) (h (suc m) (omega arith))),
     )
 
--- of k drafts from place i on as many define one as do where these are all
-defining_part : (kinds : List ℕ) (i k : ℕ) → i + k ≤ length kinds
-    → length (defining_in (take k (drop i kinds))) ≡ length (gather (defining_at kinds) k i)
-unfolding defining_in
-defining_part kinds i k h =
-    let rest = drop i kinds in
-    let part = take k rest in
-    let long : length part ≡ k = length-take-le k rest (omega (arith, length-drop i kinds)) in
-    rw long
-    (as_many (λ j. defines (get_or part j 0)) (λ j. defines (get_or kinds j 0)) (λ j. j) (λ j. j) k 0 i
-    (λ m l. rw (zero-add m, get_or-take k rest m 0 l, get_or-drop i kinds m 0)))
+-- one by one
+defining_cons : (k : ℕ) (ks : List ℕ) → length (defining_in (k ∷ ks)) ≡ once (defines k) + length (defining_in ks)
+unfolding defining_in gather
+defining_cons k ks =
+    omega (
+      arith,
+      length-append (only_if (defines k) 0) (gather (defining_at (k ∷ ks)) (length ks) 1),
+      only_once {A = ℕ} (defines k) 0,
+      as_many (λ j. defines (get_or (k ∷ ks) j 0)) (λ j. defines (get_or ks j 0)) (λ j. j) (λ j. j) (length ks) 1 0
+          (λ m h. let e : 1 + m ≡ suc m = omega arith in let z : 0 + m ≡ m = omega arith in rw (e, z)),
+    )
 
--- n of the drafts before place i define one
-pub record Counting (kinds : List ℕ) (n i : ℕ) : Type 0 where
-  pub inside : i ≤ length kinds
-  pub few : n ≤ i
-  pub left : n + length (gather (defining_at kinds) (length kinds - i) i) ≡ length (defining_in kinds)
+pub defining_nil : length (defining_in []) ≡ 0
+unfolding defining_in gather
+defining_nil = refl
 
-pub counting_first : (kinds : List ℕ) → Counting kinds 0 0
-unfolding defining_in
-counting_first kinds = record { inside = omega arith; few = omega arith; left = rw sub-zero (omega arith) }
+pub defining_sum : (ks : List ℕ) → length (defining_in ks) ≡ sum_by (λ (k : ℕ). once (defines k)) ks
+defining_sum ks =
+    is_sum_by (λ (ks : List ℕ). length (defining_in ks)) (λ (k : ℕ). once (defines k)) defining_nil defining_cons ks
 
-module _ {kinds : List ℕ} {n i : ℕ} (v : Counting kinds n i) where
-  -- behind so many drafts
-  further : {m : ℕ} (k : ℕ) → i + k ≤ length kinds → m ≡ length (gather (defining_at kinds) k i)
-      → Counting kinds (n + m) (i + k)
-  further {m} k h e =
-      let f = defining_at kinds in
-      let after = length kinds - (i + k) in
-      let split : length kinds - i ≡ k + after = omega arith in
-      record {
-        inside = h;
-        few = omega (arith, v.few, gather_short f (λ j. only_length (defines (get_or kinds j 0)) j) k i);
-        left =
-            omega (
-              arith,
-              v.left,
-              ap (λ (l : ℕ). length (gather f l i)) split,
-              ap length (gather_add f k after i),
-              length-append (gather f k i) (gather f after (i + k)),
-            );
-      }
+-- part by part
+pub defining_append : (x y : List ℕ)
+    → length (defining_in (x ++ y)) ≡ length (defining_in x) + length (defining_in y)
+defining_append [] y = omega (arith, defining_nil)
+defining_append (k ∷ x) y = omega (arith, defining_cons k (x ++ y), defining_cons k x, defining_append x y)
 
-  -- behind one, and behind a part
-  pub counting_next : {m : ℕ} → i < length kinds → (m ≡ once (defines (get_or kinds i 0))) × (m ≤ 1)
-      → Counting kinds (n + m) (i + 1)
-  unfolding gather
-  counting_next h e =
-      let here = defining_at kinds i in
-      further 1 (omega arith) (omega (arith, e.0, length-append here [], only_once (defines (get_or kinds i 0)) i))
-
-  pub counting_part : {m : ℕ} (k : ℕ) → i + k ≤ length kinds
-      → m ≡ length (defining_in (take (i + k - i) (drop i kinds)))
-      → Counting kinds (n + m) (i + k)
-  counting_part k h e =
-      let z : i + k - i ≡ k = omega arith in
-      further k h ((rw z at e) ∙ defining_part kinds i k h)
-
-  -- at the end
-  pub counting_last : length kinds ≤ i → n ≡ length (defining_in kinds)
-  counting_last h = omega (arith, v.left, ap length (gather_done (defining_at kinds) (length kinds) i h))
-
--- or with what is left
-pub counting_rest : {kinds : List ℕ} {n i m : ℕ} → Counting kinds n i
-    → m ≡ length (defining_in (take (length kinds - i) (drop i kinds)))
-    → n + m ≡ length (defining_in kinds)
-counting_rest {kinds} {n} {i} {m} v e =
-    let k = length kinds - i in
-    let z : i + k - i ≡ k = omega arith in
-    counting_last (counting_part v {m = m} k (omega (arith, v.inside)) (rw z e)) (omega (arith, v.inside))
+-- no more than all drafts
+pub defining_le : (ks : List ℕ) → length (defining_in ks) ≤ length ks
+defining_le [] = omega (arith, defining_nil)
+defining_le (k ∷ ks) = omega (arith, defining_cons k ks, once_few (defines k), defining_le ks)

@@ -1,20 +1,16 @@
--- The constants and the states collected, draft by draft, and a name sought among them.
+-- The constants and the states collected, draft by draft.
 use Prim.Native.Nat.{ℕ, zero, suc, ◌+◌, ◌≤◌, ◌<◌}
 use mathlib.Core.Path.{◌≡◌, refl, ap, ◌∙◌}
 use mathlib.Core.Bool.{Bool, true, false, ◌||◌}
 use mathlib.Core.List.{List}
-use native.Mathlib.Numerals.{add-one}
 use native.Mathlib.Omega.{arith}
-use borrow.Author.Tests.{eq-eqb, ne_eqb}
 use lib.Dec.{eqb}
-use lib.ListN.{length, get_or, set, take, drop, drop_of_length-le, replicate, length-replicate, length-append}
-use lib.Seq.{drop-cons, length-sets}
+use lib.ListN.{length, get_or, set, take, replicate, length-replicate, length-append}
+use lib.Seq.{length-sets}
 use Rattle.limits.specs.Limits.{most_definitions}
-use Rattle.laws.specs.Counts.{count, has}
 use Rattle.laws.specs.Places.{gather, only_if}
 use Rattle.laws.specs.Put.{Put}
-use Rattle.laws.proofs.Tests.{not_both, or_left}
-use Rattle.laws.proofs.Members.{has_cons}
+use Rattle.laws.proofs.Tests.{not_both}
 use Rattle.laws.proofs.Sets.{sets_back}
 use Rattle.laws.proofs.Gathers.{Writes, writes_first, writes_next, whole_count, whole_all}
 use Rattle.drafts.specs.Kinds.{defines, kind_constant, kind_initial}
@@ -59,22 +55,6 @@ module _ {kinds args free₀ : List ℕ} {f i : ℕ} {free : List ℕ} (v : Gath
   unfolding free_args
   gathering_last h =
       record { behind = omega (arith, whole_count v.written h); written = whole_all v.written h }
-
--- ---- a name among the keys from place i on
-module _ (keys : List ℕ) (k i : ℕ) where
-  among_step : i < length keys → has k (drop i keys) ≡ (eqb k (get_or keys i 0) || has k (drop (i + 1) keys))
-  among_step h = rw (add-one i, drop-cons keys i 0 h) (has_cons k (get_or keys i 0) (drop (suc i) keys))
-
-  pub among_stop : i < length keys → k ≡ get_or keys i 0 → has k (drop i keys) ≡ true
-  among_stop h e = among_step h ∙ or_left (eqb k (get_or keys i 0)) (has k (drop (i + 1) keys))
-      (eq-eqb k (get_or keys i 0) e)
-
-  pub among_pass : i < length keys → (k ≡ get_or keys i 0 → ⊥) → has k (drop i keys) ≡ has k (drop (i + 1) keys)
-  among_pass h e = rw (among_step h, ne_eqb k (get_or keys i 0) e)
-
-  pub among_done : length keys ≤ i → has k (drop i keys) ≡ false
-  unfolding count
-  among_done h = rw (drop_of_length-le keys h)
 
 -- ---- they are definitions, so there are no more of them
 free_defines : (k : ℕ) (b c : Bool) (x y : ℕ) → (b ≡ true → c ≡ true) → length (only_if b x) ≤ length (only_if c y)

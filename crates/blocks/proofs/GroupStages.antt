@@ -17,7 +17,7 @@ use Rattle.drafts.specs.Places.{begins, ends}
 use Rattle.sheet.specs.Sheet.{Fault, fault_list}
 use Rattle.blocks.specs.Places.{defining_in, faults25_in}
 use Rattle.blocks.specs.InsidePlaces.{faults26_in, rewritten_kinds}
-use Rattle.blocks.specs.declared.answer.Grouping.{Grouping}
+use Rattle.blocks.specs.Grouped.{Grouping}
 use Rattle.blocks.specs.Grouped.{UnitArrays, unit_arrays, GroupOutcome, group_outcome, group_refused, group_faulted}
 use Rattle.blocks.specs.Grouped.{some}
 use Rattle.blocks.specs.Grouped.{falls, in_turn, group_roomy, group_fit, united, right_inside, paired}
@@ -120,6 +120,11 @@ pub follows_stand : {lines bounds kinds : List ℕ} → SheetFollows lines bound
     → (length lines ≤ most_statements) × AllStand (length lines) bounds kinds
 follows_stand f = (f.few, turned_stand (follows_turned f))
 
+-- and there is a bound behind the last
+pub follows_listed : {lines bounds kinds : List ℕ} → SheetFollows lines bounds kinds
+    → (length lines ≤ most_statements) × (length lines < length bounds) × AllStand (length lines) bounds kinds
+follows_listed f = let s = follows_stand f in (s.0, omega (arith, f.one_more), s.1)
+
 -- ---- the arrays fit, or they do not
 pub fit_sound : (lines bounds kinds : List ℕ) (args faults ulines ubounds firsts : ℕ)
     → group_fit lines bounds kinds args faults ulines ubounds firsts ≡ true → SheetFollows lines bounds kinds
@@ -178,3 +183,10 @@ module _ (lines bounds kinds args faults : List ℕ) (a : UnitArrays) where
       → group_outcome g kinds faults a ≡ grouped lines bounds kinds args faults a
   unfolding grouped
   grouped_unfit t e = rw t (ap (λ (g : Grouping). group_outcome g kinds faults a) e)
+
+-- the arrays that were lent hold what the units were written to
+pub arrays_back : {g : Grouping} {kinds faults lines bounds firsts : List ℕ} {a : UnitArrays} {x : GroupOutcome}
+    → group_outcome g kinds faults a ≡ x → lines ≡ a.lines → bounds ≡ a.bounds → firsts ≡ a.firsts
+    → group_outcome g kinds faults (unit_arrays lines bounds firsts) ≡ x
+arrays_back {g} {kinds} {faults} e l b f =
+    ap (λ (a : UnitArrays). group_outcome g kinds faults a) (rw (l, b, f)) ∙ e

@@ -1,67 +1,22 @@
 -- The kinds inside blocks renewed: what stores become, and the kinds statement by statement.
 use Prim.Native.Nat.{ℕ, zero, suc, ◌+◌, ◌-◌, ◌≤◌, ◌<◌}
 use mathlib.Core.Path.{◌≡◌, refl, sym, ap, ap₂, ◌∙◌}
-use mathlib.Core.Bool.{Bool, true, false}
 use mathlib.Core.List.{List, [], ◌∷◌}
 use native.Mathlib.Numerals.{add-one}
 use native.Mathlib.Omega.{arith}
-use borrow.Author.Tests.{lt-ltb}
 use lib.ListN.{length, get_or, set, take, replicate, length-set, length-replicate}
 use lib.Seq.{sets, length-sets, get_or-set_other, get_or-take, take_all}
 use Rattle.limits.specs.Limits.{most_statements}
-use Rattle.laws.specs.Counts.{has}
 use Rattle.laws.specs.Places.{gather}
 use Rattle.laws.proofs.Sets.{sets_back}
 use Rattle.laws.proofs.Gathers.{gather_step, gather_done, gather_same, Writes, writes_first, writes_next, whole_count}
 use Rattle.laws.proofs.Gathers.{whole_all}
-use Rattle.drafts.specs.Kinds.{kind_output, kind_again, kind_given, kind_own}
 use Rattle.drafts.specs.Places.{begins, ends}
-use Rattle.blocks.specs.Pairing.{opens, shuts, neither}
 use Rattle.blocks.specs.Places.{bracket_at}
-use Rattle.blocks.specs.InsidePlaces.{keys_at, is_setting, set_above, standing_behind, standing_at, role_by, role_at}
+use Rattle.blocks.specs.InsidePlaces.{standing_behind, standing_at, role_by, role_at}
 use Rattle.blocks.specs.InsidePlaces.{role_kind, rewritten_kinds}
-use Rattle.blocks.specs.InsideWorking.{keys_role, roles_in, renewed, Turned}
+use Rattle.blocks.specs.InsideWorking.{roles_in, renewed, Turned}
 use Rattle.blocks.proofs.InsideFound.{standing_next}
-
--- ---- what the store of a name becomes
-module _ (bounds kinds args : List ℕ) (c j key : ℕ) where
-  pub role_again : {r : Bool} → r ≡ has key (set_above bounds kinds args c j) → r ≡ true
-      → kind_again ≡ keys_role bounds kinds args c j key
-  role_again p t = rw (sym p ∙ t)
-
-  pub role_given : {r s : Bool} → r ≡ has key (set_above bounds kinds args c j) → r ≡ false
-      → s ≡ has key (keys_at bounds kinds args kind_output (c - 1)) → s ≡ true
-      → kind_given ≡ keys_role bounds kinds args c j key
-  role_given p t q u = rw (sym p ∙ t, sym q ∙ u)
-
-  pub role_own : {r s : Bool} → r ≡ has key (set_above bounds kinds args c j) → r ≡ false
-      → s ≡ has key (keys_at bounds kinds args kind_output (c - 1)) → s ≡ false
-      → kind_own ≡ keys_role bounds kinds args c j key
-  role_own p t q u = rw (sym p ∙ t, sym q ∙ u)
-
--- of a statement, by its bracket
-module _ (bounds kinds args : List ℕ) (c j : ℕ) where
-  pub role_open : bracket_at bounds kinds j ≡ opens → 0 ≡ role_by bounds kinds args (bracket_at bounds kinds j) c j
-  role_open e = rw e
-
-  pub role_shut : bracket_at bounds kinds j ≡ shuts → 0 ≡ role_by bounds kinds args (bracket_at bounds kinds j) c j
-  role_shut e = rw e
-
-  pub role_outside : bracket_at bounds kinds j ≡ neither → c ≡ 0
-      → 0 ≡ role_by bounds kinds args (bracket_at bounds kinds j) c j
-  role_outside e z = rw (e, z)
-
-  pub role_plain : bracket_at bounds kinds j ≡ neither → (c ≡ 0 → ⊥) → {b : Bool} → b ≡ is_setting bounds kinds j
-      → b ≡ false → 0 ≡ role_by bounds kinds args (bracket_at bounds kinds j) c j
-  role_plain e z p t = let h : 0 < c = omega arith in rw (e, lt-ltb 0 c h, sym p ∙ t)
-
-  pub role_inside : bracket_at bounds kinds j ≡ neither → (c ≡ 0 → ⊥) → {b : Bool} {i x r : ℕ}
-      → b ≡ is_setting bounds kinds j → b ≡ true → i ≡ ends bounds j - 1 → x ≡ get_or args i 0
-      → r ≡ keys_role bounds kinds args c j x → r ≡ role_by bounds kinds args (bracket_at bounds kinds j) c j
-  role_inside e z {b} {i} {x} p t q s k =
-      let h : 0 < c = omega arith in
-      let key : x ≡ get_or args (ends bounds j - 1) 0 = s ∙ ap (λ (n : ℕ). get_or args n 0) q in
-      rw (e, lt-ltb 0 c h, sym p ∙ t) (k ∙ ap (keys_role bounds kinds args c j) key)
 
 -- ---- the roles noted: the loop stands at statement j
 pub record Noting (bounds kinds args : List ℕ) (n : ℕ) (roles₀ : List ℕ) (c j : ℕ) (roles : List ℕ) : Type 0 where
@@ -207,6 +162,13 @@ module _ {roles bounds : List ℕ} {n : ℕ} {kinds₀ kinds : List ℕ} {j : �
       whole_all v.written h
       ∙ sets_whole kinds₀ (gather (renewed_by roles bounds kinds₀) n 0)
       (omega (arith, whole_count v.written h, ended))
+
+-- by the roles at the front alone
+pub renewed_front : (n : ℕ) (roles bounds kinds : List ℕ)
+    → gather (renewed_by (take n roles) bounds kinds) n 0 ≡ gather (renewed_by roles bounds kinds) n 0
+renewed_front n roles bounds kinds =
+    gather_same (renewed_by (take n roles) bounds kinds) (renewed_by roles bounds kinds) n 0
+    (λ j _ h. ap (λ (r : ℕ). renewed r kinds (begins bounds j) (ends bounds j)) (get_or-take n roles j 0 (omega arith)))
 
 -- THE KINDS, by the roles noted
 pub renewed_all : (n : ℕ) (bounds kinds args : List ℕ) {roles₀ roles kinds' : List ℕ} → n ≤ most_statements

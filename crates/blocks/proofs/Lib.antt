@@ -1,3 +1,5 @@
+pub mod Searched
+pub mod BlankRows
 pub mod FaultsListed
 pub mod BracketKinds
 pub mod DefiningCounted

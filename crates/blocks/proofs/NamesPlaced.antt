@@ -5,15 +5,15 @@ use mathlib.Core.Bool.{Bool, true, false, not, cond, ◌&&◌, ◌||◌}
 use mathlib.Core.List.{List, [], ◌∷◌, ◌++◌, append-nil}
 use native.Mathlib.Numerals.{add-one}
 use native.Mathlib.Omega.{arith}
-use borrow.Author.Tests.{lt-ltb, le-ltb, eq-eqb, ne_eqb}
+use borrow.Author.Tests.{eq-eqb, ne_eqb}
 use lib.Dec.{eqb}
 use lib.ListN.{get_or}
 use Rattle.laws.specs.Counts.{count, has}
 use Rattle.laws.specs.Places.{gather, any_in, only_if}
 use Rattle.laws.proofs.Members.{has_append, has_one}
-use Rattle.laws.proofs.Gathers.{gather_step, gather_done, gather_more}
-use Rattle.drafts.specs.Kinds.{kind_number, kind_store, kind_output, kind_ending}
-use Rattle.drafts.specs.Places.{begins, ends}
+use Rattle.laws.proofs.Gathers.{gather_more}
+use Rattle.drafts.specs.Kinds.{kind_output, kind_ending}
+use Rattle.drafts.specs.Places.{ends}
 use Rattle.blocks.specs.Tests.{within, again}
 use Rattle.blocks.specs.Pairing.{opens, shuts, neither}
 use Rattle.blocks.specs.Inside.{head_wrong}
@@ -30,64 +30,14 @@ pub has_untaken : (k x : ℕ) {b : Bool} → b ≡ false → has k (only_if b x)
 unfolding count
 has_untaken k x t = rw t
 
--- ---- a name at one of the places from i on, before b
-module _ (f : ℕ → List ℕ) (k b i : ℕ) where
-  pub has_step : i < b → has k (gather f (b - i) i) ≡ (has k (f i) || has k (gather f (b - (i + 1)) (i + 1)))
-  has_step h = ap (has k) (gather_step f b i h) ∙ has_append k (f i) (gather f (b - (i + 1)) (i + 1))
-
-  pub has_stop : i < b → has k (f i) ≡ true → has k (gather f (b - i) i) ≡ true
-  has_stop h e = rw (has_step h, e)
-
-  pub has_pass : i < b → has k (f i) ≡ false → has k (gather f (b - i) i) ≡ has k (gather f (b - (i + 1)) (i + 1))
-  has_pass h e = rw (has_step h, e)
-
-  pub has_done : b ≤ i → has k (gather f (b - i) i) ≡ false
-  unfolding count
-  has_done h = rw (gather_done f b i h)
-
 -- ---- brackets
 
--- the leading kind as it is read: a statement with drafts, and one without
-pub leading_first : (bounds kinds : List ℕ) (j : ℕ) {a b k : ℕ} → a ≡ begins bounds j → b ≡ ends bounds j → a < b
-    → k ≡ get_or kinds a 0 → k ≡ leading_kind bounds kinds j
-leading_first bounds kinds j p q h r =
-    let l : begins bounds j < ends bounds j = omega (arith, p, q) in
-    rw (lt-ltb (begins bounds j) (ends bounds j) l) (r ∙ ap (λ (i : ℕ). get_or kinds i 0) p)
-
-pub leading_none : (bounds kinds : List ℕ) (j : ℕ) {a b : ℕ} → a ≡ begins bounds j → b ≡ ends bounds j → b ≤ a
-    → kind_number ≡ leading_kind bounds kinds j
-leading_none bounds kinds j p q h =
-    let l : ends bounds j ≤ begins bounds j = omega (arith, p, q) in
-    rw (le-ltb (begins bounds j) (ends bounds j) l)
-
 -- what the leading kind says
-pub leads_open : (bounds kinds : List ℕ) (j : ℕ) {k : ℕ} → k ≡ leading_kind bounds kinds j → k ≡ kind_output
-    → bracket_at bounds kinds j ≡ opens
-leads_open bounds kinds j p q = rw (sym p ∙ q)
-
 pub leads_shut : (bounds kinds : List ℕ) (j : ℕ) {k : ℕ} → k ≡ leading_kind bounds kinds j → k ≡ kind_ending
     → bracket_at bounds kinds j ≡ shuts
 leads_shut bounds kinds j p q = rw (sym p ∙ q)
 
-pub leads_neither : (bounds kinds : List ℕ) (j : ℕ) {k : ℕ} → k ≡ leading_kind bounds kinds j → (k ≡ kind_output → ⊥)
-    → (k ≡ kind_ending → ⊥) → bracket_at bounds kinds j ≡ neither
-leads_neither bounds kinds j {k} p q r =
-    ap bracket_kind (sym p) ∙ rw (ne_eqb k kind_output q, ne_eqb k kind_ending r)
-
 -- ---- settings
-pub setting_last : (bounds kinds : List ℕ) (j : ℕ) {a b i k : ℕ} → a ≡ begins bounds j → b ≡ ends bounds j → a < b
-    → i ≡ ends bounds j - 1 → k ≡ get_or kinds i 0 → eqb k kind_store ≡ is_setting bounds kinds j
-setting_last bounds kinds j {a} {b} {i} {k} p q h e r =
-    let l : begins bounds j < ends bounds j = omega (arith, p, q) in
-    rw (lt-ltb (begins bounds j) (ends bounds j) l)
-    (ap (λ (x : ℕ). eqb x kind_store) (r ∙ ap (λ (n : ℕ). get_or kinds n 0) e))
-
-pub setting_none : (bounds kinds : List ℕ) (j : ℕ) {a b : ℕ} → a ≡ begins bounds j → b ≡ ends bounds j → b ≤ a
-    → false ≡ is_setting bounds kinds j
-setting_none bounds kinds j p q h =
-    let l : ends bounds j ≤ begins bounds j = omega (arith, p, q) in
-    rw (le-ltb (begins bounds j) (ends bounds j) l)
-
 -- the name that a statement sets, if it sets one
 pub set_last : (bounds kinds args : List ℕ) (j key : ℕ) {b : Bool} {i x : ℕ} → b ≡ is_setting bounds kinds j → b ≡ true
     → i ≡ ends bounds j - 1 → x ≡ get_or args i 0 → eqb key x ≡ has key (set_at bounds kinds args j)

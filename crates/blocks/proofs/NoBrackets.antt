@@ -20,7 +20,6 @@ use Rattle.blocks.specs.InsidePlaces.{rewritten_kinds}
 use Rattle.blocks.specs.Grouped.{UnitArrays, GroupOutcome, united, right_inside, paired}
 use Rattle.blocks.specs.Working.{is_bracket, bracketed}
 use Rattle.blocks.specs.InsideWorking.{Turned}
-use Rattle.blocks.proofs.KindsRenewed.{role_outside}
 
 -- a bracket that is none
 no_bracket : (b : Bracket) → is_bracket b ≡ false → b ≡ neither
@@ -67,8 +66,7 @@ module _ (lines bounds kinds args : List ℕ) (none : any_in (bracketed bounds k
 
   -- no store becomes another
   no_role : (j : ℕ) → j < length lines → role_at bounds kinds args j ≡ 0
-  no_role j h =
-      sym (role_outside bounds kinds args (standing_at bounds kinds j) j (plain j h) (outside j (omega arith)))
+  no_role j h = let e = plain j h in let z = outside j (omega arith) in rw (e, z)
 
   -- the kinds of the first k statements are those up to where the next one begins
   kept : Turned (length lines) bounds kinds → (k : ℕ) → k ≤ length lines

@@ -1,7 +1,7 @@
 -- The units written one after the other to the front of three arrays.
 use Prim.Native.Nat.{ℕ, ◌+◌, ◌-◌, ◌≤◌, ◌<◌}
 use mathlib.Core.Path.{◌≡◌, refl, sym, ap, ◌∙◌}
-use mathlib.Core.Bool.{Bool, true, false}
+use mathlib.Core.Bool.{Bool, false}
 use mathlib.Core.List.{List, [], ◌∷◌, ◌++◌, map, append_assoc}
 use native.Mathlib.Nat.{sub-zero}
 use native.Mathlib.Numerals.{add-one}
@@ -20,12 +20,18 @@ use Rattle.blocks.specs.Places.{unit_lines_in, unit_bounds_in}
 use Rattle.blocks.specs.Working.{UnitPut, Listed}
 use Rattle.blocks.proofs.DefiningCounted.{once_few, only_once}
 
--- ---- a number written if the test holds
-pub put_one : {x x' : List ℕ} (a c : ℕ) {b : Bool} → b ≡ true → x' ≡ set x c a → Put (only_if b a) c (c + 1) x x'
-put_one a c t e = rw t (record { behind = refl; written = e })
+-- ---- no unit written
+put_none : (x : List ℕ) (a c : ℕ) → Put (only_if false a) c c x x
+put_none x a c = record { behind = omega arith; written = refl }
 
-pub put_none : (x : List ℕ) (a c : ℕ) {b : Bool} → b ≡ false → Put (only_if b a) c c x x
-put_none x a c t = rw t (record { behind = omega arith; written = refl })
+pub unit_unput : (line bound first c : ℕ) (ulines ubounds firsts : List ℕ)
+    → UnitPut false line bound first c c ulines ulines ubounds ubounds firsts firsts
+unit_unput line bound first c ulines ubounds firsts =
+    record {
+      line_put = put_none ulines line c;
+      bound_put = put_none ubounds bound c;
+      first_put = put_none firsts first c;
+    }
 
 -- ---- a row that is written: what is left of it, behind c numbers
 pub record Row (left all : List ℕ) (c : ℕ) (x₀ x : List ℕ) : Type 0 where

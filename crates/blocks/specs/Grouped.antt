@@ -9,7 +9,6 @@ use Rattle.drafts.specs.Places.{begins, ends}
 use Rattle.sheet.specs.Sheet.{Fault, fault_list}
 use Rattle.blocks.specs.Places.{defining_in, faults25_in, starts_in, firsts_in, unit_lines_in, unit_bounds_in}
 use Rattle.blocks.specs.InsidePlaces.{faults26_in, rewritten_kinds}
-use Rattle.blocks.specs.declared.answer.Grouping.{Grouping}
 
 -- the three arrays that are lent for the units: their lines, their bounds and their first statements
 pub record UnitArrays : Type 0 where
@@ -20,7 +19,13 @@ pub record UnitArrays : Type 0 where
 abbrev pub unit_arrays : List ℕ → List ℕ → List ℕ → UnitArrays
 unit_arrays lines bounds firsts = record { lines = lines; bounds = bounds; firsts = firsts }
 
--- the answer, and the final content of the kinds, the fault list and the three arrays
+-- a number, 0 without refusal; the count of faults; with number 0 the count of units
+pub record Grouping : Type 0 where
+  pub number : ℕ
+  pub count : ℕ
+  pub units : ℕ
+
+-- these, and the final content of the kinds, the fault list and the three arrays
 pub record GroupOutcome : Type 0 where
   pub grouping : Grouping
   pub kinds : List ℕ

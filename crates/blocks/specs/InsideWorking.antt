@@ -1,16 +1,35 @@
 -- What the passes of fault 26 and of the kinds inside blocks keep and leave.
 use Rattle.std.specs.Prelude.{ℕ, ◌+◌, ◌-◌, ◌≤◌, ◌<◌, ◌≡◌, Bool, not, ◌&&◌, ◌||◌, List, [], ◌∷◌, ◌++◌, eqb, length}
-use Rattle.std.specs.Prelude.{get_or}
+use Rattle.std.specs.Prelude.{suc, get_or, Option, Some, None}
 use Rattle.limits.specs.Limits.{text_bytes, most_statements, most_definitions}
 use Rattle.laws.specs.Places.{gather}
 use Rattle.laws.specs.Counts.{has}
-use Rattle.drafts.specs.Kinds.{kind_output, kind_input}
+use Rattle.drafts.specs.Kinds.{kind_again, kind_given, kind_own, kind_output, kind_input}
 use Rattle.drafts.specs.Places.{begins, ends}
 use Rattle.sheet.specs.Sheet.{Fault}
+use Rattle.blocks.specs.declared.rewrite.Role.{Role}
+use Rattle.blocks.specs.declared.rewrite.Role.TheVariants.{Again, Given, Own}
 use Rattle.blocks.specs.Sound.{sets_for}
 use Rattle.blocks.specs.Layout.{sets_kind}
 use Rattle.blocks.specs.Places.{defining_in}
 use Rattle.blocks.specs.InsidePlaces.{key_at, keys_at, set_above, fault26_at, role_at, role_kind}
+
+-- ---- what the code's answers are in numbers
+
+-- where a statement stands: outside, or in the block of this header
+abbrev pub standing_in : Option ℕ → ℕ
+standing_in None = 0
+standing_in (Some head) = suc head
+
+-- what the store of a statement becomes that sets its name so, 0 if it stays as it is
+abbrev pub store_kind : Role → ℕ
+store_kind Again = kind_again
+store_kind Given = kind_given
+store_kind Own = kind_own
+
+abbrev pub role_in : Option Role → ℕ
+role_in None = 0
+role_in (Some role) = store_kind role
 
 -- ---- place by place
 

@@ -1,13 +1,14 @@
 -- What the passes of the code keep and leave: the faults that are written, the mates of headers and ends, and the
 -- arrays of the units.
 use Rattle.std.specs.Prelude.{ℕ, zero, suc, max, ◌+◌, ◌*◌, ◌≤◌, ◌<◌, ◌≡◌, Bool, true, false, ◌||◌, List, [], ◌∷◌, eqb}
-use Rattle.std.specs.Prelude.{ltb, length, get_or, set, replicate}
+use Rattle.std.specs.Prelude.{ltb, length, get_or, set, replicate, Option, Some, None}
 use Rattle.std.proofs.lemmas.List.Edits.{sets}
 use Rattle.limits.specs.Limits.{most_statements, text_bytes, fault_bytes}
 use Rattle.laws.specs.Places.{gather, only_if}
 use Rattle.laws.specs.Put.{Put}
 use Rattle.drafts.specs.Places.{begins, ends}
 use Rattle.sheet.specs.Sheet.{Fault, fault_list}
+use Rattle.blocks.specs.declared.units.Units.{Units}
 use Rattle.blocks.specs.Tests.{fault_if}
 use Rattle.blocks.specs.Pairing.{Bracket, opens, shuts, neither, Pair, pairs_from, pairs}
 use Rattle.blocks.specs.Places.{bracket_at, brackets_in, starts_in, firsts_in, unit_lines_in, unit_bounds_in}
@@ -45,6 +46,11 @@ abbrev pub bracketed : List ℕ → List ℕ → ℕ → Bool
 bracketed bounds kinds j = is_bracket (bracket_at bounds kinds j)
 
 -- ---- mates: at a paired header's place one more than its end's, at a paired end's one more than its header's
+
+-- the mate that the code has at a place, if it has one, as such a number
+abbrev pub mate_in : Option ℕ → ℕ
+mate_in None = 0
+mate_in (Some place) = place + 1
 
 -- a pair noted
 abbrev pub mate_noted : Pair → List ℕ → List ℕ
@@ -109,3 +115,9 @@ pub record Listed (lines bounds kinds : List ℕ) (r : ℕ) (ulines ulines' ubou
   pub lines_put : ulines' ≡ sets ulines 0 (unit_lines_in lines bounds kinds)
   pub bounds_put : ubounds' ≡ sets ubounds 0 (unit_bounds_in (length lines) bounds kinds)
   pub firsts_put : firsts' ≡ sets firsts 0 (firsts_in (length lines) bounds kinds)
+
+-- ---- the arrays that the code holds together are those that were lent
+pub record SameLent (units units' : Units) : Type 0 where
+  pub lines_lent : units'.lines.ghost_name ≡ units.lines.ghost_name
+  pub bounds_lent : units'.bounds.ghost_name ≡ units.bounds.ghost_name
+  pub firsts_lent : units'.firsts.ghost_name ≡ units.firsts.ghost_name

@@ -1,5 +1,5 @@
 // What a statement is to a block, by its first draft.
-ghost use Rattle.std.specs.Prelude.{◌≡◌, ◌≤◌};
+ghost use Rattle.std.specs.Prelude.{◌≡◌, ◌≤◌, length};
 ghost use Rattle.limits.specs.Limits.{most_statements};
 ghost use Rattle.laws.specs.Places.{any_in};
 ghost use Rattle.blocks.specs.Places.{leading_kind, bracket_kind};
@@ -7,15 +7,16 @@ ghost use Rattle.blocks.specs.Working.{is_bracket, bracketed, Stands, AllStand};
 
 use bits::reads::index;
 use drafts::{ENDING, NUMBER, OUTPUT};
+use sheet::Sheet;
 
 // The kind of the first draft of statement j, that of a number where it has none.
-pub(crate) fn leading_kind(bounds: &[u16], kinds: &[u8], j: usize) -> u8
-    requires { Stands bounds.now kinds.now j }
-    ensures { result ≡ leading_kind bounds.now kinds.now j }
+pub(crate) fn leading_kind(s: &Sheet, j: usize) -> u8
+    requires { Stands s.now.bounds.now s.now.kinds.now j }
+    ensures { result ≡ leading_kind s.now.bounds.now s.now.kinds.now j }
 {
-    let begin = index(bounds[j]);
-    if begin < index(bounds[j + 1]) {
-        return kinds[begin];
+    let begin = index(s.bounds[j]);
+    if begin < index(s.bounds[j + 1]) {
+        return s.kinds[begin];
     }
     NUMBER
 }
@@ -24,24 +25,14 @@ pub(crate) fn leading_kind(bounds: &[u16], kinds: &[u8], j: usize) -> u8
 fn is_bracket(kind: u8) -> bool
     ensures { result ≡ is_bracket (bracket_kind kind) }
 {
-    match kind {
-        OUTPUT => true,
-        ENDING => true,
-        _ => false,
-    }
+    matches!(kind, OUTPUT | ENDING)
 }
 
-// Whether one of n statements is.
-pub(crate) fn has_bracket(bounds: &[u16], kinds: &[u8], n: usize) -> bool
-    requires { (n ≤ most_statements) × AllStand n bounds.now kinds.now }
-    ensures { result ≡ any_in (bracketed bounds.now kinds.now) n 0 }
+// Whether one of the statements is.
+pub(crate) fn has_bracket(s: &Sheet) -> bool
+    requires { (length s.now.lines.now ≤ most_statements)
+        × AllStand (length s.now.lines.now) s.now.bounds.now s.now.kinds.now }
+    ensures { result ≡ any_in (bracketed s.now.bounds.now s.now.kinds.now) (length s.now.lines.now) 0 }
 {
-    let mut j: usize = 0;
-    while j < n {
-        if is_bracket(leading_kind(bounds, kinds, j)) {
-            return true;
-        }
-        j += 1;
-    }
-    false
+    (0..s.lines.len()).any(|j| is_bracket(leading_kind(s, j)))
 }

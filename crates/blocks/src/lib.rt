@@ -7,20 +7,20 @@ ghost use Rattle.blocks.specs.Contract.{Groups};
 pub mod answer;
 mod brackets;
 mod definitions;
-mod fitting;
+pub mod fitting;
 mod free;
 pub mod hints;
 mod inside;
-mod lists;
 mod names;
 mod pairing;
-mod report;
+pub mod report;
 mod rewrite;
 mod stages;
-mod stores;
 mod units;
 
-use answer::Grouping;
+use answer::Refusal;
+use sheet::Sheet;
+use units::Units;
 
 // Groups the statements of a sheet to units. Lines and bounds are the statements, kinds and args the drafts. The faults
 // 25 or 26 are written to the list; without them the lines, bounds and first statements of the units to the front of
@@ -34,23 +34,25 @@ pub fn group(
     ulines: &mut [u16],
     ubounds: &mut [u16],
     firsts: &mut [u16],
-) -> Grouping
+) -> Result<usize, Refusal>
     ensures { Groups lines.now bounds.now kinds.old args.now
         faults.old (unit_arrays ulines.old ubounds.old firsts.old) result
         kinds.new faults.new
         (unit_arrays ulines.new ubounds.new firsts.new) }
 {
-    if fitting::fits(
+    let s = Sheet {
         lines,
         bounds,
-        kinds,
-        args.len(),
-        faults.len(),
-        ulines.len(),
-        ubounds.len(),
-        firsts.len(),
-    ) {
-        return stages::run(lines, bounds, kinds, args, faults, ulines, ubounds, firsts);
+        kinds: &*kinds,
+        args,
+    };
+    if !fitting::fits(&s, faults.len(), ulines.len(), ubounds.len(), firsts.len()) {
+        return Err(Refusal::Unfit);
     }
-    stages::refusal(9, 0)
+    let mut units = Units {
+        lines: ulines,
+        bounds: ubounds,
+        firsts,
+    };
+    stages::run(lines, bounds, kinds, args, faults, &mut units)
 }

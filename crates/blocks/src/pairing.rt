@@ -1,111 +1,106 @@
 // Fault 25: an unpaired header or end, or a header inside a pair.
-ghost use Rattle.std.specs.Prelude.{◌≡◌, ◌≤◌, ◌<◌, length};
+ghost use Rattle.std.specs.Prelude.{◌≡◌, ◌≤◌, ◌<◌, length, map};
 ghost use Rattle.limits.specs.Limits.{most_statements};
 ghost use Rattle.blocks.specs.Pairing.{pairs};
 ghost use Rattle.blocks.specs.Places.{bracket_kind, brackets_in, faults25_in};
-ghost use Rattle.blocks.specs.Working.{Reported, AllStand, Stack, Paired, mates_noted, unmated, unmated_in};
+ghost use Rattle.blocks.specs.Working.{Reported, AllStand, Stack, Paired, mate_in, mates_noted, unmated, unmated_in};
 
 use super::brackets::leading_kind;
-use super::lists::{largest, put_short};
 use super::report::add_fault;
-use bits::reads::short_at;
+use bits::put;
+use bits::reads::{index, short_at};
 use drafts::{ENDING, OUTPUT};
+use faults::Fault;
 use limits::STATEMENTS;
+use sheet::Sheet;
 
 // Takes statement j, whose first draft is of this kind: a header is stacked, an end is paired with the header on top.
 // How many are on the stack then.
-fn note_mate(kind: u8, j: usize, depth: usize, stack: &mut [u16], mates: &mut [u16]) -> usize
+fn note_mate(
+    kind: u8,
+    j: usize,
+    depth: usize,
+    stack: &mut [u16],
+    mates: &mut [Option<u16>],
+) -> usize
     requires { (j < most_statements) × Stack stack.old depth j }
     ensures { Paired (bracket_kind kind) j depth result stack.old stack.new
-        mates.old mates.new }
+        (map mate_in mates.old) (map mate_in mates.new) }
 {
-    if kind == OUTPUT {
-        put_short(stack, depth, j);
-        return depth + 1;
+    match kind {
+        OUTPUT => {
+            put(stack, depth, j as u16);
+            depth + 1
+        }
+        ENDING => {
+            if depth == 0 {
+                return 0;
+            }
+            let head = short_at(stack, depth - 1);
+            put(&mut *mates, head, Some(j as u16));
+            put(mates, j, Some(head as u16));
+            depth - 1
+        }
+        _ => depth,
     }
-    if kind != ENDING {
-        return depth;
-    }
-    if depth == 0 {
-        return 0;
-    }
-    let head = short_at(stack, depth - 1);
-    put_short(&mut *mates, head, j + 1);
-    put_short(mates, j, head + 1);
-    depth - 1
 }
 
-// Notes the mates of n statements: for a paired header one more than its end's number, for a paired end one more than
-// its header's.
-fn note_mates(n: usize, bounds: &[u16], kinds: &[u8], mates: &mut [u16])
-    requires { (n ≤ most_statements) × AllStand n bounds.now kinds.now }
-    ensures { mates.new
-        ≡ mates_noted (pairs (brackets_in n bounds.now kinds.now)) mates.old }
+// Notes the mates of the statements: for a paired header the number of its end, for a paired end that of its header.
+fn note_mates(s: &Sheet, mates: &mut [Option<u16>])
+    requires { (length s.now.lines.now ≤ most_statements)
+        × AllStand (length s.now.lines.now) s.now.bounds.now s.now.kinds.now }
+    ensures { map mate_in mates.new
+        ≡ mates_noted (pairs (brackets_in (length s.now.lines.now) s.now.bounds.now s.now.kinds.now))
+        (map mate_in mates.old) }
 {
     let mut stack = [0u16; STATEMENTS];
-    let mut depth: usize = 0;
-    let mut j: usize = 0;
-    while j < n {
-        let kind = leading_kind(bounds, kinds, j);
-        depth = note_mate(kind, j, depth, &mut stack, &mut *mates);
-        j += 1;
+    let mut depth = 0;
+    for j in 0..s.lines.len() {
+        depth = note_mate(leading_kind(s, j), j, depth, &mut stack, &mut *mates);
     }
 }
 
-// Whether a 25 stands at statement j, by its mate and the furthest mate before it.
-fn is_unmated(kind: u8, j: usize, mate: usize, reach: usize) -> bool
+// Whether a 25 stands at statement j, by its mate and by how far the mates before it reach: the furthest is the
+// statement before this number.
+fn is_unmated(kind: u8, j: usize, mate: Option<u16>, reach: usize) -> bool
     requires { j ≤ most_statements }
-    ensures { result ≡ unmated (bracket_kind kind) j mate reach }
+    ensures { result ≡ unmated (bracket_kind kind) j (mate_in mate) reach }
 {
-    if kind == OUTPUT {
-        if mate == 0 {
-            return true;
-        }
-        return j + 1 < reach;
+    match kind {
+        OUTPUT => mate.is_none() || j + 1 < reach,
+        ENDING => mate.is_none(),
+        _ => false,
     }
-    if kind == ENDING {
-        return mate == 0;
-    }
-    false
 }
 
 // Writes the faults 25 by the mates; how many there are.
-fn report_unmated(
-    lines: &[u16],
-    bounds: &[u16],
-    kinds: &[u8],
-    mates: &[u16],
-    faults: &mut [u8],
-) -> usize
-    requires { (length lines.now ≤ most_statements) × AllStand (length lines.now) bounds.now kinds.now }
-    ensures { Reported (unmated_in lines.now bounds.now kinds.now
-        mates.now) 0 result faults.old faults.new }
+fn report_unmated(s: &Sheet, mates: &[Option<u16>], faults: &mut [u8]) -> usize
+    requires { (length s.now.lines.now ≤ most_statements) × (length s.now.lines.now ≤ length mates.now)
+        × AllStand (length s.now.lines.now) s.now.bounds.now s.now.kinds.now }
+    ensures { Reported (unmated_in s.now.lines.now s.now.bounds.now s.now.kinds.now
+        (map mate_in mates.now)) 0 result faults.old faults.new }
 {
-    let mut reach: usize = 0;
-    let mut count: usize = 0;
-    let mut j: usize = 0;
-    while j < lines.len() {
-        let mate = short_at(mates, j);
-        let stands = is_unmated(leading_kind(bounds, kinds, j), j, mate, reach);
-        count = add_fault(stands, short_at(lines, j), 25, &mut *faults, count);
-        reach = largest(reach, mate);
-        j += 1;
+    let mut reach = 0;
+    let mut count = 0;
+    for (j, &line) in s.lines.iter().enumerate() {
+        let mate = mates[j];
+        let fault = is_unmated(leading_kind(s, j), j, mate, reach).then_some(Fault::Unpaired);
+        count = add_fault(fault, index(line), &mut *faults, count);
+        if let Some(place) = mate {
+            reach = reach.max(index(place) + 1);
+        }
     }
     count
 }
 
 // Writes the faults 25 to the front of the list; how many there are.
-pub(crate) fn report_unpaired(
-    lines: &[u16],
-    bounds: &[u16],
-    kinds: &[u8],
-    faults: &mut [u8],
-) -> usize
-    requires { (length lines.now ≤ most_statements) × AllStand (length lines.now) bounds.now kinds.now }
-    ensures { Reported (faults25_in lines.now bounds.now kinds.now) 0 result
+pub(crate) fn report_unpaired(s: &Sheet, faults: &mut [u8]) -> usize
+    requires { (length s.now.lines.now ≤ most_statements)
+        × AllStand (length s.now.lines.now) s.now.bounds.now s.now.kinds.now }
+    ensures { Reported (faults25_in s.now.lines.now s.now.bounds.now s.now.kinds.now) 0 result
         faults.old faults.new }
 {
-    let mut mates = [0u16; STATEMENTS];
-    note_mates(lines.len(), bounds, kinds, &mut mates);
-    report_unmated(lines, bounds, kinds, &mates, faults)
+    let mut mates = [None; STATEMENTS];
+    note_mates(s, &mut mates);
+    report_unmated(s, &mates, faults)
 }

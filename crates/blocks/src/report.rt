@@ -1,17 +1,15 @@
 // The list of the faults 25 and 26.
-ghost use Rattle.std.specs.Prelude.{◌≤◌};
-ghost use Rattle.limits.specs.Limits.{most_statements};
-ghost use Rattle.blocks.specs.Tests.{fault_if};
-ghost use Rattle.blocks.specs.Working.{Reported};
+ghost use Rattle.blocks.specs.Contract.{AddsFault};
 
-// Writes a fault at a statement's first byte behind the c that stand there, if it stands; how many there are then.
-pub(crate) fn add_fault(stands: bool, line: usize, code: u8, faults: &mut [u8], c: usize) -> usize
-    requires { c ≤ most_statements }
-    ensures { Reported (fault_if stands line code) c result faults.old faults.new }
+use faults::Fault;
+
+// Writes a fault at a statement's first byte behind the c that stand there, if there is one; how many there are then.
+pub fn add_fault(fault: Option<Fault>, line: usize, list: &mut [u8], c: usize) -> usize
+    ensures { AddsFault fault line list.old c result list.new }
 {
-    if stands {
-        sheet::put_fault(faults, c, line, code, line, 1);
-        return c + 1;
-    }
-    c
+    let Some(fault) = fault else {
+        return c;
+    };
+    sheet::put_fault(list, c, line, fault.into(), line, 1);
+    c.saturating_add(1)
 }

@@ -3,28 +3,19 @@
 ghost use Rattle.std.specs.Prelude.{◌≡◌, ◌≤◌, length};
 ghost use Rattle.limits.specs.Limits.{most_definitions};
 ghost use Rattle.blocks.specs.Places.{defining_in};
-ghost use Rattle.blocks.specs.Grouped.{unit_arrays, group_refused, group_outcome, paired, limited};
-ghost use Rattle.blocks.specs.Working.{SheetFollows};
+ghost use Rattle.blocks.specs.Contract.{grouping_in};
+ghost use Rattle.blocks.specs.Grouped.{unit_arrays, group_outcome, paired, limited};
+ghost use Rattle.blocks.specs.Working.{SheetFollows, SameLent};
 
-use super::answer::Grouping;
+use super::answer::Refusal;
 use super::brackets::has_bracket;
 use super::definitions::count_defining;
 use super::inside::report_inside;
 use super::pairing::report_unpaired;
 use super::rewrite::rewrite;
-use super::units::list_units;
+use super::units::{Units, list_units};
 use limits::DEFINITIONS;
-
-// A refusal with its count of faults.
-pub(crate) fn refusal(number: u8, count: usize) -> Grouping
-    ensures { result ≡ group_refused number count }
-{
-    Grouping {
-        number,
-        count,
-        units: 0,
-    }
-}
+use sheet::Sheet;
 
 // Those of a sheet with a header or an end: 25; 26; the units, and the kinds inside.
 fn run_blocks(
@@ -33,32 +24,33 @@ fn run_blocks(
     kinds: &mut [u8],
     args: &[u64],
     faults: &mut [u8],
-    ulines: &mut [u16],
-    ubounds: &mut [u16],
-    firsts: &mut [u16],
-) -> Grouping
+    units: &mut Units,
+) -> Result<usize, Refusal>
     requires { SheetFollows lines.now bounds.now kinds.old
         × (length (defining_in kinds.old) ≤ most_definitions) }
-    ensures { group_outcome result kinds.new faults.new
-        (unit_arrays ulines.new ubounds.new firsts.new)
+    ensures same { SameLent units.old units.new }
+    ensures grouped { group_outcome (grouping_in result) kinds.new faults.new
+        (unit_arrays units.new.lines.now units.new.bounds.now units.new.firsts.now)
         ≡ paired lines.now bounds.now kinds.old args.now
-        faults.old (unit_arrays ulines.old ubounds.old firsts.old) }
+        faults.old (unit_arrays units.old.lines.now units.old.bounds.now units.old.firsts.now) }
 {
-    let unpaired = report_unpaired(lines, bounds, kinds, &mut *faults);
+    let s = Sheet {
+        lines,
+        bounds,
+        kinds: &*kinds,
+        args,
+    };
+    let unpaired = report_unpaired(&s, &mut *faults);
     if 0 < unpaired {
-        return refusal(7, unpaired);
+        return Err(Refusal::Faults(unpaired));
     }
-    let wrong = report_inside(lines, bounds, kinds, args, &mut *faults);
+    let wrong = report_inside(&s, &mut *faults);
     if 0 < wrong {
-        return refusal(7, wrong);
+        return Err(Refusal::Faults(wrong));
     }
-    let units = list_units(lines, bounds, kinds, ulines, ubounds, firsts);
-    rewrite(bounds, kinds, args, lines.len());
-    Grouping {
-        number: 0,
-        count: 0,
-        units,
-    }
+    let count = list_units(&s, units);
+    rewrite(lines, bounds, kinds, args);
+    Ok(count)
 }
 
 // All stages: 6; then those of blocks, or the statements as units.
@@ -68,26 +60,26 @@ pub(crate) fn run(
     kinds: &mut [u8],
     args: &[u64],
     faults: &mut [u8],
-    ulines: &mut [u16],
-    ubounds: &mut [u16],
-    firsts: &mut [u16],
-) -> Grouping
+    units: &mut Units,
+) -> Result<usize, Refusal>
     requires { SheetFollows lines.now bounds.now kinds.old }
-    ensures { group_outcome result kinds.new faults.new
-        (unit_arrays ulines.new ubounds.new firsts.new)
+    ensures same { SameLent units.old units.new }
+    ensures grouped { group_outcome (grouping_in result) kinds.new faults.new
+        (unit_arrays units.new.lines.now units.new.bounds.now units.new.firsts.now)
         ≡ limited lines.now bounds.now kinds.old args.now
-        faults.old (unit_arrays ulines.old ubounds.old firsts.old) }
+        faults.old (unit_arrays units.old.lines.now units.old.bounds.now units.old.firsts.now) }
 {
     if DEFINITIONS < count_defining(kinds) {
-        return refusal(6, 0);
+        return Err(Refusal::ManyDefinitions);
     }
-    if has_bracket(bounds, kinds, lines.len()) {
-        return run_blocks(lines, bounds, kinds, args, faults, ulines, ubounds, firsts);
+    let s = Sheet {
+        lines,
+        bounds,
+        kinds: &*kinds,
+        args,
+    };
+    if has_bracket(&s) {
+        return run_blocks(lines, bounds, kinds, args, faults, units);
     }
-    let units = list_units(lines, bounds, kinds, ulines, ubounds, firsts);
-    Grouping {
-        number: 0,
-        count: 0,
-        units,
-    }
+    Ok(list_units(&s, units))
 }

@@ -1,40 +1,34 @@
 -- Laws of lines over the bytes of a text.
 use Prim.Native.Nat.{ℕ, zero, suc, ◌+◌, ◌-◌, ◌≤◌, ◌<◌, zero-le, suc-le-suc}
-use mathlib.Core.Path.{◌≡◌, refl, sym, ap, ◌∙◌}
+use mathlib.Core.Path.{◌≡◌, refl, sym, ap, subst, ◌∙◌}
 use mathlib.Core.Bool.{Bool, true, false, cond}
 use mathlib.Core.List.{List, [], ◌∷◌, ◌++◌}
 use mathlib.Core.Logic.{⊎_elim}
-use native.Mathlib.Numerals.{add-one}
+use native.Mathlib.Numerals.{one-add}
 use native.Mathlib.Nat.{add-zero, not-suc-le-zero}
 use native.Mathlib.Omega.{arith}
 use lib.ListN.{length, get_or, take, drop, drop_of_length-le, length-drop, length-take, length-append}
-use lib.Seq.{drop-cons, drop-drop, take-suc, length-take-le}
-use lib.Dec.{eqb}
-use borrow.Author.Tests.{eq-eqb, ne_eqb}
+use lib.Seq.{drop-drop, take-suc, length-take-le, take-length, take-append-le}
+use lib.Dec.{eqb, ltb}
+use Rattle.std.specs.Prelude.{Option, Some, None, MatchOption, position}
+use Rattle.std.specs.List.{position_or_len}
+use Rattle.std.proofs.lemmas.List.Recursion.{is_position_or_len}
+use borrow.Author.Tests.{ne_eqb, ltb-false}
 use Rattle.laws.specs.Every.{Every}
-use Rattle.laws.proofs.Tests.{lt_or_ge}
+use Rattle.laws.proofs.Tests.{lt_or_ge, cond_ind}
 use Rattle.deck.specs.Lines.{Line, cut, lines_of, kept, trimmed, starred}
 use Rattle.deck.specs.Next.{width, spread}
+use Rattle.deck.specs.Ahead.{LineAt}
 
--- ---- the bytes before the first byte 10, from a place on
-module _ (t : List ℕ) (i : ℕ) where
-  -- at a byte 10 there are none
-  pub width_ten : i < length t → get_or t i 0 ≡ 10 → width (drop i t) ≡ 0
-  unfolding width
-  width_ten h e = rw (drop-cons t i 0 h, eq-eqb _ _ e)
+-- ---- the bytes before the first byte 10
 
-  -- at another byte it is one of them
-  pub width_more : i < length t → (get_or t i 0 ≡ 10 → ⊥) → width (drop i t) ≡ suc (width (drop (i + 1) t))
-  unfolding width
-  width_more h e = rw (add-one, drop-cons t i 0 h, ne_eqb _ _ e)
-
-  -- at the end there are none
-  pub width_end : length t ≤ i → width (drop i t) ≡ 0
-  unfolding width
-  width_end h = rw (drop_of_length-le t h)
+-- that many stand before the place of the first, or all where there is none
+width_position : (t : List ℕ) → width t ≡ position_or_len (λ (b : ℕ). eqb b 10) t
+unfolding width
+width_position t = is_position_or_len width (λ (b : ℕ). eqb b 10) refl (λ b t. rw one-add refl) t
 
 -- they are no more than all
-width_le : (t : List ℕ) → width t ≤ length t
+pub width_le : (t : List ℕ) → width t ≤ length t
 unfolding width
 width_le [] = zero-le
 width_le (b ∷ t) = go (eqb b 10) (width_le t)
@@ -42,6 +36,22 @@ width_le (b ∷ t) = go (eqb b 10) (width_le t)
     go : (f : Bool) → width t ≤ length t → cond f 0 (suc (width t)) ≤ suc (length t)
     go true h = zero-le
     go false h = suc-le-suc h
+
+-- as a search finds it
+pub width_found : (t : List ℕ) (r : Option ℕ) → r ≡ position (λ (b : ℕ). eqb b 10) t
+    → MatchOption r (width t ≡ length t) (λ i. width t ≡ i)
+width_found t r e = subst (λ r. MatchOption r (width t ≡ length t) (λ i. width t ≡ i)) (sym e) (go _ refl)
+  where
+    go : (n : ℕ) → position_or_len (λ (b : ℕ). eqb b 10) t ≡ n
+        → MatchOption (cond (ltb n (length t)) (Some n) None) (width t ≡ length t) (λ i. width t ≡ i)
+    go n q =
+        cond_ind (λ r. MatchOption r (width t ≡ length t) (λ i. width t ≡ i)) (ltb n (length t)) (Some n) None
+        (λ _. width_position t ∙ q)
+        (λ h. let few = ltb-false n (length t) h in omega (arith, width_position t, q, width_le t))
+
+-- what is left of a text from a place to its end
+pub rest_whole : (t : List ℕ) (i : ℕ) → take (length t - i) (drop i t) ≡ drop i t
+rest_whole t i = rw (← (length-drop i t)) (take-length (drop i t))
 
 -- ---- the length of a line, trailing spaces aside
 
@@ -62,22 +72,49 @@ unfolding trimmed
 trimmed_other [] b e = rw (ne_eqb _ _ e)
 trimmed_other (a ∷ l) b e = rw (trimmed_other l b e) (kept_suc (eqb a 32) (length l))
 
--- ---- the same of a line's front of n bytes
-module _ (l : Line) (n : ℕ) (z : 0 < n) (h : n ≤ length l) where
-  -- the front by its last byte
-  last : trimmed (take n l) ≡ trimmed (take (n - 1) l ++ (get_or l (n - 1) 0 ∷ []))
+-- trailing spaces aside a line is no longer
+kept_le : (f : Bool) (n m : ℕ) → n ≤ m → kept f n ≤ suc m
+kept_le true zero m h = zero-le
+kept_le true (suc n) m h = suc-le-suc h
+kept_le false n m h = suc-le-suc h
+
+pub trimmed_le : (l : Line) → trimmed l ≤ length l
+unfolding trimmed
+trimmed_le [] = zero-le
+trimmed_le (b ∷ l) = kept_le (eqb b 32) (trimmed l) (length l) (trimmed_le l)
+
+-- of nothing nothing is set aside
+pub front_none : (l : Line) → length l < 1 → l ≡ take (trimmed l) l
+unfolding trimmed
+front_none [] h = refl
+front_none (b ∷ l) h = absurd (omega arith)
+
+-- ---- a line that has a last byte
+module _ (l : Line) (some : 0 < length l) where
+  -- it is that byte behind the others
+  last : l ≡ take (length l - 1) l ++ (get_or l (length l - 1) 0 ∷ [])
   last =
-      let s : n ≡ suc (n - 1) = omega arith in
-      ap (λ (k : ℕ). trimmed (take k l)) s ∙ rw (take-suc l (n - 1) 0 (omega arith))
+      let n : suc (length l - 1) ≡ length l = omega arith in
+      sym (take-length l) ∙ ap (λ (k : ℕ). take k l) (sym n) ∙ take-suc l (length l - 1) 0 (omega arith)
 
   -- a space there is set aside
-  pub trimmed_at_space : get_or l (n - 1) 0 ≡ 32 → trimmed (take n l) ≡ trimmed (take (n - 1) l)
-  trimmed_at_space e = last ∙ rw e (trimmed_space (take (n - 1) l))
+  pub front_space : get_or l (length l - 1) 0 ≡ 32
+      → take (trimmed (take (length l - 1) l)) (take (length l - 1) l) ≡ take (trimmed l) l
+  front_space e =
+      let front = take (length l - 1) l in
+      let h : trimmed front ≤ length front = trimmed_le front in
+      sym
+      (ap (λ (k : Line). take (trimmed k) k) (last ∙ ap (λ (b : ℕ). front ++ (b ∷ [])) e)
+      ∙ ap (λ (n : ℕ). take n (front ++ (32 ∷ []))) (trimmed_space front)
+      ∙ take-append-le (trimmed front) front (32 ∷ []) h)
 
   -- another byte there is kept
-  pub trimmed_at_other : (get_or l (n - 1) 0 ≡ 32 → ⊥) → trimmed (take n l) ≡ n
-  trimmed_at_other e =
-      last ∙ rw (trimmed_other (take (n - 1) l) _ e, length-take-le (n - 1) l (omega arith)) (omega arith)
+  pub front_other : (get_or l (length l - 1) 0 ≡ 32 → ⊥) → l ≡ take (trimmed l) l
+  front_other e =
+      let n : trimmed l ≡ length l =
+      ap trimmed last ∙ trimmed_other (take (length l - 1) l) _ e
+      ∙ omega (arith, length-take-le (length l - 1) l (omega arith)) in
+      sym (ap (λ (k : ℕ). take k l) n ∙ take-length l)
 
 -- ---- an empty line is no comment
 pub starred_none : (l : Line) → length l ≡ 0 → false ≡ starred l
@@ -106,31 +143,23 @@ lines_cons (b ∷ c ∷ t) h = go (eqb b 10) (lines_cons (c ∷ t) (omega arith)
     go true e = refl
     go false e = ap (cut false b) e
 
--- the bytes of a text from a place to another
-abbrev pub line_of : List ℕ → ℕ → ℕ → Line
-line_of t at e = take (e - at) (drop at t)
-
--- what is known of the line from at to its end e
-pub record LineAt (t : List ℕ) (at e : ℕ) : Type 0 where
-  pub from : at ≤ e
-  pub upto : e ≤ length t
-  pub long : length (line_of t at e) ≡ e - at
-  pub lines : lines_of (drop at t) ≡ line_of t at e ∷ lines_of (drop (e + 1) t)
-
--- it is known where e is where the bytes before the next byte 10 end
-pub line_at : (t : List ℕ) (at e : ℕ) → at < length t → e ≡ at + width (drop at t) → LineAt t at e
+-- the bytes from a place to the end of its line
+pub line_at : (t : List ℕ) (at e : ℕ) → at < length t → e ≡ at + width (drop at t)
+    → LineAt t at (take (e - at) (drop at t)) × (e ≡ at + length (take (e - at) (drop at t)))
 line_at t at e h q =
     let w = width (drop at t) in
     let l : length (drop at t) ≡ length t - at = length-drop at t in
     let wl : w ≤ length (drop at t) = width_le (drop at t) in
     let d : e - at ≡ w = omega arith in
-    let n : at + suc w ≡ e + 1 = omega arith in
-    record {
-      from = omega arith;
-      upto = omega arith;
-      long = simp length-take (omega arith);
-      lines = rw (d, ← n, ← (drop-drop (suc w) at t)) (lines_cons (drop at t) (omega arith));
-    }
+    let n : length (take (e - at) (drop at t)) ≡ e - at = simp length-take (omega arith) in
+    let m : at + length (take (e - at) (drop at t)) + 1 ≡ at + suc w = omega arith in (
+      record {
+        some = h;
+        upto = omega arith;
+        lines = rw (m, d, ← (drop-drop (suc w) at t)) (lines_cons (drop at t) (omega arith));
+      },
+      omega arith,
+    )
 
 -- behind the end there are no lines
 pub lines_end : (t : List ℕ) (at : ℕ) → length t ≤ at → lines_of (drop at t) ≡ []
@@ -146,10 +175,11 @@ module _ (t : List ℕ) (at : ℕ) (l : Line) (ls : List Line) (q : lines_of (dr
   -- the lines behind a line are those from its end on
   pub lines_tail : lines_of (drop (at + length l + 1) t) ≡ ls
   lines_tail =
-      let a = line_at t at (at + width (drop at t)) lines_some refl in
-      let e : l ≡ line_of t at (at + width (drop at t)) = cc (q, a.lines) in
-      let n : at + length l + 1 ≡ at + width (drop at t) + 1 = omega (arith, ap length e ∙ a.long) in
-      rw n (cc (q, a.lines))
+      let a = (line_at t at (at + width (drop at t)) lines_some refl).0 in
+      let here = take (at + width (drop at t) - at) (drop at t) in
+      let e : here ≡ l = cc (q, a.lines) in
+      let others : lines_of (drop (at + length here + 1) t) ≡ ls = cc (q, a.lines) in
+      rw e at others
 
 -- where lines are there are bytes
 pub lines_bytes : (t : List ℕ) (at : ℕ) → 0 < length (lines_of (drop at t)) → at < length t
@@ -162,9 +192,9 @@ pub line_stands : (t : List ℕ) (s : ℕ) (l : Line) (ls : List Line) → lines
 line_stands t s l ls q =
     let e = s + width (drop s t) in
     let a = line_at t s e (lines_some t s l ls q) refl in
-    let h : l ≡ line_of t s e = cc (sym q ∙ a.lines) in
-    let n : length l ≡ e - s = ap length h ∙ a.long in
-    (ap (λ (m : ℕ). take m (drop s t)) n ∙ sym h, omega (arith, a.from, a.upto))
+    let h : l ≡ take (e - s) (drop s t) = cc (sym q ∙ a.0.lines) in
+    let n : length l ≡ e - s = ap length h ∙ omega (arith, a.1) in
+    (ap (λ (m : ℕ). take m (drop s t)) n ∙ sym h, omega (arith, a.0.upto, ap length h))
 
 -- ---- the bytes of lines, a byte 10 behind each
 

@@ -2,64 +2,52 @@
 use Prim.Native.Nat.{ℕ, zero, suc, ◌+◌, ◌-◌, ◌≤◌, ◌<◌}
 use mathlib.Core.Path.{◌≡◌, refl, sym, ap, ◌∙◌}
 use mathlib.Core.Bool.{Bool, true, false, not, cond, ◌||◌}
-use mathlib.Core.List.{List, [], ◌∷◌}
-use native.Mathlib.Numerals.{add-one}
+use mathlib.Core.List.{List, [], ◌∷◌, ◌++◌}
 use native.Mathlib.Nat.{not-suc-le-zero, zero-add}
 use native.Mathlib.Omega.{arith}
-use borrow.Author.Tests.{eq-eqb, ne_eqb, lt-ltb, ltb-false}
+use Rattle.std.specs.List.{sum_by, fold, slice_get}
+use Rattle.std.specs.Prelude.{Option, Some, None}
+use Rattle.std.proofs.lemmas.List.Recursion.{is_sum_by}
+use borrow.Author.Tests.{ne_eqb, lt-ltb, ltb-false}
 use lib.Dec.{eqb, ltb}
-use lib.ListN.{length, get_or, take, drop, drop_of_length-le, length-drop}
-use lib.Seq.{drop-cons, drop-drop, length-take-le}
+use lib.ListN.{length, take, drop, length-drop}
+use lib.Seq.{drop-drop}
 use Rattle.laws.specs.Counts.{once}
 use Rattle.deck.specs.Lines.{Line, cut, lines_of}
 use Rattle.deck.specs.Next.{width, SameEnd}
 use Rattle.deck.specs.Ends.{ends_of}
 
--- ---- counted one by one, and part by part
+-- ---- counted and sought
 
--- one byte more
-ends_next : (t : List ℕ) (i : ℕ) → i < length t
-    → ends_of (drop i t) ≡ once (eqb (get_or t i 0) 10) + ends_of (drop (i + 1) t)
+-- one by one
+pub ends_sum : (t : List ℕ) → ends_of t ≡ sum_by (λ (b : ℕ). once (eqb b 10)) t
 unfolding ends_of
-ends_next t i h = rw (add-one, drop-cons t i 0 h)
+ends_sum t = is_sum_by ends_of (λ (b : ℕ). once (eqb b 10)) refl (λ b t. refl) t
 
--- ---- sought one by one: one was found, or one stands from place i on
-pub record Finds (t : List ℕ) (f : Bool) (i : ℕ) : Type 0 where
-  pub either : ltb 0 (ends_of t) ≡ (f || ltb 0 (ends_of (drop i t)))
-
-pub finds_first : (t : List ℕ) → Finds t false 0
-finds_first t = record { either = refl }
-
-pub finds_next : {t : List ℕ} {f : Bool} {i : ℕ} → Finds t f i → i < length t
-    → Finds t (f || eqb (get_or t i 0) 10) (i + 1)
-finds_next {t} {f} {i} w h =
-    record { either = w.either ∙ rw (ends_next t i h) (go f (eqb (get_or t i 0) 10) (ends_of (drop (i + 1) t))) }
-  where
-    go : (f c : Bool) (n : ℕ) → (f || ltb 0 (once c + n)) ≡ ((f || c) || ltb 0 n)
-    go true c n = refl
-    go false true n = lt-ltb 0 (1 + n) (omega arith)
-    go false false n = rw (zero-add n)
-
-pub finds_last : {t : List ℕ} {f : Bool} {i : ℕ} → Finds t f i → length t ≤ i → f ≡ ltb 0 (ends_of t)
+-- one was found, or one is among these
+pub ends_fold : (f : Bool) (t : List ℕ)
+    → fold (λ (f : Bool) (b : ℕ). f || eqb b 10) f t ≡ (f || ltb 0 (ends_of t))
 unfolding ends_of
-finds_last {t} {f} {i} w h = sym (w.either ∙ rw (drop_of_length-le t h) (go f))
+ends_fold f [] = go f
   where
-    go : (f : Bool) → (f || ltb 0 0) ≡ f
+    go : (f : Bool) → f ≡ (f || false)
     go true = refl
     go false = refl
+ends_fold f (b ∷ t) = ends_fold (f || eqb b 10) t ∙ go f (eqb b 10) (ends_of t)
+  where
+    go : (f c : Bool) (n : ℕ) → ((f || c) || ltb 0 n) ≡ (f || ltb 0 (once c + n))
+    go true c n = refl
+    go false true n = sym (lt-ltb 0 (1 + n) (omega arith))
+    go false false n = rw (zero-add n)
 
--- so many bytes more
-ends_split : (k : ℕ) (t : List ℕ) → ends_of t ≡ ends_of (take k t) + ends_of (drop k t)
+-- part by part
+pub ends_append : (x y : List ℕ) → ends_of (x ++ y) ≡ ends_of x + ends_of y
 unfolding ends_of
-ends_split zero t = omega arith
-ends_split (suc k) [] = omega arith
-ends_split (suc k) (b ∷ t) = omega (arith, ends_split k t)
-
-ends_part : (t : List ℕ) (i k : ℕ) → ends_of (drop i t) ≡ ends_of (take k (drop i t)) + ends_of (drop (i + k) t)
-ends_part t i k = ends_split k (drop i t) ∙ rw (drop-drop k i t)
+ends_append [] y = omega arith
+ends_append (b ∷ x) y = omega (arith, ends_append x y)
 
 -- no more than all bytes
-ends_le : (t : List ℕ) → ends_of t ≤ length t
+pub ends_le : (t : List ℕ) → ends_of t ≤ length t
 unfolding ends_of
 ends_le [] = omega arith
 ends_le (b ∷ t) = go (eqb b 10) (ends_le t)
@@ -68,49 +56,6 @@ ends_le (b ∷ t) = go (eqb b 10) (ends_le t)
     go true h = omega arith
     go false h = omega arith
 
--- n of them stand before place i
-pub record Counts (t : List ℕ) (n i : ℕ) : Type 0 where
-  pub within : i ≤ length t
-  pub few : n ≤ i
-  pub all : n + ends_of (drop i t) ≡ ends_of t
-
-pub counts_first : (t : List ℕ) → Counts t 0 0
-counts_first t = record { within = omega arith; few = omega arith; all = omega arith }
-
-module _ {t : List ℕ} {n i : ℕ} (w : Counts t n i) where
-  -- behind one byte, and behind so many
-  pub counts_next : {m : ℕ} → i < length t → (m ≡ once (eqb (get_or t i 0) 10)) × (m ≤ 1) → Counts t (n + m) (i + 1)
-  counts_next h e =
-      record {
-        within = omega arith;
-        few = omega (arith, w.few, e.1);
-        all = omega (arith, w.all, ends_next t i h, e.0);
-      }
-
-  pub counts_part : {m : ℕ} (k : ℕ) → i + k ≤ length t → m ≡ ends_of (take (i + k - i) (drop i t))
-      → Counts t (n + m) (i + k)
-  counts_part k h q =
-      let z : i + k - i ≡ k = omega arith in
-      let e = rw z at q in
-      let a = length-drop i t in
-      let b = length-take-le k (drop i t) (omega arith) in
-      let c = ends_le (take k (drop i t)) in
-      record { within = h; few = omega (arith, w.few); all = omega (arith, w.all, ends_part t i k) }
-
-  -- at the end
-  pub counts_last : length t ≤ i → n ≡ ends_of t
-  unfolding ends_of
-  counts_last h = let e : ends_of (drop i t) ≡ 0 = ap ends_of (drop_of_length-le t h) in omega (arith, w.all)
-
--- or with what is left
-pub counts_rest : {t : List ℕ} {n i m : ℕ} → Counts t n i → m ≡ ends_of (take (length t - i) (drop i t))
-    → (n + m ≡ ends_of t) × (n + m ≤ length t)
-counts_rest {t} {n} {i} {m} w q =
-    let k = length t - i in
-    let z : i + k - i ≡ k = omega arith in
-    let e = counts_last (counts_part w {m = m} k (omega (arith, w.within)) (rw z q)) (omega (arith, w.within)) in
-    (e, omega (arith, ends_le t))
-
 -- ---- lines by bytes 10
 
 -- the last of b and bytes behind it
@@ -118,7 +63,7 @@ unfoldable last : ℕ → List ℕ → ℕ
 last b [] = b
 last b (c ∷ t) = last c t
 
-last_at : (b : ℕ) (t : List ℕ) → last b t ≡ get_or (b ∷ t) (length t) 0
+last_at : (b : ℕ) (t : List ℕ) → slice_get (b ∷ t) (length t) ≡ Some (last b t)
 unfolding last
 last_at b [] = refl
 last_at b (c ∷ t) = last_at c t
@@ -147,29 +92,27 @@ lines_many b (c ∷ t) =
     omega arith
 
 -- by the last byte of a text
-lines_by : (t : List ℕ) → 0 < length t
-    → length (lines_of t) ≡ ends_of t + once (not (eqb (get_or t (length t - 1) 0) 10))
-lines_by [] h = absurd (not-suc-le-zero h)
-lines_by (b ∷ t) h =
+abbrev more : Option ℕ → ℕ
+more None = 0
+more (Some b) = once (not (eqb b 10))
+
+lines_by : (t : List ℕ) → length (lines_of t) ≡ ends_of t + more (slice_get t (length t - 1))
+unfolding lines_of ends_of
+lines_by [] = refl
+lines_by (b ∷ t) =
     let n : suc (length t) - 1 ≡ length t = omega arith in
-    lines_many b t ∙ rw (last_at b t, n)
+    rw (n, last_at b t) (lines_many b t)
 
 module _ (t : List ℕ) where
-  pub lines_none : length t ≡ 0 → length (lines_of t) ≡ ends_of t
-  unfolding lines_of ends_of
-  lines_none h = go t h
-    where
-      go : (t : List ℕ) → length t ≡ 0 → length (lines_of t) ≡ ends_of t
-      go [] h = refl
-      go (b ∷ t) h = absurd (omega arith)
+  pub lines_none : None ≡ slice_get t (length t - 1) → length (lines_of t) ≡ ends_of t
+  lines_none e = omega (arith, rw (← e) at (lines_by t))
 
-  pub lines_closed : 0 < length t → get_or t (length t - 1) 0 ≡ 10 → length (lines_of t) ≡ ends_of t
-  lines_closed h e =
-      let m = lines_by t h in let z : once (not (eqb (get_or t (length t - 1) 0) 10)) ≡ 0 = rw (eq-eqb _ _ e) in
-      omega arith
+  pub lines_closed : Some 10 ≡ slice_get t (length t - 1) → length (lines_of t) ≡ ends_of t
+  lines_closed e = omega (arith, rw (← e) at (lines_by t))
 
-  pub lines_open : 0 < length t → (get_or t (length t - 1) 0 ≡ 10 → ⊥) → length (lines_of t) ≡ ends_of t + 1
-  lines_open h e = lines_by t h ∙ rw (ne_eqb _ _ e)
+  pub lines_open : (b : ℕ) → Some b ≡ slice_get t (length t - 1) → (b ≡ 10 → ⊥)
+      → length (lines_of t) ≡ ends_of t + 1
+  lines_open b e other = rw (← e, ne_eqb b 10 other) at (lines_by t)
 
 -- ---- where no byte 10 stands
 

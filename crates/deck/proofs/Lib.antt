@@ -1,6 +1,7 @@
 pub mod Local
 pub mod Rising
 pub mod Cutting
+pub mod Ahead
 pub mod Ends
 pub mod Cards
 pub mod First

@@ -1,68 +1,126 @@
 -- Laws of a line's part, of the joined text, and of the faults 11, 12 and 13.
-use Prim.Native.Nat.{ℕ, zero, suc, ◌-◌, ◌*◌, ◌≤◌, zero-le, suc-le-suc}
-use mathlib.Core.Path.{◌≡◌, refl, sym, ap}
-use mathlib.Core.Bool.{Bool, true, false, cond, ◌||◌}
+use Prim.Native.Nat.{ℕ, suc, ◌+◌, ◌-◌, ◌*◌, ◌≤◌, ◌<◌}
+use mathlib.Core.Path.{◌≡◌, refl, sym, ap, ◌∙◌}
+use mathlib.Core.Bool.{Bool, true, false, cond, ◌&&◌, ◌||◌}
+use mathlib.Core.Logic.{⊎_elim}
 use mathlib.Core.List.{List, [], ◌∷◌, ◌++◌, append-nil}
 use native.Mathlib.Omega.{arith}
-use lib.Dec.{eqb, ltb}
-use lib.ListN.{length, take, length-append}
-use lib.Seq.{length-take-le, take-length}
-use borrow.Author.Tests.{leb-true, ltb-false}
+use lib.Dec.{eqb, leb, ltb}
+use lib.Pointwise.{pointwise}
+use Rattle.std.specs.Prelude.{Option, Some, None, MatchOption, unwrap_or}
+use Rattle.std.specs.Borrow.{Bor}
+use lib.ListN.{length, get_or, take, drop, drop_of_length-le, length-append}
+use lib.Seq.{drop-cons, length-take-le}
+use Rattle.std.proofs.lemmas.List.{get_or-take, take-take}
+use borrow.Author.Tests.{le-leb, leb-true, ltb-false}
 use Rattle.limits.specs.Limits.{most_cards, card_bytes}
-use Rattle.laws.proofs.Tests.{cond_ind, and_true, not_both}
-use Rattle.deck.specs.Lines.{Line, kept, trimmed, dots_at, dotted}
+use Rattle.laws.proofs.Tests.{cond_ind, not_both, lt_or_ge}
+use Rattle.deck.specs.Lines.{Line, trimmed, dots_at, dotted}
 use Rattle.deck.specs.Joined.{line_part, joined}
 use Rattle.deck.specs.declared.Place.TheVariants.{AtStart}
 use Rattle.deck.specs.Faults.{none, flaw, any_long, size_flaw}
 use Rattle.deck.specs.Codes.{size_code, flaw_of, spaced, joined_room}
+use Rattle.deck.proofs.Cutting.{trimmed_le}
 
--- ---- a line's part is a front of it
+-- a line's part is no longer than the line
+pub part_le : (l : Line) → length (line_part l) ≤ length l
+unfolding line_part
+part_le l =
+    let h : trimmed l - 3 ≤ length l = omega (arith, trimmed_le l) in
+    cond_ind (λ (p : List ℕ). length p ≤ length l) (dotted l) (take (trimmed l - 3) l) l
+    (λ _. omega (arith, length-take-le (trimmed l - 3) l h)) (λ _. omega arith)
 
--- a byte more is kept at most
-kept_le : (f : Bool) (n m : ℕ) → n ≤ m → kept f n ≤ suc m
-kept_le true zero m h = zero-le
-kept_le true (suc n) m h = suc-le-suc h
-kept_le false n m h = suc-le-suc h
+-- ---- the closing dots
 
--- trailing spaces aside a line is no longer
-trimmed_le : (l : Line) → trimmed l ≤ length l
-unfolding trimmed
-trimmed_le [] = zero-le
-trimmed_le (b ∷ l) = kept_le (eqb b 32) (trimmed l) (length l) (trimmed_le l)
+-- three points at a list's end stand before the place behind it
+dots_end : (k : List ℕ) → pointwise eqb (drop (length k - 3) k) (46 ∷ 46 ∷ 46 ∷ []) ≡ dots_at k (length k)
+dots_end k = ⊎_elim (few k) many (lt_or_ge (length k) 3)
+  where
+    never : (b : Bool) → (b && false) ≡ false
+    never true = refl
+    never false = refl
 
--- three points need three places
-pub dots_three : (l : Line) (n : ℕ) → dots_at l n ≡ true → 3 ≤ n
-dots_three l n e = leb-true 3 n (and_true _ _ e).0
+    few : (k : List ℕ) → length k < 3
+        → pointwise eqb (drop (length k - 3) k) (46 ∷ 46 ∷ 46 ∷ []) ≡ dots_at k (length k)
+    few [] h = refl
+    few (a ∷ []) h = never (eqb a 46)
+    few (a ∷ b ∷ []) h = rw (never (eqb b 46)) (never (eqb a 46))
+    few (a ∷ b ∷ c ∷ k) h = absurd (omega arith)
 
-module _ (l : Line) where
-  -- a front of the line is no longer than it, and is the front of its own length
-  front : (n : ℕ) → n ≤ length l → (length (take n l) ≤ length l) × (take (length (take n l)) l ≡ take n l)
-  front n h = let e = length-take-le n l h in (omega arith, ap (λ (k : ℕ). take k l) e)
+    turned : (x y z : Bool) → (x && (y && (z && true))) ≡ (z && (y && x))
+    turned true true true = refl
+    turned true true false = refl
+    turned true false true = refl
+    turned true false false = refl
+    turned false true true = refl
+    turned false true false = refl
+    turned false false true = refl
+    turned false false false = refl
 
-  -- so is its part
-  part : (length (line_part l) ≤ length l) × (take (length (line_part l)) l ≡ line_part l)
-  unfolding line_part
-  part =
-      cond_ind (λ (p : List ℕ). (length p ≤ length l) × (take (length p) l ≡ p)) (dotted l) _ _
-      (λ _. front (trimmed l - 3) (omega (arith, trimmed_le l))) (λ _. (omega arith, take-length l))
+    many : 3 ≤ length k → pointwise eqb (drop (length k - 3) k) (46 ∷ 46 ∷ 46 ∷ []) ≡ dots_at k (length k)
+    many h =
+        let n = length k in
+        let a : suc (n - 3) ≡ n - 2 = omega arith in
+        let b : suc (n - 2) ≡ n - 1 = omega arith in
+        let c : suc (n - 1) ≡ n = omega arith in
+        let from : (i j : ℕ) → suc i ≡ j → i < n → drop i k ≡ get_or k i 0 ∷ drop j k =
+        λ i j e m. rw (← e) (drop-cons k i 0 m) in
+        let last : drop (n - 3) k
+        ≡ get_or k (n - 3) 0 ∷ get_or k (n - 2) 0 ∷ get_or k (n - 1) 0 ∷ [] =
+        from (n - 3) (n - 2) a (omega arith)
+        ∙ ap (λ (r : List ℕ). get_or k (n - 3) 0 ∷ r) (from (n - 2) (n - 1) b (omega arith)
+        ∙ ap (λ (r : List ℕ). get_or k (n - 2) 0 ∷ r) (from (n - 1) n c (omega arith)
+        ∙ ap (λ (r : List ℕ). get_or k (n - 1) 0 ∷ r) (drop_of_length-le k (omega arith)))) in
+        ap (λ (r : List ℕ). pointwise eqb r (46 ∷ 46 ∷ 46 ∷ [])) last ∙ rw (le-leb 3 n h)
+        (turned (eqb (get_or k (n - 3) 0) 46) (eqb (get_or k (n - 2) 0) 46) (eqb (get_or k (n - 1) 0) 46))
 
-  -- a part is no longer than its line
-  pub part_le : length (line_part l) ≤ length l
-  part_le = part.0
+-- they stand at the same places of a list that begins alike
+dots_within : (l : List ℕ) (n : ℕ) → dots_at (take n l) n ≡ dots_at l n
+dots_within l n = go (leb 3 n) refl
+  where
+    go : (b : Bool) → leb 3 n ≡ b
+        → (b && (eqb (get_or (take n l) (n - 1) 0) 46
+        && (eqb (get_or (take n l) (n - 2) 0) 46 && eqb (get_or (take n l) (n - 3) 0) 46)))
+        ≡ (b && (eqb (get_or l (n - 1) 0) 46 && (eqb (get_or l (n - 2) 0) 46 && eqb (get_or l (n - 3) 0) 46)))
+    go true e =
+        let h = leb-true 3 n e in
+        rw (
+          get_or-take n l (n - 1) 0 (omega arith),
+          get_or-take n l (n - 2) 0 (omega arith),
+          get_or-take n l (n - 3) 0 (omega arith),
+        )
+    go false e = refl
 
-  -- the line's front of the part's length is the part
-  pub part_take : take (length (line_part l)) l ≡ line_part l
-  part_take = part.1
+-- so a line ends in them where its front without trailing spaces does
+pub dots_front : (l : Line)
+    → pointwise eqb (drop (length (take (trimmed l) l) - 3) (take (trimmed l) l)) (46 ∷ 46 ∷ 46 ∷ []) ≡ dotted l
+unfolding dotted
+dots_front l =
+    let h : trimmed l ≤ length l = trimmed_le l in
+    dots_end (take (trimmed l) l)
+    ∙ ap (λ (n : ℕ). dots_at (take (trimmed l) l) n) (length-take-le (trimmed l) l h)
+    ∙ dots_within l (trimmed l)
 
-  -- with dots it ends in front of them
-  pub part_dotted : dotted l ≡ true → length (line_part l) ≡ trimmed l - 3
-  unfolding line_part
-  part_dotted d = rw d (length-take-le (trimmed l - 3) l (omega (arith, trimmed_le l)))
+-- the front before them
+pub front_dots : (l : Line) (r : Option (Bor Line))
+    → MatchOption r (dotted l ≡ false)
+    (λ x. (dotted l ≡ true) × (x.now ≡ take (length (take (trimmed l) l) - 3) (take (trimmed l) l))
+    × (length x.now + 3 ≡ length (take (trimmed l) l)))
+    → MatchOption r (dotted l ≡ false) (λ x. (dotted l ≡ true) × (x.now ≡ take (trimmed l - 3) l))
+front_dots l None h = h
+front_dots l (Some x) h =
+    let n = length-take-le (trimmed l) l (trimmed_le l) in
+    let less : trimmed l - 3 ≤ trimmed l = omega arith in
+    (h.0, h.1 ∙ rw n (take-take (trimmed l - 3) (trimmed l) l less))
 
-  -- without dots it is the line
-  pub part_plain : dotted l ≡ false → length (line_part l) ≡ length l
-  unfolding line_part
-  part_plain d = rw d
+-- in front of the dots, or all
+pub part_undotted : (l : Bor Line) (r : Option (Bor Line))
+    → MatchOption r (dotted l.now ≡ false)
+    (λ front. (dotted l.now ≡ true) × (front.now ≡ take (trimmed l.now - 3) l.now))
+    → (unwrap_or r l).now ≡ line_part l.now
+unfolding line_part
+part_undotted l None h = rw h
+part_undotted l (Some front) h = rw h.0 h.1
 
 -- ---- the joined text
 

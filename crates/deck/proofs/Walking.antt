@@ -1,13 +1,14 @@
 -- What the code finds is what the reading of the lines says: for a caller that goes from statement to statement.
 use Prim.Native.Nat.{ℕ, ◌+◌, ◌-◌, ◌<◌}
 use mathlib.Core.Path.{◌≡◌, refl, sym, ap, ◌∙◌}
-use mathlib.Core.Bool.{Bool, false}
+use mathlib.Core.Bool.{false}
 use mathlib.Core.List.{List, [], ◌∷◌, ◌++◌}
 use mathlib.Core.Logic.{◌⊎◌, inl, inr}
 use native.Mathlib.Omega.{arith}
 use lib.ListN.{length, take, drop, length-append}
 use lib.Seq.{take_at}
 use lib.Dec.{leb}
+use Rattle.std.specs.Prelude.{Option, Some, None}
 use borrow.Author.Tests.{eq-eqb, leb-true}
 use Rattle.laws.proofs.Bools.{or_false}
 use Rattle.laws.proofs.Tests.{cond_ind}
@@ -18,8 +19,7 @@ use Rattle.deck.specs.Next.{spread, lines_at, statements_from, found_of, found_i
 use Rattle.deck.specs.Next.{Further}
 use Rattle.deck.specs.Walks.{BytesFrom, Walk}
 use Rattle.deck.specs.declared.Cursor.{Cursor}
-use Rattle.deck.specs.declared.Found.{Found}
-use Rattle.deck.specs.declared.Found.TheVariants.{Statement, End}
+use Rattle.deck.specs.declared.Statement.{Statement}
 use Rattle.deck.proofs.Cutting.{lines_bytes, line_stands, lines_behind, spread_many}
 use Rattle.deck.proofs.First.{Shut, First, first}
 use Rattle.deck.proofs.Steps.{found_next}
@@ -54,12 +54,12 @@ alone t s ls rest q n shut = go (alone_line ls n shut)
         rw e
         (record { from = omega arith; upto = omega (arith, w.1); same = rw m w.0 ∙ sym (alone_joined l c) })
 
--- ---- an answer of the code: Statement, with first f, start s, lines n, cards k, closed d, long g and next nx; or End
+-- ---- an answer of the code: a statement, or none
 
 -- it is a step of a walk, or nothing is left
-abbrev Walked : List ℕ → Cursor → Found → Type 0
-Walked t c End = statements_from t c ≡ []
-Walked t c (Statement f s n k d g nx) = Walk t c f s n k d g nx
+abbrev Walked : List ℕ → Cursor → Option Statement → Type 0
+Walked t c None = statements_from t c ≡ []
+Walked t c (Some s) = Walk t c s.first s.start s.lines s.cards s.closed s.long s.next
 
 module _ (t : List ℕ) (c : Cursor) (h : Lawful c) where
   -- the lines from the cursor on
@@ -69,8 +69,9 @@ module _ (t : List ℕ) (c : Cursor) (h : Lawful c) where
   -- a first statement is walked over
   walk_first : (x : First c.line ahead)
       → Walked t c
+      (Some
       (found_of (c.at + spread x.front)
-      (record { first = c.line + length x.front; lines = x.lines; closed = x.closed }))
+      (record { first = c.line + length x.front; lines = x.lines; closed = x.closed })))
   walk_first x =
       let s = c.at + spread x.front in
       let from_start : lines_of (drop s t) ≡ x.lines ++ x.rest =
@@ -113,12 +114,12 @@ module _ (t : List ℕ) (c : Cursor) (h : Lawful c) where
   found_walked = rw (found_next t c h) in_walked
 
   -- so one step
-  pub walk : {f s n k : ℕ} {d g : Bool} {nx : Cursor} → found_from t c ≡ Statement f s n k d g nx
-      → Walk t c f s n k d g nx
+  pub walk : {s : Statement} → found_from t c ≡ Some s
+      → Walk t c s.first s.start s.lines s.cards s.closed s.long s.next
   walk e = rw e at found_walked
 
   -- where nothing is found there are no statements
-  pub walk_end : found_from t c ≡ End → statements_from t c ≡ []
+  pub walk_end : found_from t c ≡ None → statements_from t c ≡ []
   walk_end e = rw e at found_walked
 
 -- ---- how far it reaches
@@ -128,14 +129,14 @@ found_further : (t : List ℕ) (c : Cursor) → Further (length t) c (found_from
 unfolding found_from
 found_further t c =
     let found = found_in c (lines_of (drop c.at t)) (statements_from t c) in
-    cond_ind (Further (length t) c) (leb c.line (c.at + 1)) found End
+    cond_ind (Further (length t) c) (leb c.line (c.at + 1)) found None
     (λ b. further found (in_walked t c (leb-true _ _ b))) (λ _. tt)
   where
-    further : (r : Found) → Walked t c r → Further (length t) c r
-    further End w = tt
-    further (Statement f s n k d g nx) w = (w.bytes, w.further, w.lawful)
+    further : (r : Option Statement) → Walked t c r → Further (length t) c r
+    further None w = tt
+    further (Some s) w = (w.bytes, w.further, w.lawful)
 
 -- so what is equal to what is found reaches as far
-pub found_both : (t : List ℕ) (c : Cursor) (r : Found) → r ≡ found_from t c
+pub found_both : (t : List ℕ) (c : Cursor) (r : Option Statement) → r ≡ found_from t c
     → (r ≡ found_from t c) × Further (length t) c r
 found_both t c r e = (e, rw e (found_further t c))

@@ -1,59 +1,51 @@
 -- What a writer of a joined text has left to write, one line at a time.
-use Prim.Native.Nat.{ℕ, zero, suc, ◌+◌, ◌-◌, ◌≤◌, ◌<◌}
+use Prim.Native.Nat.{ℕ, ◌+◌, ◌-◌, ◌≤◌}
 use mathlib.Core.Path.{◌≡◌, refl, sym, ap, ◌∙◌}
-use mathlib.Core.Bool.{Bool, true, false}
+use mathlib.Core.Bool.{Bool, true, false, cond}
 use mathlib.Core.List.{List, [], ◌∷◌, ◌++◌}
 use native.Mathlib.Omega.{arith}
-use lib.ListN.{length, take, length-append}
+use lib.ListN.{length, drop, length-append, length-drop}
 use lib.Seq.{sets, length-sets}
-use Rattle.laws.specs.Counts.{once}
 use Rattle.laws.proofs.Sets.{sets_append}
-use Rattle.deck.specs.Lines.{Line, starred}
+use Rattle.deck.specs.Lines.{Line, lines_of, starred}
 use Rattle.deck.specs.Reading.{cards_of}
-use Rattle.deck.specs.Joined.{joined}
-use Rattle.deck.specs.Next.{lines_at, cards_at}
+use Rattle.deck.specs.Joined.{line_part, joined}
+use Rattle.deck.specs.Next.{spread, lines_at, cards_at}
 use Rattle.deck.specs.Codes.{spaced, part_behind, parts_behind}
-use Rattle.deck.proofs.Cutting.{line_of, LineAt, lines_end}
+use Rattle.deck.proofs.Cutting.{spread_take, lines_spread}
 use Rattle.deck.proofs.Parts.{part_le, joined_cons}
 
--- ---- the cards among so many lines from a place on
-module _ (t : List ℕ) (at left : ℕ) where
-  -- the line there, and the others
-  pub lines_one : (e : ℕ) → 0 < left → LineAt t at e
-      → lines_at t at left ≡ line_of t at e ∷ lines_at t (e + 1) (left - 1)
-  lines_one e z l =
-      let s : left ≡ suc (left - 1) = omega arith in
-      ap (λ (k : ℕ). lines_at t at k) s ∙ rw l.lines
+-- ---- a joined text has fewer bytes than the lines
+joined_few : (cs : List Line) → length (joined cs) ≤ spread cs - 1
+unfolding joined spread
+joined_few [] = omega arith
+joined_few (l ∷ []) = omega (arith, part_le l)
+joined_few (l ∷ m ∷ cs) =
+    let n = length-append (line_part l) (32 ∷ joined (m ∷ cs)) in omega (arith, n, part_le l, joined_few (m ∷ cs))
 
-  -- no line is left behind the end
-  pub no_lines : length t ≤ at → lines_at t at left ≡ []
-  no_lines h = rw (lines_end t at h) (nothing left)
-    where
-      nothing : (k : ℕ) → ◌≡◌ {A = List Line} (take k []) []
-      nothing zero = refl
-      nothing (suc k) = refl
+-- the cards have no more bytes than all
+cards_spread : (ls : List Line) → spread (cards_of ls) ≤ spread ls
+unfolding spread cards_of
+cards_spread [] = omega arith
+cards_spread (l ∷ ls) = go (starred l) (cards_spread ls)
+  where
+    go : (b : Bool) → spread (cards_of ls) ≤ spread ls
+        → spread (cond b (cards_of ls) (l ∷ cards_of ls)) ≤ length l + 1 + spread ls
+    go true h = omega arith
+    go false h = omega arith
 
-  -- a comment there is none of them
-  cards_over : (e : ℕ) → 0 < left → LineAt t at e → starred (line_of t at e) ≡ true
-      → cards_at t at left ≡ cards_at t (e + 1) (left - 1)
-  unfolding cards_of
-  cards_over e z l c = ap cards_of (lines_one e z l) ∙ rw c
-
-  -- another line is
-  cards_cons : (e : ℕ) → 0 < left → LineAt t at e → starred (line_of t at e) ≡ false
-      → cards_at t at left ≡ line_of t at e ∷ cards_at t (e + 1) (left - 1)
-  unfolding cards_of
-  cards_cons e z l c = ap cards_of (lines_one e z l) ∙ rw c
-
-  -- none of them
-  pub cards_none : left ≤ 0 → cards_at t at left ≡ []
-  unfolding cards_of
-  cards_none h = let z : left ≡ 0 = omega arith in rw z
-
-  -- none behind the end
-  pub cards_end : length t ≤ at → cards_at t at left ≡ []
-  unfolding cards_of
-  cards_end h = ap cards_of (no_lines h)
+-- so those of a text have no more than the text
+pub joined_fits : (t : List ℕ) (start lines : ℕ) → length (joined (cards_at t start lines)) ≤ length t
+joined_fits t start lines =
+    let here = lines_of (drop start t) in
+    omega (
+      arith,
+      joined_few (cards_at t start lines),
+      cards_spread (lines_at t start lines),
+      spread_take lines here,
+      lines_spread (drop start t),
+      length-drop start t,
+    )
 
 -- ---- parts of cards
 module _ (apart : Bool) where
@@ -75,59 +67,50 @@ module _ (apart : Bool) where
       go true = refl
       go false = refl
 
-  -- a part is no longer than its card, and the space before it
-  part_few : (l : Line) → length (part_behind apart l) ≤ once apart + length l
-  part_few l = go apart
-    where
-      go : (b : Bool) → length (part_behind b l) ≤ once b + length l
-      go true = omega (arith, part_le l)
-      go false = omega (arith, part_le l)
-
--- ---- at one of the lines: to write what is left gives what to write all gave at first
-pub record Joining (t : List ℕ) (start lines : ℕ) (old now : List ℕ) (at left w : ℕ) (apart : Bool) : Type 0 where
-  pub before : w + once apart ≤ at
+-- ---- before some of the lines: to write these gives what to write all gave at first
+pub record Joining (all left : List Line) (old now : List ℕ) (w : ℕ) (apart : Bool) : Type 0 where
   pub long : length now ≡ length old
-  pub count : w + length (parts_behind apart (cards_at t at left)) ≡ length (joined (cards_at t start lines))
-  pub same : sets now w (parts_behind apart (cards_at t at left)) ≡ sets old 0 (joined (cards_at t start lines))
+  pub count : w + length (parts_behind apart (cards_of left)) ≡ length (joined (cards_of all))
+  pub same : sets now w (parts_behind apart (cards_of left)) ≡ sets old 0 (joined (cards_of all))
 
-module _ (t : List ℕ) (start lines : ℕ) (old : List ℕ) where
-  -- before the first of them
-  pub joining_first : Joining t start lines old old start lines 0 false
-  joining_first = record { before = omega arith; long = refl; count = omega arith; same = refl }
-
-  module _ (now : List ℕ) (at left w : ℕ) (apart : Bool) (j : Joining t start lines old now at left w apart) where
+module _ {all left : List Line} {old now : List ℕ} {w : ℕ} {apart : Bool} (j : Joining all left old now w apart) where
+  -- ---- before one and the others
+  module _ (l : Line) (ls : List Line) (q : left ≡ l ∷ ls) where
     -- a comment is passed over
-    pub joining_over : (e : ℕ) → 0 < left → LineAt t at e → starred (line_of t at e) ≡ true
-        → Joining t start lines old now (e + 1) (left - 1) w apart
-    joining_over e z l c =
-        let others = cards_over t at left e z l c in
+    pub joining_over : starred l ≡ true → Joining all ls old now w apart
+    unfolding cards_of
+    joining_over c =
+        let cards : cards_of left ≡ cards_of ls = ap cards_of q ∙ rw c in
+        record { long = j.long; count = rw (← cards) j.count; same = rw (← cards) j.same }
+
+    -- a card's part is written, and the others behind it
+    parts : starred l ≡ false
+        → parts_behind apart (cards_of left) ≡ part_behind apart l ++ spaced (cards_of ls)
+    unfolding cards_of
+    parts c = ap (λ (x : List Line). parts_behind apart (cards_of x)) q ∙ rw c (parts_cons apart l (cards_of ls))
+
+    -- it has room in the joined text
+    pub part_fits : starred l ≡ false → w + length (part_behind apart l) ≤ length (joined (cards_of all))
+    part_fits c =
+        let n = length-append (part_behind apart l) (spaced (cards_of ls)) in
+        omega (arith, j.count, ap length (parts c), n)
+
+    pub joining_next : (new : List ℕ) (r : ℕ) → starred l ≡ false
+        → r ≡ w + length (part_behind apart l) → new ≡ sets now w (part_behind apart l)
+        → Joining all ls old new r true
+    joining_next new r c p e =
+        let part = part_behind apart l in
+        let rest = spaced (cards_of ls) in
         record {
-          before = omega (arith, j.before, l.from);
-          long = j.long;
-          count = rw (← others) j.count;
-          same = rw (← others) j.same;
+          long = ap length e ∙ length-sets now w part ∙ j.long;
+          count = omega (arith, j.count, ap length (parts c), length-append part rest, p);
+          same = rw (e, p) (sym (sets_append now w part rest) ∙ rw (← (parts c)) j.same);
         }
 
-    -- a card's part is written
-    pub joining_next : (e : ℕ) (new : List ℕ) (r : ℕ) → 0 < left → LineAt t at e → starred (line_of t at e) ≡ false
-        → r ≡ w + length (part_behind apart (line_of t at e)) → new ≡ sets now w (part_behind apart (line_of t at e))
-        → Joining t start lines old new (e + 1) (left - 1) r true
-    joining_next e new r z l c p q =
-        let line = line_of t at e in
-        let part = part_behind apart line in
-        let rest = spaced (cards_at t (e + 1) (left - 1)) in
-        let all : parts_behind apart (cards_at t at left) ≡ part ++ rest =
-        ap (parts_behind apart) (cards_cons t at left e z l c) ∙ parts_cons apart line _ in
-        record {
-          before = omega (arith, j.before, l.from, l.long, p, part_few apart line);
-          long = ap length q ∙ length-sets now w part ∙ j.long;
-          count = omega (arith, j.count, ap length all, length-append part rest, p);
-          same = rw (q, p) (sym (sets_append now w part rest) ∙ rw (← all) j.same);
-        }
-
-    -- no card is left
-    pub joining_last : cards_at t at left ≡ []
-        → (w ≡ length (joined (cards_at t start lines))) × (now ≡ sets old 0 (joined (cards_at t start lines)))
-    joining_last e =
-        let z : parts_behind apart (cards_at t at left) ≡ [] = ap (parts_behind apart) e ∙ parts_none apart in
-        (omega (arith, j.count, ap length z), rw z at j.same)
+  -- before none
+  pub joining_last : left ≡ [] → (w ≡ length (joined (cards_of all))) × (now ≡ sets old 0 (joined (cards_of all)))
+  unfolding cards_of
+  joining_last q =
+      let z : parts_behind apart (cards_of left) ≡ [] =
+      ap (λ (x : List Line). parts_behind apart (cards_of x)) q ∙ parts_none apart in
+      (omega (arith, j.count, ap length z), rw z at j.same)

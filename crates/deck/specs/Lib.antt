@@ -11,5 +11,6 @@ pub mod InPlace
 pub mod Next
 pub mod Codes
 pub mod Ends
+pub mod Ahead
 pub mod Walks
 pub mod Contract

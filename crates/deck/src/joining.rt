@@ -1,38 +1,26 @@
 // The parts of a statement's cards, one behind the other.
 ghost use Rattle.std.specs.Prelude.{◌≡◌, ◌∷◌, ◌+◌, ◌<◌, ◌^◌, length};
 ghost use Rattle.std.proofs.lemmas.List.Edits.{sets};
-ghost use Rattle.laws.specs.Counts.{once};
 ghost use Rattle.deck.specs.Joined.{line_part};
 ghost use Rattle.deck.specs.Codes.{part_behind};
 
-use super::lines::{dots_at, trim};
+use super::lines::part_of;
 use bits::put_bytes;
-
-// The length of a line's part.
-pub fn part_len(line: &[u8]) -> usize
-    ensures { result ≡ length (line_part line.now) }
-{
-    let n = trim(line);
-    if dots_at(line, n) {
-        return n - 3;
-    }
-    line.len()
-}
 
 // Writes a line's part from a place on; the place behind it.
 fn put_part(line: &[u8], out: &mut [u8], at: usize) -> usize
-    requires { at + length line.now < 2 ^ 64 }
+    requires { at + length (line_part line.now) < 2 ^ 64 }
     ensures value { result ≡ at + length (line_part line.now) }
     ensures written { out.new ≡ sets out.old at (line_part line.now) }
 {
-    let n = part_len(line);
-    put_bytes(&mut *out, at, &line[..n]);
-    at + n
+    let part = part_of(line);
+    put_bytes(&mut *out, at, part);
+    at + part.len()
 }
 
 // Writes a space and a line's part from a place on; the place behind them.
 fn put_spaced(line: &[u8], out: &mut [u8], at: usize) -> usize
-    requires { at + 1 + length line.now < 2 ^ 64 }
+    requires { at + 1 + length (line_part line.now) < 2 ^ 64 }
     ensures value { result ≡ at + 1 + length (line_part line.now) }
     ensures written { out.new ≡ sets out.old at (32 ∷ line_part line.now) }
 {
@@ -42,7 +30,7 @@ fn put_spaced(line: &[u8], out: &mut [u8], at: usize) -> usize
 
 // Writes a card's part from a place on, behind a space or not; the place behind it.
 pub fn put_card(line: &[u8], out: &mut [u8], at: usize, apart: bool) -> usize
-    requires { at + once apart + length line.now < 2 ^ 64 }
+    requires { at + length (part_behind apart line.now) < 2 ^ 64 }
     ensures value { result ≡ at + length (part_behind apart line.now) }
     ensures written { out.new ≡ sets out.old at (part_behind apart line.now) }
 {

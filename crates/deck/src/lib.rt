@@ -7,16 +7,17 @@ mod lines;
 mod spots;
 mod statements;
 
-ghost use Rattle.deck.specs.Contract.{FindsNext, CountsLines, CodesSize, Joins, FindsSpot};
+ghost use Rattle.deck.specs.Contract.{FindsNext, CountsLines, FaultsSize, Joins, FindsSpot};
 
 use counts::count_ends;
+use faults::Fault;
 use joining::put_card;
-use lines::{is_comment, is_passed, line_end};
+use lines::{Lines, is_comment, is_passed, lines_at};
 use spots::{byte_spot, last_spot};
 use statements::run;
 
 // Where the next line begins, and its number.
-#[derive(Drop)]
+#[derive(Clone, Copy)]
 pub struct Cursor {
     pub at: usize,
     pub line: usize,
@@ -24,44 +25,35 @@ pub struct Cursor {
 
 // The next statement: its first line's number, where it starts, how many lines it covers and how many of them are cards
 // and no comments, whether a line without dots closed it, whether a card has too many bytes, and the cursor behind it.
-// Or the end.
-#[derive(Drop)]
-pub enum Found {
-    Statement {
-        first: usize,
-        start: usize,
-        lines: usize,
-        cards: usize,
-        closed: bool,
-        long: bool,
-        next: Cursor,
-    },
-    End,
+#[derive(Clone, Copy)]
+pub struct Statement {
+    pub first: usize,
+    pub start: usize,
+    pub lines: usize,
+    pub cards: usize,
+    pub closed: bool,
+    pub long: bool,
+    pub next: Cursor,
 }
 
 // The next statement from a cursor at which reading is fresh; none where the cursor's number is too large to be its
 // line's.
-pub fn next_statement(text: &[u8], c: Cursor) -> Found
+pub fn next_statement(text: &[u8], c: Cursor) -> Option<Statement>
     ensures { FindsNext text.now c result }
 {
-    let mut at = c.at;
-    let mut line = c.line;
-    if text.len() <= at {
-        return Found::End;
+    if c.at.saturating_add(1) < c.line {
+        return None;
     }
-    if at + 1 < line {
-        return Found::End;
-    }
-    while at < text.len() {
-        let e = line_end(text, at);
-        if is_passed(&text[at..e]) {
-            at = e + 1;
-            line += 1;
-        } else {
-            return run(text, at, line, e);
+    let mut ahead = Lines { text, at: c.at };
+    let mut first = c.line;
+    loop {
+        let start = ahead.at;
+        let line = ahead.next()?;
+        if !is_passed(line) {
+            return Some(run(text, start, first, line));
         }
+        first += 1;
     }
-    Found::End
 }
 
 // How many lines a text has.
@@ -69,30 +61,26 @@ pub fn line_count(text: &[u8]) -> usize
     ensures { CountsLines text.now result }
 {
     let n = count_ends(text);
-    let size = text.len();
-    if size == 0 {
-        return n;
+    match text.last() {
+        None | Some(b'\n') => n,
+        Some(_) => n + 1,
     }
-    if text[size - 1] == 10 {
-        return n;
-    }
-    n + 1
 }
 
-// The code of a statement's fault, or 0: still open, too many cards, a card too long; in this order.
-pub fn size_code(cards: usize, closed: bool, long: bool) -> u8
-    ensures { CodesSize cards closed long result }
+// A statement's fault for its size, if it has one: still open, too many cards, a card too long; in this order.
+pub fn size_fault(cards: usize, closed: bool, long: bool) -> Option<Fault>
+    ensures { FaultsSize cards closed long result }
 {
     if !closed {
-        return 11;
+        return Some(Fault::Unended);
     }
     if limits::CARDS < cards {
-        return 12;
+        return Some(Fault::ManyCards);
     }
     if long {
-        return 13;
+        return Some(Fault::LongCard);
     }
-    0
+    None
 }
 
 // The most bytes of a joined text where no fault 11, 12 or 13 stands.
@@ -103,23 +91,12 @@ pub const JOINED_BYTES: usize = limits::CARDS * (limits::CARD_BYTES + 1) - 1;
 pub fn join(text: &[u8], start: usize, lines: usize, out: &mut [u8]) -> usize
     ensures { Joins text.now start lines out.old result out.new }
 {
-    let mut at = start;
-    let mut left = lines;
     let mut w: usize = 0;
     let mut apart = false;
-    while 0 < left {
-        if text.len() <= at {
-            return w;
-        }
-        let e = line_end(text, at);
-        if is_comment(&text[at..e]) {
-            at = e + 1;
-            left -= 1;
-        } else {
-            w = put_card(&text[at..e], &mut *out, w, apart);
+    for line in lines_at(text, start, lines) {
+        if !is_comment(line) {
+            w = put_card(line, &mut *out, w, apart);
             apart = true;
-            at = e + 1;
-            left -= 1;
         }
     }
     w

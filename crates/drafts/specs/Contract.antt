@@ -1,8 +1,8 @@
 -- What the open entries promise: r is the answer.
-use Rattle.std.specs.Prelude.{ℕ, ◌≤◌, ◌<◌, ◌≡◌, Bool, List}
+use Rattle.std.specs.Prelude.{ℕ, ◌-◌, ◌≤◌, ◌<◌, ◌≡◌, Bool, List}
 use Rattle.laws.specs.Counts.{once}
 use Rattle.drafts.specs.Kinds.{defines, is_use, asks, is_named, closes, writes}
-use Rattle.drafts.specs.Places.{home_of}
+use Rattle.drafts.specs.Places.{ends, home_of}
 
 -- `is_defining`: whether a draft of this kind defines its name
 abbrev pub WhetherDefining : ℕ → Bool → Type 0
@@ -27,6 +27,10 @@ WhetherClosing kind r = r ≡ closes kind
 -- `records_of`: how many records it writes, one or none
 abbrev pub CountsDraft : ℕ → ℕ → Type 0
 CountsDraft kind r = (r ≡ once (writes kind)) × (r ≤ 1)
+
+-- `last_of`: the last place of statement j, 0 where it has none before its end
+abbrev pub FindsLast : List ℕ → ℕ → ℕ → Type 0
+FindsLast bounds j r = r ≡ ends bounds j - 1
 
 -- `home_of`: the place at which a slot is defined, 0 past the end
 abbrev pub FindsHome : List ℕ → ℕ → ℕ → Type 0

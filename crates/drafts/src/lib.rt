@@ -3,7 +3,7 @@
 #![tactic(auto)]
 
 ghost use Rattle.drafts.specs.Contract.{WhetherDefining, WhetherUse, WhetherAsking, WhetherNamed, WhetherClosing};
-ghost use Rattle.drafts.specs.Contract.{CountsDraft, FindsHome};
+ghost use Rattle.drafts.specs.Contract.{CountsDraft, FindsHome, FindsLast};
 
 use bits::reads::short_at;
 
@@ -77,56 +77,42 @@ pub fn is_defining(kind: u8) -> bool
 pub fn is_use(kind: u8) -> bool
     ensures { WhetherUse kind result }
 {
-    match kind {
-        FETCH => true,
-        INPUT => true,
-        _ => false,
-    }
+    matches!(kind, FETCH | INPUT)
 }
 
 // Whether it asks for a name that must be defined.
 pub fn is_asking(kind: u8) -> bool
     ensures { WhetherAsking kind result }
 {
-    match kind {
-        FETCH => true,
-        INPUT => true,
-        FROM => true,
-        _ => false,
-    }
+    matches!(kind, FETCH | INPUT | FROM)
 }
 
 // Whether its argument is a name's key.
 pub fn is_named(kind: u8) -> bool
     ensures { WhetherNamed kind result }
 {
-    match kind {
-        CONSTANT => true,
-        INITIAL => true,
-        FETCH => true,
-        STORE => true,
-        RATE => true,
-        AGAIN => true,
-        FROM => true,
-        GIVEN => true,
-        OWN => true,
-        READ => true,
-        OUTPUT => true,
-        INPUT => true,
-        _ => false,
-    }
+    matches!(
+        kind,
+        CONSTANT
+            | INITIAL
+            | FETCH
+            | STORE
+            | RATE
+            | AGAIN
+            | FROM
+            | GIVEN
+            | OWN
+            | READ
+            | OUTPUT
+            | INPUT
+    )
 }
 
 // Whether it closes a unit of the order.
 pub fn is_closing(kind: u8) -> bool
     ensures { WhetherClosing kind result }
 {
-    match kind {
-        STORE => true,
-        RATE => true,
-        ENDING => true,
-        _ => false,
-    }
+    matches!(kind, STORE | RATE | ENDING)
 }
 
 // How many records it writes: one or none.
@@ -134,20 +120,23 @@ pub fn records_of(kind: u8) -> usize
     ensures { CountsDraft kind result }
 {
     match kind {
-        CONSTANT..=AGAIN => 1,
-        CLOCK..=READ => 1,
+        CONSTANT..=AGAIN | CLOCK..=READ => 1,
         _ => 0,
     }
 }
 
 // ---- drafts by place
 
+// The last place of statement j.
+pub fn last_of(bounds: &[u16], j: usize) -> usize
+    ensures { FindsLast bounds.now j result }
+{
+    short_at(bounds, j.saturating_add(1)).saturating_sub(1)
+}
+
 // The place at which a slot is defined, if places are those of the definitions.
 pub fn home_of(places: &[u16], slot: u64) -> usize
     ensures { FindsHome places.now slot result }
 {
-    if slot == 0 {
-        return short_at(places, 0);
-    }
-    short_at(places, (slot - 1) as usize)
+    short_at(places, slot.saturating_sub(1) as usize)
 }

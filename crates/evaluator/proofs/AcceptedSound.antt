@@ -18,7 +18,7 @@ use Rattle.records.proofs.Decoding.{slot_inside, read_at_holds}
 use Rattle.records.proofs.LeftRecords.{left, left_next}
 use Rattle.evaluator.specs.Judge.{takes, gives, phase_of, Judge, good, judged, judge_begun, answer, judge_from}
 use Rattle.evaluator.specs.Judge.{judge_within}
-use Rattle.evaluator.specs.declared.Answer.{Answer}
+use Rattle.evaluator.specs.Judge.{Answer}
 use Rattle.evaluator.specs.Sound.{Fits, Sound, SoundWithin}
 
 -- a good record fits

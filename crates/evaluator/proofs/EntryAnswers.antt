@@ -1,10 +1,11 @@
 -- The entries: refusals in their order, and what an answer of 0 writes.
 use Prim.Native.Nat.{ℕ, ◌/◌, ◌%◌, ◌≤◌, ◌<◌}
-use mathlib.Core.Path.{◌≡◌, sym, ap, ◌∙◌}
+use mathlib.Core.Path.{◌≡◌, refl, sym, ap, ◌∙◌}
 use mathlib.Core.Bool.{not, ◌||◌}
 use mathlib.Core.List.{List}
+use Rattle.std.specs.Prelude.{Ok, Err}
 use native.Mathlib.Omega.{arith}
-use borrow.Author.Tests.{eq-eqb, ne_eqb, lt-ltb, le-ltb, eqb-true, ltb-false}
+use borrow.Author.Tests.{lt-ltb, le-ltb, eqb-true, ltb-false}
 use lib.Dec.{eqb, ltb, lit<}
 use lib.ListN.{length, set}
 use lib.Ieee.{Float}
@@ -18,10 +19,12 @@ use Rattle.evaluator.specs.Judge.{answer, judge_within, judge}
 use Rattle.evaluator.specs.Evaluate.{run_outcome, refusal, refusal_within, unless, ran, evaluated_within, start_all}
 use Rattle.evaluator.specs.Evaluate.{started_within}
 use Rattle.evaluator.specs.Evaluate.{move_all, advanced, stepped_within}
-use Rattle.evaluator.specs.Contract.{Evaluated, Started, Stepped}
+use Rattle.evaluator.specs.Contract.{answer_in, Evaluated, Started, Stepped}
+use Rattle.evaluator.specs.declared.Refusal.{Refusal}
+use Rattle.evaluator.specs.declared.Refusal.TheVariants.{ShortRoom, WrongSize, BadRecord, Unfinished}
 use Rattle.evaluator.specs.Sound.{Granted}
 use Rattle.evaluator.specs.Stack.{Ran}
-use Rattle.evaluator.specs.declared.Answer.{Answer}
+use Rattle.evaluator.specs.Judge.{Answer}
 use Rattle.evaluator.proofs.AcceptedSound.{accepted_sound}
 
 -- ---- refusals
@@ -46,23 +49,10 @@ module _ (p : List ℕ) (v d : List Float) (r : Answer) where
   unfolding refusal_within
   short_derivs e hv h = rw (e, le-ltb (length v) slots hv, lt-ltb (length d) slots h)
 
-  module _ (hv : slots ≤ length v) (hd : slots ≤ length d) where
-    -- 2: no whole records, or too many of them
-    pub ragged : r ≡ answer 2 0 → (length p % record_bytes ≡ 0 → ⊥) → r ≡ refusal p v d
-    unfolding refusal_within
-    ragged e h =
-        rw (e, le-ltb (length v) slots hv, le-ltb (length d) slots hd, ne_eqb (length p % record_bytes) 0 h)
-
-    module _ (hp : length p % record_bytes ≡ 0) where
-      pub too_long : r ≡ answer 2 0 → most_records < length p / record_bytes → r ≡ refusal p v d
-      unfolding refusal_within
-      too_long e h =
-          let long = lt-ltb most_records (length p / record_bytes) h in
-          rw (e, le-ltb (length v) slots hv, le-ltb (length d) slots hd, hp, long)
-
-      -- 3, 4 or 0: the judge's
-      pub by_judge : r ≡ judge (decoded p) → length p / record_bytes ≤ most_records → r ≡ refusal p v d
-      by_judge e h = e ∙ sym (judge_decides slots p v d hv hd hp h)
+  -- 3, 4 or 0: the judge's
+  pub by_judge : slots ≤ length v → slots ≤ length d → length p % record_bytes ≡ 0 → r ≡ judge (decoded p)
+      → length p / record_bytes ≤ most_records → r ≡ refusal p v d
+  by_judge hv hd hp e h = e ∙ sym (judge_decides slots p v d hv hd hp h)
 
 -- ---- no refusal
 
@@ -100,14 +90,13 @@ granted {p} {v} {d} {r} e z =
     let a = answers_zero slots p v d (ap (λ (x : Answer). x.number) (sym e) ∙ z) in
     record { sound = accepted_sound slots (lit< tt) p a.judged; values = a.values; derivs = a.derivs }
 
-module _ (v d : List Float) (m : Machine) (a : Answer) where
+module _ (v d : List Float) (m : Machine) where
   -- a refusal writes nothing
-  refused : (a.number ≡ 0 → ⊥) → run_outcome a v d ≡ unless a v d m
-  refused n = rw (ne_eqb a.number 0 n)
-
-  -- without one the buffers are the machine's
-  accepted : a.number ≡ 0 → run_outcome a m.values m.derivs ≡ unless a v d m
-  accepted z = rw (eq-eqb a.number 0 z)
+  refused : (e : Refusal) → run_outcome (answer_in (Err e)) v d ≡ unless (answer_in (Err e)) v d m
+  refused ShortRoom = refl
+  refused WrongSize = refl
+  refused (BadRecord i) = refl
+  refused Unfinished = refl
 
 -- the machine m after a start with these values, and after a step of h
 abbrev begins : List ℕ → List Float → List Float → Machine
@@ -116,36 +105,32 @@ begins p v d = begun (start_all (set v 0 zero64) (decoded p)) d
 abbrev moves : List ℕ → Float → Machine → Machine
 moves p h m = begun (advanced h (move_all h m.derivs m.values (decoded p))) m.derivs
 
-module _ {p : List ℕ} {v d : List Float} {r : Answer} (e : r ≡ refusal p v d) where
-  -- ---- evaluate
+module _ (p : List ℕ) (v d : List Float) where
+  -- the entries hand on a refusal
+  module _ (e : Refusal) (a : answer_in (Err e) ≡ refusal p v d) where
+    pub evaluate_refused : Evaluated p v d (Err e) v d
+    unfolding evaluated_within
+    evaluate_refused = record { meets = rw (sym a) (refused v d (ran p v d) e) }
 
-  pub evaluate_refused : (r.number ≡ 0 → ⊥) → Evaluated p v d r v d
-  unfolding evaluated_within
-  evaluate_refused n = record { meets = rw (sym e) (refused v d (ran p v d) r n) }
+    pub start_refused : Started p v d (Err e) v d
+    unfolding started_within
+    start_refused = record { meets = rw (sym a) (refused v d (begins p v d) e) }
 
-  pub evaluate_done : {v' d' : List Float} → r.number ≡ 0 → Ran (ran p v d) v' d' → Evaluated p v d r v' d'
-  unfolding evaluated_within
-  evaluate_done z w = record { meets = rw (sym e, w.values, w.derivs) (accepted v d (ran p v d) r z) }
-
-  -- ---- start
-
-  pub start_refused : (r.number ≡ 0 → ⊥) → Started p v d r v d
-  unfolding started_within
-  start_refused n = record { meets = rw (sym e) (refused v d (begins p v d) r n) }
-
-  pub start_done : {v' : List Float} → r.number ≡ 0 → v' ≡ start_all (set v 0 zero64) (decoded p) → Started p v d r v' d
-  unfolding started_within
-  start_done z w = record { meets = rw (sym e, w) (accepted v d (begins p v d) r z) }
-
-  -- ---- step
-
-  module _ {h : Float} where
-    pub step_refused : (r.number ≡ 0 → ⊥) → Stepped p h v d r v d
+    pub step_refused : (h : Float) → Stepped p h v d (Err e) v d
     unfolding stepped_within
-    step_refused n = record { meets = rw (sym e) (refused v d (moves p h (ran p v d)) r n) }
+    step_refused h = record { meets = rw (sym a) (refused v d (moves p h (ran p v d)) e) }
 
-    pub step_done : {w x d' : List Float} → r.number ≡ 0 → Ran (ran p v d) w d' → x ≡ move_all h d' w (decoded p)
-        → Stepped p h v d r (advanced h x) d'
+  -- without one the buffers are the machine's
+  module _ (a : answer 0 0 ≡ refusal p v d) where
+    pub evaluate_done : {v' d' : List Float} → Ran (ran p v d) v' d' → Evaluated p v d (Ok tt) v' d'
+    unfolding evaluated_within
+    evaluate_done w = record { meets = rw (sym a, w.values, w.derivs) }
+
+    pub start_done : {v' : List Float} → v' ≡ start_all (set v 0 zero64) (decoded p) → Started p v d (Ok tt) v' d
+    unfolding started_within
+    start_done w = record { meets = rw (sym a, w) }
+
+    pub step_done : (h : Float) {w x d' : List Float} → Ran (ran p v d) w d' → x ≡ move_all h d' w (decoded p)
+        → Stepped p h v d (Ok tt) (advanced h x) d'
     unfolding stepped_within
-    step_done z w q =
-        record { meets = rw (sym e, q, w.values, w.derivs) (accepted v d (moves p h (ran p v d)) r z) }
+    step_done h w q = record { meets = rw (sym a, q, w.values, w.derivs) }

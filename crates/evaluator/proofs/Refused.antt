@@ -9,7 +9,7 @@ use lib.Ieee.{Float}
 use Rattle.laws.proofs.Tests.{cond_ind}
 use Rattle.records.specs.Record.{decoded}
 use Rattle.records.specs.Shape.{zero64}
-use Rattle.evaluator.specs.declared.Answer.{Answer}
+use Rattle.evaluator.specs.Judge.{Answer}
 use Rattle.evaluator.specs.Machine.{Machine, begun}
 use Rattle.evaluator.specs.Evaluate.{refusal, run_outcome, unless, ran, evaluated, evaluated_within, start_all}
 use Rattle.evaluator.specs.Evaluate.{started, started_within, move_all}

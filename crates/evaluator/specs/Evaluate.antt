@@ -8,8 +8,7 @@ use Rattle.records.specs.Shape.{zero64, Shape, constant, initial, push, fold, st
 use Rattle.records.specs.Shape.{shape_of}
 use Rattle.records.specs.Record.{decoded_within}
 use Rattle.evaluator.specs.Machine.{Machine, run, begun}
-use Rattle.evaluator.specs.Judge.{answer, judge_within}
-use Rattle.evaluator.specs.declared.Answer.{Answer}
+use Rattle.evaluator.specs.Judge.{Answer, answer, judge_within}
 
 pub record RunOutcome : Type 0 where
   pub answer : Answer

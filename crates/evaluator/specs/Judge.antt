@@ -5,7 +5,6 @@ use Rattle.limits.specs.Limits.{slots, stack_places}
 use Rattle.records.specs.declared.Instr.{Instr}
 use Rattle.records.specs.Shape.{value, slot, operands}
 use Rattle.records.specs.Shape.{Shape, constant, initial, push, fold, store, derivative, store_again, bad, shape_of}
-use Rattle.evaluator.specs.declared.Answer.{Answer}
 
 -- ---- marks: what is known of a slot
 
@@ -140,6 +139,10 @@ any_open [] = false
 any_open (m ∷ ms) = eqb m state_mark || any_open ms
 
 -- the answer: a number, and a record number, 0 but for 3
+pub record Answer : Type 0 where
+  pub number : ℕ
+  pub place : ℕ
+
 abbrev pub answer : ℕ → ℕ → Answer
 answer n i = record { number = n; place = i }
 

@@ -6,4 +6,6 @@ pub mod Contract
 -- as code holds it
 pub mod Sound
 pub mod Stack
+pub mod Marks
 pub mod Reached
+pub mod States

@@ -1,226 +1,192 @@
 // The judge: the first bad record, then what the end finds.
-ghost use Rattle.std.specs.Prelude.{◌≡◌, ◌<◌, ◌≤◌};
+ghost use Rattle.std.specs.Prelude.{◌≡◌, ◌<◌, ◌≤◌, eqb, slice_index};
 ghost use Rattle.limits.specs.Limits.{slots, stack_places};
-ghost use Rattle.records.specs.Fields.{operand_of};
-ghost use Rattle.records.specs.Shape.{shape_of};
+ghost use Rattle.laws.specs.Counts.{count};
 ghost use Rattle.records.specs.Record.{decoded};
-ghost use Rattle.evaluator.specs.Judge.{given_mark, state_mark, set_rule, read_rule, store_rule};
-ghost use Rattle.evaluator.specs.Judge.{derivative_rule, again_rule, rule_of, judge};
-ghost use Rattle.evaluator.specs.Reached.{reached, stopped, pushed, folded, Stands, Judges};
+ghost use Rattle.evaluator.specs.Contract.{answer_in};
+ghost use Rattle.evaluator.specs.Marks.{mark_in, marks_in};
+ghost use Rattle.evaluator.specs.Judge.{state_mark, judge};
 
-use crate::{Answer, tell};
+use crate::Refusal;
 use limits::{RECORD_BYTES, SLOTS, STACK};
 use records::{Instr, decode};
 
-// ---- marks: what is known of a slot
+// What is known of a slot: it is not set; it is a constant, or slot 0; it is a state, without its derivative or with
+// it; a kind 13 stored it.
+#[derive(Clone, Copy, PartialEq, Eq)]
+pub enum Mark {
+    Unset,
+    Given,
+    State,
+    Derived,
+    Stored,
+}
 
-// It is not set.
-const UNSET: u8 = 0;
-
-// It is a constant, or slot 0.
-const GIVEN: u8 = 1;
-
-// It is a state, without its derivative or with it.
-const STATE: u8 = 2;
-
-const DERIVED: u8 = 3;
-
-// It is stored: a kind 13 set it.
-const STORED: u8 = 4;
-
-// ---- one record
-
-// What is known between two records, beside the marks of the slots: the phase reached, the count of values on the stack
-// and the count of states without derivative; or that the record was bad.
+// What is known between two records: the phase reached, the count of values on the stack, the count of states without
+// derivative, and the marks of the slots.
 #[derive(Drop)]
 pub struct Reached {
-    pub ok: bool,
     pub phase: usize,
     pub height: usize,
     pub owed: usize,
+    pub marks: [Mark; SLOTS],
+    ghost early: { phase ≤ 3 },
+    ghost low: { height ≤ stack_places },
+    ghost owes: { owed ≡ count state_mark (marks_in marks) },
 }
 
-// The record was bad.
-fn bad() -> Reached
-    ensures { result ≡ stopped }
-{
-    Reached {
-        ok: false,
-        phase: 0,
-        height: 0,
-        owed: 0,
-    }
-}
+impl Reached {
+    ghost use Rattle.records.specs.Fields.{operand_of};
+    ghost use Rattle.records.specs.Shape.{shape_of};
+    ghost use Rattle.evaluator.specs.Judge.{given_mark, judge₀, set_rule, read_rule, fold_rule, store_rule};
+    ghost use Rattle.evaluator.specs.Judge.{derivative_rule, again_rule, rule_of};
+    ghost use Rattle.evaluator.specs.Reached.{known, Judges};
 
-// The record was good.
-fn fine(phase: usize, height: usize, owed: usize) -> Reached
-    ensures { result ≡ reached phase height owed }
-{
-    Reached {
-        ok: true,
-        phase,
-        height,
-        owed,
-    }
-}
-
-// One value more.
-fn push(t: Reached) -> Reached
-    ensures { result ≡ pushed t }
-{
-    if t.height < STACK {
-        fine(3, t.height + 1, t.owed)
-    } else {
-        bad()
-    }
-}
-
-// One value for k.
-fn fold(t: Reached, k: usize) -> Reached
-    requires { t.height ≤ stack_places }
-    ensures { result ≡ folded t k }
-{
-    if k <= t.height {
-        fine(3, t.height - k + 1, t.owed)
-    } else {
-        bad()
-    }
-}
-
-// Kind 1: its slot is not set yet, and no other kind stood before.
-fn constant(t: Reached, marks: &mut [u8; SLOTS], s: u16) -> Reached
-    requires { Stands t marks.old × (s < slots) }
-    ensures { Judges t marks.old (set_rule 1 s given_mark) result marks.new }
-{
-    if 1 < t.phase {
-        return bad();
-    }
-    if marks[s as usize] != UNSET {
-        return bad();
-    }
-    marks[s as usize] = GIVEN;
-    fine(1, t.height, t.owed)
-}
-
-// Kind 2: its slot is not set yet, and kinds 3 to 15 did not stand before.
-fn initial(t: Reached, marks: &mut [u8; SLOTS], s: u16) -> Reached
-    requires { Stands t marks.old × (s < slots) }
-    ensures { Judges t marks.old (set_rule 2 s state_mark) result marks.new }
-{
-    if 2 < t.phase {
-        return bad();
-    }
-    if marks[s as usize] != UNSET {
-        return bad();
-    }
-    marks[s as usize] = STATE;
-    fine(2, t.height, t.owed + 1)
-}
-
-// Kind 4: its slot is set.
-fn slot(t: Reached, marks: &mut [u8; SLOTS], s: u16) -> Reached
-    requires { Stands t marks.old × (s < slots) }
-    ensures { Judges t marks.old (read_rule s) result marks.new }
-{
-    if marks[s as usize] == UNSET {
-        return bad();
-    }
-    push(t)
-}
-
-// Kind 13: there is one value, and the slot is not set yet.
-fn store(t: Reached, marks: &mut [u8; SLOTS], s: u16) -> Reached
-    requires { Stands t marks.old × (s < slots) }
-    ensures { Judges t marks.old (store_rule s) result marks.new }
-{
-    if t.height != 1 {
-        return bad();
-    }
-    if marks[s as usize] != UNSET {
-        return bad();
-    }
-    marks[s as usize] = STORED;
-    fine(3, 0, t.owed)
-}
-
-// Kind 14: there is one value, and the slot is a state without derivative.
-fn deriv(t: Reached, marks: &mut [u8; SLOTS], s: u16) -> Reached
-    requires { Stands t marks.old × (s < slots) }
-    ensures { Judges t marks.old (derivative_rule s) result marks.new }
-{
-    if t.height != 1 {
-        return bad();
-    }
-    if marks[s as usize] != STATE {
-        return bad();
-    }
-    marks[s as usize] = DERIVED;
-    fine(3, 0, t.owed - 1)
-}
-
-// Kind 15: there is one value, and a kind 13 set the slot.
-fn store_again(t: Reached, marks: &mut [u8; SLOTS], s: u16) -> Reached
-    requires { Stands t marks.old × (s < slots) }
-    ensures { Judges t marks.old (again_rule s) result marks.new }
-{
-    if t.height != 1 {
-        return bad();
-    }
-    if marks[s as usize] != STORED {
-        return bad();
-    }
-    fine(3, 0, t.owed)
-}
-
-// One record.
-fn judge_step(t: Reached, marks: &mut [u8; SLOTS], ins: Instr) -> Reached
-    requires { Stands t marks.old × (operand_of ins < slots) }
-    ensures { Judges t marks.old (rule_of (shape_of ins)) result marks.new }
-{
-    match ins {
-        Instr::Constant(s, _) => constant(t, marks, s),
-        Instr::Initial(s, _) => initial(t, marks, s),
-        Instr::Value(_) => push(t),
-        Instr::Slot(s) => slot(t, marks, s),
-        Instr::Add => fold(t, 2),
-        Instr::Sub => fold(t, 2),
-        Instr::Mul => fold(t, 2),
-        Instr::Div => fold(t, 2),
-        Instr::Neg => fold(t, 1),
-        Instr::Insw => fold(t, 3),
-        Instr::Limit => fold(t, 3),
-        Instr::Compar => fold(t, 2),
-        Instr::Store(s) => store(t, marks, s),
-        Instr::Deriv(s) => deriv(t, marks, s),
-        Instr::StoreAgain(s) => store_again(t, marks, s),
-        Instr::Bad => bad(),
-    }
-}
-
-// ---- all records
-
-// The judge's answer on a program.
-pub fn judge(program: &[u8]) -> Answer
-    ensures { result ≡ judge (decoded program.now) }
-{
-    let mut marks = [UNSET; SLOTS];
-    marks[0] = GIVEN;
-    let mut t = fine(1, 0, 0);
-    let total = program.len() / RECORD_BYTES;
-    let mut i: usize = 0;
-    while i < total {
-        let ins = decode(program, i);
-        t = judge_step(t, &mut marks, ins);
-        if !t.ok {
-            return tell(3, i);
+    // Slot 0 is set, and no record stood.
+    fn begun() -> Reached
+        ensures { known result ≡ judge₀ }
+    {
+        let mut marks = [Mark::Unset; SLOTS];
+        marks[0] = Mark::Given;
+        Reached {
+            phase: 1,
+            height: 0,
+            owed: 0,
+            marks,
         }
-        i += 1;
     }
-    if t.height != 0 {
-        return tell(4, 0);
+
+    // Whether a slot has this mark.
+    fn has(&self, s: u16, mark: Mark) -> bool
+        requires { s < slots }
+        ensures { result ≡ eqb (slice_index (marks_in self.now.marks) s) (mark_in mark) }
+    {
+        self.marks[s as usize] == mark
     }
-    if t.owed != 0 {
-        return tell(4, 0);
+
+    // k values give way to one; or a value is pushed, for none.
+    fn fold(&mut self, k: usize) -> Option<()>
+        ensures { Judges self.old (fold_rule k) result self.new }
+    {
+        if self.height < k || STACK < self.height - k + 1 {
+            return None;
+        }
+        self.phase = 3;
+        self.height = self.height - k + 1;
+        Some(())
     }
-    tell(0, 0)
+
+    // Kind 1: its slot is not set yet, and no other kind stood before.
+    fn constant(&mut self, s: u16) -> Option<()>
+        requires { s < slots }
+        ensures { Judges self.old (set_rule 1 s given_mark) result self.new }
+    {
+        if 1 < self.phase || !self.has(s, Mark::Unset) {
+            return None;
+        }
+        self.phase = 1;
+        self.marks[s as usize] = Mark::Given;
+        Some(())
+    }
+
+    // Kind 2: its slot is not set yet, and kinds 3 to 15 did not stand before.
+    fn initial(&mut self, s: u16) -> Option<()>
+        requires { s < slots }
+        ensures { Judges self.old (set_rule 2 s state_mark) result self.new }
+    {
+        if 2 < self.phase || !self.has(s, Mark::Unset) {
+            return None;
+        }
+        self.phase = 2;
+        self.owed += 1;
+        self.marks[s as usize] = Mark::State;
+        Some(())
+    }
+
+    // Kind 4: its slot is set.
+    fn slot(&mut self, s: u16) -> Option<()>
+        requires { s < slots }
+        ensures { Judges self.old (read_rule s) result self.new }
+    {
+        if self.has(s, Mark::Unset) {
+            return None;
+        }
+        self.fold(0)
+    }
+
+    // Kind 13: there is one value, and the slot is not set yet.
+    fn store(&mut self, s: u16) -> Option<()>
+        requires { s < slots }
+        ensures { Judges self.old (store_rule s) result self.new }
+    {
+        if self.height != 1 || !self.has(s, Mark::Unset) {
+            return None;
+        }
+        self.phase = 3;
+        self.height = 0;
+        self.marks[s as usize] = Mark::Stored;
+        Some(())
+    }
+
+    // Kind 14: there is one value, and the slot is a state without derivative.
+    fn deriv(&mut self, s: u16) -> Option<()>
+        requires { s < slots }
+        ensures { Judges self.old (derivative_rule s) result self.new }
+    {
+        if self.height != 1 || !self.has(s, Mark::State) {
+            return None;
+        }
+        self.phase = 3;
+        self.height = 0;
+        self.owed -= 1;
+        self.marks[s as usize] = Mark::Derived;
+        Some(())
+    }
+
+    // Kind 15: there is one value, and a kind 13 set the slot.
+    fn store_again(&mut self, s: u16) -> Option<()>
+        requires { s < slots }
+        ensures { Judges self.old (again_rule s) result self.new }
+    {
+        if self.height != 1 || !self.has(s, Mark::Stored) {
+            return None;
+        }
+        self.phase = 3;
+        self.height = 0;
+        Some(())
+    }
+
+    // One record; or nothing, where it is bad.
+    fn step(&mut self, ins: Instr) -> Option<()>
+        requires { operand_of ins < slots }
+        ensures { Judges self.old (rule_of (shape_of ins)) result self.new }
+    {
+        match ins {
+            Instr::Constant(s, _) => self.constant(s),
+            Instr::Initial(s, _) => self.initial(s),
+            Instr::Slot(s) => self.slot(s),
+            Instr::Value(_) => self.fold(0),
+            Instr::Neg => self.fold(1),
+            Instr::Add | Instr::Sub | Instr::Mul | Instr::Div | Instr::Compar => self.fold(2),
+            Instr::Insw | Instr::Limit => self.fold(3),
+            Instr::Store(s) => self.store(s),
+            Instr::Deriv(s) => self.deriv(s),
+            Instr::StoreAgain(s) => self.store_again(s),
+            Instr::Bad => None,
+        }
+    }
+}
+
+// Judges all records of a program.
+pub fn judge(program: &[u8]) -> Result<(), Refusal>
+    ensures { answer_in result ≡ judge (decoded program.now) }
+{
+    let mut t = Reached::begun();
+    for i in 0..program.len() / RECORD_BYTES {
+        t.step(decode(program, i)).ok_or(Refusal::BadRecord(i))?;
+    }
+    if t.height != 0 || t.owed != 0 {
+        return Err(Refusal::Unfinished);
+    }
+    Ok(())
 }

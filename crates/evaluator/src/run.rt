@@ -21,12 +21,12 @@ fn limit(l: f64, u: f64, x: f64) -> f64
     ensures { result ≡ limit_of l u x }
 {
     if x < l {
-        return l;
+        l
+    } else if x > u {
+        u
+    } else {
+        x
     }
-    if x > u {
-        return u;
-    }
-    x
 }
 
 // COMPAR(A,B): 1 if A >= B, else 0.
@@ -81,19 +81,15 @@ fn run_step(
 }
 
 // Runs all records, on a stack that goes in and comes back.
-fn run(begin: Stack, program: &[u8], values: &mut [f64], derivs: &mut [f64]) -> Stack
-    requires { (begin ≡ emptied) × Granted program.now values.old derivs.old }
+fn run(mut s: Stack, program: &[u8], values: &mut [f64], derivs: &mut [f64]) -> Stack
+    requires { (s ≡ emptied) × Granted program.now values.old derivs.old }
     ensures { machine result.items result.count values.new derivs.new
         ≡ ran program.now values.old derivs.old }
 {
-    let mut s = begin;
     let mut count = s.count;
-    let total = program.len() / RECORD_BYTES;
-    let mut i: usize = 0;
-    while i < total {
+    for i in 0..program.len() / RECORD_BYTES {
         let ins = read(program, i);
         count = run_step(&mut s.items, count, values, derivs, ins);
-        i += 1;
     }
     s.count = count;
     s

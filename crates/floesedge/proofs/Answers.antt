@@ -9,16 +9,14 @@ use borrow.Author.Tests.{ltb-false}
 use lib.Dec.{eqb, ltb}
 use lib.Ieee.{Float}
 use lib.ListN.{length}
+use Rattle.std.specs.Prelude.{Result}
 use Rattle.limits.specs.Limits.{slots, record_bytes, most_records}
 use Rattle.laws.proofs.Bools.{or_false}
 use Rattle.laws.proofs.Tests.{cond_ind}
 use Rattle.records.specs.declared.Instr.{Instr}
 use Rattle.records.specs.Record.{decode_from, decode_from_within, decoded, decoded_within}
-use Rattle.translator.specs.declared.Verdict.{Verdict}
-use Rattle.translator.specs.declared.Verdict.TheVariants.{Faulty, Translated}
-use Rattle.translator.specs.declared.Named.{Named}
-use Rattle.translator.specs.declared.Named.TheVariants.{Faulty as Listed, Entries}
-use Rattle.translator.specs.Contract.{number_in, count_in, Translates, number_named, count_named, NamesSlots}
+use Rattle.translator.specs.declared.Refusal.{Refusal}
+use Rattle.translator.specs.Contract.{number_in, count_in, Translates, NamesSlots}
 use Rattle.translator.specs.Names.{NamesGiven, names_given, naming_of, count_naming}
 use Rattle.floesedge.specs.declared.CVerdict.{CVerdict}
 use Rattle.floesedge.specs.Contract.{TranslatesFixed, NamesFixed}
@@ -26,18 +24,18 @@ use Rattle.translator.specs.Verdict.{Translation, translation, verdict_of, count
 use Rattle.translator.proofs.Counted.{few, count_few}
 use Rattle.translator.proofs.Verdicts.{by_number, names_by_number}
 use Rattle.translator.proofs.NamesGiven.{naming_few}
-use Rattle.evaluator.specs.Judge.{Judge, answer, good, judged, any_open, judge_from}
+use Rattle.evaluator.specs.Judge.{Judge, Answer, answer, good, judged, any_open, judge_from}
 use Rattle.evaluator.specs.Evaluate.{RunOutcome, run_outcome, refusal, refusal_within, evaluated_within, started_within}
 use Rattle.evaluator.specs.Evaluate.{stepped_within}
-use Rattle.evaluator.specs.Contract.{Evaluated, Started, Stepped}
-use Rattle.evaluator.specs.declared.Answer.{Answer}
+use Rattle.evaluator.specs.Contract.{answer_in, Evaluated, Started, Stepped}
+use Rattle.evaluator.specs.declared.Refusal.{Refusal as RunRefusal}
 
 -- ---- the count of a verdict
-pub count_small : (text f p f' p' : List ℕ) (r : Verdict) → Translates text f p r f' p' → count_in r ≤ most_records
+pub count_small : (text f p f' p' : List ℕ) (r : Result ℕ Refusal) → Translates text f p r f' p' → count_in r ≤ most_records
 unfolding translation
 count_small text f p f' p' r e =
     let v = verdict_of text (length f) (length p) in
-    let same : count_in r ≡ count_of v = ap (λ (o : Translation). o.count) (by_number text f p e) in
+    let same : count_in r ≡ count_of v = ap (λ (o : Translation). o.count) (by_number text f p r e) in
     omega (arith, same, count_few v (few text (length f) (length p)))
 
 -- ---- the answers of the judge
@@ -87,51 +85,37 @@ small_by p v d r e =
     let s = refusal_small p v d in
     (omega (arith, ap (λ (a : Answer). a.number) e, s.0), omega (arith, ap (λ (a : Answer). a.place) e, s.1))
 
-module _ {p : List ℕ} {v d : List Float} {r : Answer} {v' d' : List Float} where
-  pub evaluated_small : Evaluated p v d r v' d' → (r.number ≤ 4) × (r.place ≤ most_records)
+module _ {p : List ℕ} {v d : List Float} {r : Result (Unit {0}) RunRefusal} {v' d' : List Float} where
+  pub evaluated_small : Evaluated p v d r v' d' → ((answer_in r).number ≤ 4) × ((answer_in r).place ≤ most_records)
   unfolding evaluated_within
   evaluated_small w =
-      small_by p v d r (ap (λ (o : RunOutcome). o.answer) w.meets ∙ answer_kept (refusal p v d) v d _ _)
+      small_by p v d (answer_in r) (ap (λ (o : RunOutcome). o.answer) w.meets ∙ answer_kept (refusal p v d) v d _ _)
 
-  pub started_small : Started p v d r v' d' → (r.number ≤ 4) × (r.place ≤ most_records)
+  pub started_small : Started p v d r v' d' → ((answer_in r).number ≤ 4) × ((answer_in r).place ≤ most_records)
   unfolding started_within
   started_small w =
-      small_by p v d r (ap (λ (o : RunOutcome). o.answer) w.meets ∙ answer_kept (refusal p v d) v d _ _)
+      small_by p v d (answer_in r) (ap (λ (o : RunOutcome). o.answer) w.meets ∙ answer_kept (refusal p v d) v d _ _)
 
-  pub stepped_small : (h : Float) → Stepped p h v d r v' d' → (r.number ≤ 4) × (r.place ≤ most_records)
+  pub stepped_small : (h : Float) → Stepped p h v d r v' d' → ((answer_in r).number ≤ 4) × ((answer_in r).place ≤ most_records)
   unfolding stepped_within
   stepped_small h w =
-      small_by p v d r (ap (λ (o : RunOutcome). o.answer) w.meets ∙ answer_kept (refusal p v d) v d _ _)
+      small_by p v d (answer_in r) (ap (λ (o : RunOutcome). o.answer) w.meets ∙ answer_kept (refusal p v d) v d _ _)
 
 -- ---- the same answer in its fixed layout
-pub same_translation : (text f p f' p' : List ℕ) (r : Verdict) (v : CVerdict) → Translates text f p r f' p'
+pub same_translation : (text f p f' p' : List ℕ) (r : Result ℕ Refusal) (v : CVerdict) → Translates text f p r f' p'
     → v.number ≡ number_in r → v.count ≡ count_in r
     → TranslatesFixed text f p v f' p'
-same_translation text f p f' p' r v e n c = rw (n, c) (by_number text f p e)
-
--- the count of each case
-pub faulty_count : {v : Verdict} {n k : ℕ} → v ≡ Faulty n k → count_in v ≤ most_records → k ≤ most_records
-faulty_count e h = rw e at h
-
-pub translated_count : {v : Verdict} {k : ℕ} → v ≡ Translated k → count_in v ≤ most_records → k ≤ most_records
-translated_count e h = rw e at h
+same_translation text f p f' p' r v e n c = rw (n, c) (by_number text f p r e)
 
 -- ---- names
-pub names_small : (text f o f' o' : List ℕ) (r : Named) → NamesSlots text f o r f' o' → count_named r ≤ most_records
+pub names_small : (text f o f' o' : List ℕ) (r : Result ℕ Refusal) → NamesSlots text f o r f' o' → count_in r ≤ most_records
 unfolding names_given
 names_small text f o f' o' r e =
     let v = naming_of text (length f) (length o) in
-    let same : count_named r ≡ count_naming v = ap (λ (x : NamesGiven). x.count) (names_by_number text f o e) in
+    let same : count_in r ≡ count_naming v = ap (λ (x : NamesGiven). x.count) (names_by_number text f o r e) in
     omega (arith, same, naming_few text (length f) (length o))
 
-pub same_names : (text f o f' o' : List ℕ) (r : Named) (v : CVerdict) → NamesSlots text f o r f' o'
-    → v.number ≡ number_named r → v.count ≡ count_named r
+pub same_names : (text f o f' o' : List ℕ) (r : Result ℕ Refusal) (v : CVerdict) → NamesSlots text f o r f' o'
+    → v.number ≡ number_in r → v.count ≡ count_in r
     → NamesFixed text f o v f' o'
-same_names text f o f' o' r v e n c = rw (n, c) (names_by_number text f o e)
-
--- the count of each case
-pub listed_count : {v : Named} {n k : ℕ} → v ≡ Listed n k → count_named v ≤ most_records → k ≤ most_records
-listed_count e h = rw e at h
-
-pub entries_count : {v : Named} {k : ℕ} → v ≡ Entries k → count_named v ≤ most_records → k ≤ most_records
-entries_count e h = rw e at h
+same_names text f o f' o' r v e n c = rw (n, c) (names_by_number text f o r e)

@@ -3,8 +3,11 @@
 
 ghost use Rattle.std.specs.Prelude.{◌≡◌, ◌≤◌};
 ghost use Rattle.limits.specs.Limits.{most_records};
-ghost use Rattle.translator.specs.Contract.{number_in, count_in, number_named, count_named};
+ghost use Rattle.translator.specs.Contract.{number_in, count_in};
+ghost use Rattle.evaluator.specs.Contract.{answer_in};
 ghost use Rattle.floesedge.specs.Contract.{TranslatesFixed, NamesFixed, EvaluatesFixed, StartsFixed, StepsFixed};
+
+use translator::Refusal;
 
 // The verdict's number, and its count: records for 0, faults for 5 and 7, else 0.
 #[repr(C)]
@@ -28,20 +31,19 @@ fn fixed(number: u8, count: usize) -> CVerdict
     ensures { (result.number ≡ number) × (result.count ≡ count) }
 {
     CVerdict {
-        number: number as u32,
+        number: u32::from(number),
         count: count as u32,
     }
 }
 
-// A verdict in its fixed layout.
-fn fixed_verdict(v: translator::Verdict) -> CVerdict
-    requires { count_in v ≤ most_records }
-    ensures { (result.number ≡ number_in v) × (result.count ≡ count_in v) }
+// A verdict in its fixed layout; where names are asked for, the count for 0 is that of definitions.
+fn fixed_verdict(answer: Result<usize, Refusal>) -> CVerdict
+    requires { count_in answer ≤ most_records }
+    ensures { (result.number ≡ number_in answer) × (result.count ≡ count_in answer) }
 {
-    match v {
-        translator::Verdict::Refused(number) => fixed(number, 0),
-        translator::Verdict::Faulty(number, count) => fixed(number, count),
-        translator::Verdict::Translated(count) => fixed(0, count),
+    match answer {
+        Ok(count) => fixed(0, count),
+        Err(refusal) => fixed(refusal.number(), refusal.count()),
     }
 }
 
@@ -53,34 +55,28 @@ pub fn floesedge_translate(text: &[u8], faults: &mut [u8], program: &mut [u8]) -
     fixed_verdict(translator::translate(text, faults, program))
 }
 
-// The same where names are asked for: its count is that of definitions for 0.
-fn fixed_named(v: translator::Named) -> CVerdict
-    requires { count_named v ≤ most_records }
-    ensures { (result.number ≡ number_named v) × (result.count ≡ count_named v) }
-{
-    match v {
-        translator::Named::Refused(number) => fixed(number, 0),
-        translator::Named::Faulty(number, count) => fixed(number, count),
-        translator::Named::Entries(count) => fixed(0, count),
-    }
-}
-
 // Names the slots of a text; the fault list or the roster is written to the front of what is lent.
 pub fn floesedge_names(text: &[u8], faults: &mut [u8], names: &mut [u8]) -> CVerdict
     ensures { NamesFixed text.now faults.old names.old result
         faults.new names.new }
 {
-    fixed_named(translator::names(text, faults, names))
+    fixed_verdict(translator::names(text, faults, names))
 }
 
-// An answer in its fixed layout.
-fn fixed_answer(a: evaluator::Answer) -> CAnswer
-    requires { (a.number ≤ 4) × (a.place ≤ most_records) }
-    ensures { (result.number ≡ a.number) × (result.record ≡ a.place) }
+// An answer of the evaluator in its fixed layout.
+fn fixed_answer(answer: Result<(), evaluator::Refusal>) -> CAnswer
+    requires { ((answer_in answer).number ≤ 4) × ((answer_in answer).place ≤ most_records) }
+    ensures { (result.number ≡ (answer_in answer).number) × (result.record ≡ (answer_in answer).place) }
 {
-    CAnswer {
-        number: a.number as u32,
-        record: a.place as u32,
+    match answer {
+        Ok(()) => CAnswer {
+            number: 0,
+            record: 0,
+        },
+        Err(refusal) => CAnswer {
+            number: refusal.number() as u32,
+            record: refusal.place() as u32,
+        },
     }
 }
 

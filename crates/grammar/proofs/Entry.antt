@@ -1,5 +1,6 @@
 -- A rule for each way through `parse_row`.
-use Prim.Native.Nat.{ℕ, ◌+◌, ◌-◌, ◌<◌}
+use Prim.Native.Nat.{ℕ, ◌+◌, ◌-◌}
+use Rattle.std.specs.Prelude.{Result, Ok, Err}
 use mathlib.Core.Path.{◌≡◌, sym, ap, ◌∙◌}
 use mathlib.Core.Bool.{true, false}
 use mathlib.Core.List.{List, [], ◌∷◌, map, append-nil}
@@ -12,16 +13,18 @@ use Rattle.limits.specs.Limits.{levels}
 use Rattle.tokens.specs.Symbol.{Symbol, mark}
 use Rattle.tokens.specs.Held.{held_row}
 use Rattle.tokens.proofs.Holding.{held_length}
-use Rattle.grammar.specs.declared.expressions.Part.{Part}
-use Rattle.grammar.specs.declared.Parsed.{Parsed}
-use Rattle.grammar.specs.declared.Parsed.TheVariants.{Done, Fault, NoRoom}
+use Rattle.grammar.specs.declared.ParseError.{ParseError}
+use Rattle.grammar.specs.declared.ParseError.TheVariants.{NoRoom as TooShort, Misread as Misreads}
+use Rattle.grammar.specs.declared.Misread.{Misread}
 use Rattle.drafts.specs.Tree.{Says}
 use Rattle.drafts.specs.Drafts.{Draft}
 use Rattle.grammar.specs.Parser.{End, got, bad, Res, onward, bind, statement, at_end, entire, calls, row_answer}
 use Rattle.grammar.specs.Parser.{read_row}
-use Rattle.grammar.specs.Contract.{ParseOutcome, parse_outcome, wrote, parsed_as, row_outcome, ParsesRow, Ready}
+use Rattle.grammar.specs.Contract.{Ended, Parsed, Done, Fault, stopped_by, ungrammatical}
+use Rattle.grammar.specs.Contract.{ParseOutcome, parse_outcome, wrote, parsed_in, parsed_as, row_outcome, ParsesRow}
 use Rattle.grammar.specs.Contract.{part_done, part_of, part_wrote, Meets}
-use Rattle.grammar.proofs.Room.{Fits, FitsEnd, statement_fits}
+use Rattle.grammar.proofs.Room.{statement_fits}
+use Rattle.faults.proofs.Apart.{fault_code}
 use Rattle.grammar.proofs.Meets.{Went, went, place_is}
 
 -- the outcome of a reading of n tokens
@@ -29,7 +32,7 @@ abbrev answered : ℕ → Res Says → ℕ → List ℕ → List ℕ → ParseOu
 answered n x p l u = wrote (parsed_as (p + length x.out) (row_answer n x.end)) x.out p l u
 
 -- a statement that stops
-entire_stops : (n : ℕ) (x : Res Says) (r : Part) (p : ℕ) (l u l₁ u₁ : List ℕ) → (r.code ≡ 0 → ⊥)
+entire_stops : (n : ℕ) (x : Res Says) (r : Ended) (p : ℕ) (l u l₁ u₁ : List ℕ) → (r.code ≡ 0 → ⊥)
     → parse_outcome r l₁ u₁ ≡ part_wrote n x p l u
     → parse_outcome (Fault r.code r.next) l₁ u₁ ≡ answered n (bind x at_end) p l u
 unfolding bind wrote
@@ -37,21 +40,9 @@ entire_stops n x r p l u l₁ u₁ z h = go x.end h
   where
     go : (t : End Says) → parse_outcome r l₁ u₁ ≡ wrote (part_of n (p + length x.out) t) x.out p l u
         → parse_outcome (Fault r.code r.next) l₁ u₁ ≡ answered n (onward x.out t at_end) p l u
-    go (got e t) h = absurd (z (ap (λ (y : ParseOutcome Part). y.reply.code) h))
+    go (got e t) h = absurd (z (ap (λ (y : ParseOutcome Ended). y.reply.code) h))
     go (bad d t) h =
-        ap (λ (y : ParseOutcome Part). parse_outcome (Fault y.reply.code y.reply.next) y.kinds y.args) h
-
--- a part ends with a code that is a byte
-part_byte : (n : ℕ) (s : List Symbol) (x : Res Says) (r : Part) (p : ℕ) (l u l₁ u₁ : List ℕ) → Fits s 0 0 x
-    → parse_outcome r l₁ u₁ ≡ part_wrote n x p l u
-    → r.code < 256
-unfolding wrote
-part_byte n s x r p l u l₁ u₁ f h = go x.end f.ends h
-  where
-    go : (t : End Says) → FitsEnd s 0 0 (length x.out) t
-        → parse_outcome r l₁ u₁ ≡ wrote (part_of n (p + length x.out) t) x.out p l u → r.code < 256
-    go (got e t) f h = let a = ap (λ (y : ParseOutcome Part). y.reply.code) h in omega arith
-    go (bad d t) f h = let a = ap (λ (y : ParseOutcome Part). y.reply.code) h in omega (arith, f.4)
+        ap (λ (y : ParseOutcome Ended). parse_outcome (Fault y.reply.code y.reply.next) y.kinds y.args) h
 
 -- a statement that passes, and what is left
 module _ (n : ℕ) (x : Res Says) (e : Says) (p q : ℕ) (l u l₁ u₁ : List ℕ) (up : q ≡ p + length x.out)
@@ -68,11 +59,12 @@ module _ (n : ℕ) (x : Res Says) (e : Says) (p q : ℕ) (l u l₁ u₁ : List �
 
 module _ (ks us : List ℕ) (p : ℕ) (l u : List ℕ) where
   -- no room
-  pub uneven : (length us ≡ length ks → ⊥) → ParsesRow ks us l u p NoRoom l u
+  pub uneven : (length us ≡ length ks → ⊥) → ParsesRow ks us l u p (Err TooShort) l u
   unfolding row_outcome
   uneven n = rw (ne_eqb (length us) (length ks) n)
 
-  pub no_kinds : length us ≡ length ks → true ≡ ltb (length l) (p + length ks) → ParsesRow ks us l u p NoRoom l u
+  pub no_kinds : length us ≡ length ks → true ≡ ltb (length l) (p + length ks)
+      → ParsesRow ks us l u p (Err TooShort) l u
   unfolding row_outcome
   no_kinds e h =
       rw (
@@ -81,7 +73,7 @@ module _ (ks us : List ℕ) (p : ℕ) (l u : List ℕ) where
       )
 
   pub no_args : length us ≡ length ks → false ≡ ltb (length l) (p + length ks) → true ≡ ltb (length u) (p + length ks)
-      → ParsesRow ks us l u p NoRoom l u
+      → ParsesRow ks us l u p (Err TooShort) l u
   unfolding row_outcome
   no_args e f h =
       rw (
@@ -92,18 +84,11 @@ module _ (ks us : List ℕ) (p : ℕ) (l u : List ℕ) where
 
   module _ (even : length us ≡ length ks) (f : false ≡ ltb (length l) (p + length ks))
       (g : false ≡ ltb (length u) (p + length ks)) where
-    -- there is room
-    pub entry_ready : Ready ks us 0 p l u
-    entry_ready =
-        let a = ltb-false (length l) (p + length ks) (sym f) in
-        let b = ltb-false (length u) (p + length ks) (sym g) in
-        record { even = even; within = omega arith; room_kinds = omega arith; room_args = omega arith }
-
-    entry_by : {r : Parsed} {l₁ u₁ : List ℕ}
-        → parse_outcome r l₁ u₁ ≡ answered (length ks)
+    entry_by : (r : Result ℕ ParseError) {l₁ u₁ : List ℕ}
+        → parse_outcome (parsed_in r) l₁ u₁ ≡ answered (length ks)
         (bind (statement (calls (held_row ks us)) levels (held_row ks us)) at_end) p l u → ParsesRow ks us l u p r l₁ u₁
     unfolding row_outcome read_row entire
-    entry_by h =
+    entry_by r h =
         rw (
           eq-eqb (length us) (length ks) even,
           le-leb (p + length ks) (length l) (ltb-false (length l) (p + length ks) (sym f)),
@@ -113,53 +98,52 @@ module _ (ks us : List ℕ) (p : ℕ) (l u : List ℕ) where
         ∙ ap (λ (n : ℕ). answered n (bind (statement (calls (held_row ks us)) levels (held_row ks us)) at_end) p l u)
         (sym (held_length ks us even)))
 
-    module _ {r : Part} {l₁ u₁ : List ℕ}
-        (h : Meets ks us (statement (calls (held_row ks us)) levels) 0 p l u r l₁ u₁) where
-      -- its code is a byte
-      pub entry_byte : r.code < 256
-      entry_byte =
+    -- it stops
+    pub entry_stopped : (m : Misread) {l₁ u₁ : List ℕ}
+        → Meets ks us (statement (calls (held_row ks us)) levels) 0 p l u (stopped_by m) l₁ u₁
+        → ParsesRow ks us l u p (Err (Misreads m)) l₁ u₁
+    entry_stopped m {l₁} {u₁} h =
+        entry_by (Err (Misreads m))
+        (entire_stops (length ks) (statement (calls (held_row ks us)) levels (held_row ks us)) (stopped_by m) p l u
+        l₁ u₁ (fault_code m.fault) h.same)
+
+    module _ {j q : ℕ} {l₁ u₁ : List ℕ}
+        (h : Meets ks us (statement (calls (held_row ks us)) levels) 0 p l u (part_done j q) l₁ u₁) where
+      through : Went (held_row ks us) (statement (calls (held_row ks us)) levels (held_row ks us)) 0 p l u j q l₁ u₁
+      through =
           let row = held_row ks us in
-          part_byte (length ks) row (statement (calls row) levels row) r p l u l₁ u₁
-          (statement_fits (calls row) levels row) h.same
+          let n = held_length ks us even in
+          went row (statement (calls row) levels row) 0 p l u j q l₁ u₁ (omega arith)
+          (statement_fits (calls row) levels row) (rw (← n) at h.same)
 
-      -- it stops
-      pub entry_stopped : (r.code ≡ 0 → ⊥) → ParsesRow ks us l u p (Fault r.code r.next) l₁ u₁
-      entry_stopped z =
-          entry_by
-          (entire_stops (length ks) (statement (calls (held_row ks us)) levels (held_row ks us)) r p l u l₁ u₁ z
-          h.same)
+      -- at the end
+      pub entry_done : j ≡ length ks → ParsesRow ks us l u p (Ok q) l₁ u₁
+      entry_done z =
+          let row = held_row ks us in
+          let n = held_length ks us even in
+          let w = through in
+          let none = drop_of_length-le row {i = j} (omega arith) in
+          entry_by (Ok q)
+          (entire_ends (length ks) (statement (calls row) levels row) w.what p q l u l₁ u₁ w.up w.kinds
+          w.args
+          (w.ends ∙ ap (got w.what) none))
 
-      module _ {j q : ℕ} (e : r ≡ part_done j q) where
-        through : Went (held_row ks us) (statement (calls (held_row ks us)) levels (held_row ks us)) 0 p l u j q l₁ u₁
-        through =
-            let row = held_row ks us in
-            let n = held_length ks us even in
-            went row (statement (calls row) levels row) 0 p l u j q l₁ u₁ (omega arith)
-            (statement_fits (calls row) levels row) (rw (e, ← n) at h.same)
+      -- before a token too many
+      pub entry_more : (j ≡ length ks → ⊥) → ParsesRow ks us l u p (Err (Misreads (ungrammatical j))) l₁ u₁
+      entry_more z =
+          let row = held_row ks us in
+          let n = held_length ks us even in
+          let w = through in
+          let i = w.inside in
+          let cons = drop-cons row j (mark 0) (omega arith) in
+          let at : length ks - length (drop j row) ≡ j = place_is ks us j even (omega arith) in
+          entry_by (Err (Misreads (ungrammatical j)))
+          (rw (← at, cons)
+          (entire_more (length ks) (statement (calls row) levels row) w.what p q l u l₁ u₁ w.up w.kinds
+          w.args _ _
+          (w.ends ∙ ap (got w.what) cons)))
 
-        -- at the end
-        pub entry_done : j ≡ length ks → ParsesRow ks us l u p (Done q) l₁ u₁
-        entry_done z =
-            let row = held_row ks us in
-            let n = held_length ks us even in
-            let w = through in
-            let none = drop_of_length-le row {i = j} (omega arith) in
-            entry_by
-            (entire_ends (length ks) (statement (calls row) levels row) w.what p q l u l₁ u₁ w.up w.kinds
-            w.args
-            (w.ends ∙ ap (got w.what) none))
-
-        -- before a token too many
-        pub entry_more : (j ≡ length ks → ⊥) → ParsesRow ks us l u p (Fault 18 j) l₁ u₁
-        entry_more z =
-            let row = held_row ks us in
-            let n = held_length ks us even in
-            let w = through in
-            let i = w.inside in
-            let cons = drop-cons row j (mark 0) (omega arith) in
-            let at : length ks - length (drop j row) ≡ j = place_is ks us j even (omega arith) in
-            entry_by
-            (rw (← at, cons)
-            (entire_more (length ks) (statement (calls row) levels row) w.what p q l u l₁ u₁ w.up w.kinds
-            w.args _ _
-            (w.ends ∙ ap (got w.what) cons)))
+-- the same of buffers that are equal
+pub moved : {x : Parsed} {y : ParseOutcome Parsed} {l u l₁ u₁ : List ℕ} → l₁ ≡ l → u₁ ≡ u
+    → parse_outcome x l u ≡ y → parse_outcome x l₁ u₁ ≡ y
+moved e f h = rw (e, f) h

@@ -1,5 +1,6 @@
 -- How the outcome of a reading at a place is made of the outcomes of its parts.
 use Prim.Native.Nat.{ℕ, suc, ◌+◌, ◌-◌, ◌≤◌, ◌<◌}
+use Rattle.std.specs.Prelude.{Option, Ok, Err}
 use mathlib.Core.Path.{◌≡◌, refl, sym, ap, ◌∙◌}
 use mathlib.Core.List.{List, [], ◌∷◌, ◌++◌, append-nil, map, map-append}
 use native.Mathlib.Nat.{add-zero}
@@ -14,11 +15,12 @@ use Rattle.tokens.specs.Symbol.{Symbol}
 use Rattle.tokens.specs.Kinds.{last_word_kind}
 use Rattle.tokens.specs.Held.{held_row}
 use Rattle.tokens.proofs.Holding.{held_length}
-use Rattle.grammar.specs.declared.expressions.Part.{Part}
 use Rattle.drafts.specs.Drafts.{Draft, draft}
 use Rattle.grammar.specs.Look.{next, rest, byte_of}
 use Rattle.grammar.specs.Parser.{End, got, bad, Res, give, stop, tell, onward, bind, when, need}
-use Rattle.grammar.specs.Contract.{ParseOutcome, parse_outcome, wrote, op_drafts, PutsOp, part_done, part_stopped}
+use Rattle.grammar.specs.declared.Misread.{Misread}
+use Rattle.grammar.specs.Contract.{Ended, stopped_by, Needs}
+use Rattle.grammar.specs.Contract.{ParseOutcome, parse_outcome, wrote, op_drafts, Puts, PutsOp, part_done, part_stopped}
 use Rattle.grammar.specs.Contract.{part_of, part_wrote, Meets}
 use Rattle.grammar.proofs.Clauses.{rest_at, left_at}
 use Rattle.grammar.proofs.Room.{Fits, FitsEnd}
@@ -36,13 +38,9 @@ wrote_one : {R : Type 0} (r : R) (k a : ℕ) (o : List Draft) (p : ℕ) (l u : L
 unfolding wrote
 wrote_one r k a o p l u = simp (add-one)
 
--- ---- what a part that is done tells
+-- ---- what a part that ends tells
 
--- the code 0 tells it
-pub is_done : {r : Part} → r.code ≡ 0 → r ≡ part_done r.next r.place
-is_done {r} e = ap (λ (c : ℕ). record { code = c; next = r.next; place = r.place }) e
-
--- it has read up to the place j, with drafts up to q, at most one for each token
+-- one that is done has read up to the place j, with drafts up to q, at most one for each token
 pub record Went {A : Type 0} (row : List Symbol) (x : Res A) (i p : ℕ) (l u : List ℕ) (j q : ℕ)
     (l₁ u₁ : List ℕ) : Type 0 where
   pub what : A
@@ -67,8 +65,8 @@ went {A} row x i p l u j q l₁ u₁ le f h = go x.end refl f.ends h
         let a = length-append r.0 t in
         let b = ap length r.1 in
         let c = length-drop i row in
-        let m : j ≡ length row - length t = ap (λ (z : ParseOutcome Part). z.reply.next) h in
-        let n : q ≡ p + length x.out = ap (λ (z : ParseOutcome Part). z.reply.place) h in
+        let m : j ≡ length row - length t = ap (λ (z : ParseOutcome Ended). z.reply.next) h in
+        let n : q ≡ p + length x.out = ap (λ (z : ParseOutcome Ended). z.reply.place) h in
         let z : t ≡ drop j row = left_at row r.0 t i le r.1 ∙ ap (λ (k : ℕ). drop k row) (sym m) in
         record {
           what = e;
@@ -77,10 +75,10 @@ went {A} row x i p l u j q l₁ u₁ le f h = go x.end refl f.ends h
           inside = omega arith;
           few = omega arith;
           up = n;
-          kinds = ap (λ (z : ParseOutcome Part). z.kinds) h;
-          args = ap (λ (z : ParseOutcome Part). z.args) h;
+          kinds = ap (λ (z : ParseOutcome Ended). z.kinds) h;
+          args = ap (λ (z : ParseOutcome Ended). z.args) h;
         }
-    go (bad c t) s r h = let a = ap (λ (z : ParseOutcome Part). z.reply.code) h in absurd (omega (arith, r.3))
+    go (bad c t) s r h = let a = ap (λ (z : ParseOutcome Ended). z.reply.code) h in absurd (omega (arith, r.3))
 
 -- ---- one reading after another, from place to place
 
@@ -109,7 +107,7 @@ bind_wrote n x k e t p q l u l₁ u₁ h up a b =
     rw (h, m, a, b, up) (sym (wrote_append _ x.out z.out p l u))
 
 -- where the one stops, so do both
-stop_wrote : {A B : Type 0} (n : ℕ) (x : Res A) (k : A → List Symbol → Res B) (r : Part) (p : ℕ) (l u l₁ u₁ : List ℕ)
+stop_wrote : {A B : Type 0} (n : ℕ) (x : Res A) (k : A → List Symbol → Res B) (r : Ended) (p : ℕ) (l u l₁ u₁ : List ℕ)
     → (r.code ≡ 0 → ⊥)
     → parse_outcome r l₁ u₁ ≡ part_wrote n x p l u → parse_outcome r l₁ u₁ ≡ part_wrote n (bind x k) p l u
 unfolding bind wrote
@@ -117,7 +115,7 @@ stop_wrote {A} n x k r p l u l₁ u₁ z h = go x.end h
   where
     go : (t : End A) → parse_outcome r l₁ u₁ ≡ wrote (part_of n (p + length x.out) t) x.out p l u
         → parse_outcome r l₁ u₁ ≡ part_wrote n (onward x.out t k) p l u
-    go (got e t) h = absurd (z (ap (λ (y : ParseOutcome Part). y.reply.code) h))
+    go (got e t) h = absurd (z (ap (λ (y : ParseOutcome Ended). y.reply.code) h))
     go (bad d t) h = h
 
 -- and nothing read after it
@@ -133,14 +131,14 @@ map_wrote {A} n x g p l u = go x.end
 
 module _ {ks us : List ℕ} where
   -- a reader that reads at j what x reads at i
-  pub meets_by : {A : Type 0} {i j p : ℕ} {l u : List ℕ} {r : Part} {l₁ u₁ : List ℕ} {x : List Symbol → Res A}
+  pub meets_by : {A : Type 0} {i j p : ℕ} {l u : List ℕ} {r : Ended} {l₁ u₁ : List ℕ} {x : List Symbol → Res A}
       (y : List Symbol → Res A)
       → y (drop j (held_row ks us)) ≡ x (drop i (held_row ks us)) → Meets ks us x i p l u r l₁ u₁
       → Meets ks us y j p l u r l₁ u₁
   meets_by y e h = record { same = rw e h.same }
 
   -- behind a token
-  pub meets_rest : {A : Type 0} {i p : ℕ} {l u : List ℕ} {r : Part} {l₁ u₁ : List ℕ} {x : List Symbol → Res A}
+  pub meets_rest : {A : Type 0} {i p : ℕ} {l u : List ℕ} {r : Ended} {l₁ u₁ : List ℕ} {x : List Symbol → Res A}
       → Meets ks us x (i + 1) p l u r l₁ u₁ → Meets ks us (λ s. x (rest s)) i p l u r l₁ u₁
   meets_rest {i = i} {x = x} h = meets_by (λ s. x (rest s)) (ap x (rest_at (held_row ks us) i)) h
 
@@ -156,18 +154,19 @@ module _ {ks us : List ℕ} where
   meets_stop {i = i} q le c = record { same = rw (place_is ks us i q le) }
 
   -- behind one draft
-  pub meets_tell : {A : Type 0} {i p : ℕ} {l u : List ℕ} {r : Part} {l₁ u₁ l₂ u₂ : List ℕ} {x : List Symbol → Res A}
-      (k a : ℕ)
-      → l₁ ≡ set l p k → u₁ ≡ set u p a → Meets ks us x i (p + 1) l₁ u₁ r l₂ u₂
+  pub meets_tell : {A : Type 0} {i p p₁ : ℕ} {l u : List ℕ} {r : Ended} {l₁ u₁ l₂ u₂ : List ℕ} {x : List Symbol → Res A}
+      {k a : ℕ}
+      → Puts k a p l u p₁ l₁ u₁ → Meets ks us x i p₁ l₁ u₁ r l₂ u₂
       → Meets ks us (λ s. tell (draft k a ∷ []) (x s)) i p l u r l₂ u₂
-  meets_tell {i = i} {p = p} {l = l} {u = u} {x = x} k a e f h =
+  meets_tell {i = i} {p = p} {p₁ = p₁} {l = l} {u = u} {x = x} {k = k} {a = a} w h =
       let y = x (drop i (held_row ks us)) in
-      let n : p + suc (length y.out) ≡ p + 1 + length y.out = omega arith in
-      record { same = rw (n, wrote_one _ k a y.out p l u, ← e, ← f) h.same }
+      let e = w.place in
+      let n : p + suc (length y.out) ≡ p₁ + length y.out = omega arith in
+      record { same = rw (n, wrote_one _ k a y.out p l u, ← w.kinds, ← w.args, ← e) h.same }
 
   -- behind the draft of an operator
-  pub meets_op : {A : Type 0} {i p q : ℕ} {l u : List ℕ} {r : Part} {l₁ u₁ l₂ u₂ : List ℕ} {x : List Symbol → Res A}
-      {k : ℕ}
+  pub meets_op : {A : Type 0} {i p q : ℕ} {l u : List ℕ} {r : Ended} {l₁ u₁ l₂ u₂ : List ℕ} {x : List Symbol → Res A}
+      {k : Option ℕ}
       → PutsOp k p l u q l₁ u₁ → Meets ks us x i q l₁ u₁ r l₂ u₂
       → Meets ks us (λ s. tell (op_drafts k) (x s)) i p l u r l₂ u₂
   unfolding bind
@@ -180,25 +179,25 @@ module _ {ks us : List ℕ} where
       }
 
   -- a part that stops stops the whole
-  pub meets_bad : {A B : Type 0} {i p : ℕ} {l u : List ℕ} {r : Part} {l₁ u₁ : List ℕ} {x : List Symbol → Res A}
+  pub meets_bad : {A B : Type 0} {i p : ℕ} {l u : List ℕ} {r : Ended} {l₁ u₁ : List ℕ} {x : List Symbol → Res A}
       (k : A → List Symbol → Res B)
       → (r.code ≡ 0 → ⊥) → Meets ks us x i p l u r l₁ u₁ → Meets ks us (λ s. bind (x s) k) i p l u r l₁ u₁
   meets_bad {i = i} {p = p} {l = l} {u = u} {r = r} {l₁ = l₁} {u₁ = u₁} {x = x} k z h =
       record { same = stop_wrote (length ks) (x (drop i (held_row ks us))) k r p l u l₁ u₁ z h.same }
 
   -- one part is done, and the other goes on from there
-  pub meets_bind : {A B : Type 0} {i p j q : ℕ} {l u : List ℕ} {r r₁ : Part} {l₁ u₁ l₂ u₂ : List ℕ}
+  pub meets_bind : {A B : Type 0} {i p j q : ℕ} {l u : List ℕ} {r : Ended} {l₁ u₁ l₂ u₂ : List ℕ}
       {x : List Symbol → Res A} (k : A → List Symbol → Res B)
       → Fits (drop i (held_row ks us)) 0 0 (x (drop i (held_row ks us))) → length us ≡ length ks → i ≤ length ks
-      → r₁ ≡ part_done j q → Meets ks us x i p l u r₁ l₁ u₁
+      → Meets ks us x i p l u (part_done j q) l₁ u₁
       → ((e : A) → (x (drop i (held_row ks us))).end ≡ got e (drop j (held_row ks us))
       → Meets ks us (k e) j q l₁ u₁ r l₂ u₂)
       → Meets ks us (λ s. bind (x s) k) i p l u r l₂ u₂
-  meets_bind {i = i} {p = p} {j = j} {q = q} {l = l} {u = u} {l₁ = l₁} {u₁ = u₁} {x = x} k f even le e h g =
+  meets_bind {i = i} {p = p} {j = j} {q = q} {l = l} {u = u} {l₁ = l₁} {u₁ = u₁} {x = x} k f even le h g =
       let row = held_row ks us in
       let n = held_length ks us even in
       let y = x (drop i row) in
-      let w = went row y i p l u j q l₁ u₁ (omega arith) f (rw (e, ← n) at h.same) in
+      let w = went row y i p l u j q l₁ u₁ (omega arith) f (rw (← n) at h.same) in
       let z = bind_wrote (length ks) y k w.what (drop j row) p q l u l₁ u₁ w.ends w.up w.kinds w.args in
       record {
         same = ◌∙◌ {b = part_wrote (length ks) (k w.what (drop j row)) q l₁ u₁}
@@ -206,14 +205,14 @@ module _ {ks us : List ℕ} where
       }
 
   -- and nothing read after it
-  pub meets_map : {A B : Type 0} {i p : ℕ} {l u : List ℕ} {r : Part} {l₁ u₁ : List ℕ} {x : List Symbol → Res A}
+  pub meets_map : {A B : Type 0} {i p : ℕ} {l u : List ℕ} {r : Ended} {l₁ u₁ : List ℕ} {x : List Symbol → Res A}
       (g : A → B)
       → Meets ks us x i p l u r l₁ u₁ → Meets ks us (λ s. bind (x s) λ e t. give (g e) t) i p l u r l₁ u₁
   meets_map {i = i} {p = p} {l = l} {u = u} {x = x} g h =
       record { same = h.same ∙ map_wrote (length ks) (x (drop i (held_row ks us))) g p l u }
 
   -- at a mark, or else
-  pub meets_mark : {A : Type 0} {i p : ℕ} {l u : List ℕ} {r : Part} {l₁ u₁ : List ℕ} {x : List Symbol → Res A}
+  pub meets_mark : {A : Type 0} {i p : ℕ} {l u : List ℕ} {r : Ended} {l₁ u₁ : List ℕ} {x : List Symbol → Res A}
       (y : List Symbol → Res A) (b : ℕ)
       → length us ≡ length ks → last_word_kind < b → get_or ks i 0 ≡ b → Meets ks us x i p l u r l₁ u₁
       → Meets ks us (λ s. when (eqb (byte_of (next s)) b) (λ _. x s) (λ _. y s)) i p l u r l₁ u₁
@@ -221,7 +220,7 @@ module _ {ks us : List ℕ} where
       meets_by (λ s. when (eqb (byte_of (next s)) b) (λ _. x s) (λ _. y s))
       (rw (mark_at ks us i b even h ∙ eq-eqb (get_or ks i 0) b e)) g
 
-  pub meets_else : {A : Type 0} {i p : ℕ} {l u : List ℕ} {r : Part} {l₁ u₁ : List ℕ} {y : List Symbol → Res A}
+  pub meets_else : {A : Type 0} {i p : ℕ} {l u : List ℕ} {r : Ended} {l₁ u₁ : List ℕ} {y : List Symbol → Res A}
       (x : List Symbol → Res A) (b : ℕ)
       → length us ≡ length ks → last_word_kind < b → (get_or ks i 0 ≡ b → ⊥) → Meets ks us y i p l u r l₁ u₁
       → Meets ks us (λ s. when (eqb (byte_of (next s)) b) (λ _. x s) (λ _. y s)) i p l u r l₁ u₁
@@ -230,12 +229,13 @@ module _ {ks us : List ℕ} where
       (rw (mark_at ks us i b even h ∙ ne_eqb (get_or ks i 0) b e)) g
 
   -- behind a mark that must stand next, or a stop
-  pub meets_need : {A : Type 0} {i p : ℕ} {l u : List ℕ} {r : Part} {l₁ u₁ : List ℕ} {k : List Symbol → Res A} (b : ℕ)
-      → length us ≡ length ks → last_word_kind < b → get_or ks i 0 ≡ b → Meets ks us k (i + 1) p l u r l₁ u₁
+  pub meets_need : {A : Type 0} {i j p : ℕ} {l u : List ℕ} {r : Ended} {l₁ u₁ : List ℕ} {k : List Symbol → Res A}
+      (b : ℕ)
+      → length us ≡ length ks → last_word_kind < b → Needs ks i b (Ok j) → Meets ks us k j p l u r l₁ u₁
       → Meets ks us (λ s. need b s k) i p l u r l₁ u₁
-  meets_need b even h e g = meets_mark (stop 18) b even h e (meets_rest g)
+  meets_need b even h n g = meets_mark (stop 18) b even h n.0 (meets_rest (rw n.1 at g))
 
-  pub meets_shut : {A : Type 0} {i p : ℕ} {l u : List ℕ} (k : List Symbol → Res A) (b : ℕ) → length us ≡ length ks
-      → i ≤ length ks → last_word_kind < b
-      → (get_or ks i 0 ≡ b → ⊥) → Meets ks us (λ s. need b s k) i p l u (part_stopped 18 i) l u
-  meets_shut k b even le h e = meets_else (λ s. k (rest s)) b even h e (meets_stop even le 18)
+  pub meets_shut : {A : Type 0} {i p : ℕ} {l u : List ℕ} {m : Misread} (k : List Symbol → Res A) (b : ℕ)
+      → length us ≡ length ks → i ≤ length ks → last_word_kind < b → Needs ks i b (Err m)
+      → Meets ks us (λ s. need b s k) i p l u (stopped_by m) l u
+  meets_shut k b even le h n = rw n.1 (meets_else (λ s. k (rest s)) b even h n.0 (meets_stop even le 18))

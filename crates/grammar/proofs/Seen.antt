@@ -1,5 +1,6 @@
 -- The code's look at a kind is the grammar's look at the token.
 use Prim.Native.Nat.{ℕ, zero, suc, ◌≤◌, ◌<◌}
+use Rattle.std.specs.Prelude.{Option, Some, None}
 use mathlib.Core.Path.{◌≡◌, refl, sym, subst, ◌∙◌}
 use mathlib.Core.Bool.{Bool, true, false, cond}
 use mathlib.Core.List.{List, [], ◌∷◌}
@@ -15,13 +16,14 @@ use Rattle.tokens.specs.Kinds.{number_kind, name_kind, word_kind, last_word_kind
 use Rattle.tokens.specs.Held.{symbol_of, held_row}
 use Rattle.tokens.proofs.Holding.{held_at}
 use Rattle.grammar.specs.declared.faces.Face.{Face}
-use Rattle.grammar.specs.declared.faces.Face.TheVariants.{One, Group, Function, Nothing}
-use Rattle.drafts.specs.Tree.{Tree}
+use Rattle.grammar.specs.declared.faces.Face.TheVariants.{One, Group, Function}
+use Rattle.drafts.specs.Tree.{insw, limit, Tree, value, named, time}
 use Rattle.drafts.specs.Drafts.{draft, drafted}
 use Rattle.grammar.specs.Look.{next, byte_of, add_op, mul_op, FactorStart, Leaf, Paren, Call, NoFactor, factor_start}
+use Rattle.grammar.specs.Look.{Opening, pair, triple}
 use Rattle.grammar.specs.Look.{Start, Constants, Integral, Named, Valued, Header, Ending, Other, start_of}
 use Rattle.grammar.specs.Parser.{Res, by_start, by_name, by_number, by_integral}
-use Rattle.grammar.specs.Codes.{leaf_kind, leaf_arg, face_of}
+use Rattle.grammar.specs.Codes.{want_of, kind_opening, leaf_kind, leaf_arg, face_of}
 use Rattle.grammar.proofs.Clauses.{next_at}
 
 -- the token at place i
@@ -99,11 +101,11 @@ pub leaf_noted : (k a : ℕ) {e : Tree} → factor_start (symbol_of k a) ≡ Lea
 leaf_noted k a q = subst (λ (h : FactorStart). Noted a h) q (noted k a)
 
 -- and of one that opens parentheses its kind
-abbrev Faced : ℕ → Face → Type 0
-Faced k (One n) = (k ≡ 0 → ⊥)
-Faced k Group = k ≡ 40
-Faced k (Function n c) = (k ≡ 0 → ⊥)
-Faced k Nothing = Unit {0}
+abbrev Faced : ℕ → Option Face → Type 0
+Faced k (Some (One n)) = (k ≡ 0 → ⊥)
+Faced k (Some Group) = k ≡ 40
+Faced k (Some (Function n c)) = (k ≡ 0 → ⊥)
+Faced k None = Unit {0}
 
 faced : (k a : ℕ) → Faced k (face_of (factor_start (symbol_of k a)))
 unfolding factor_start
@@ -121,19 +123,43 @@ faced k a =
     go k false e = tt
 
 -- so it does where the face is known
-pub face_noted : (k a : ℕ) {f : Face} → f ≡ face_of (factor_start (symbol_of k a)) → Faced k f
-face_noted k a q = subst (λ (f : Face). Faced k f) (sym q) (faced k a)
+pub face_noted : (k a : ℕ) {f : Option Face} → f ≡ face_of (factor_start (symbol_of k a)) → Faced k f
+face_noted k a q = subst (λ (f : Option Face). Faced k f) (sym q) (faced k a)
+
+-- what a token begins as a factor, behind its face
+abbrev pub Shown : Option Face → FactorStart → Type 0
+Shown (Some (One n)) h = (e : Tree) × (h ≡ Leaf e) × (leaf_kind e ≡ n)
+Shown (Some Group) h = h ≡ Paren
+Shown (Some (Function n c)) h = (p : Opening) × (h ≡ Call p) × (want_of p ≡ n) × (kind_opening p ≡ Some c)
+Shown None h = h ≡ NoFactor
+
+shown : (k a : ℕ) → Shown (face_of (factor_start (symbol_of k a))) (factor_start (symbol_of k a))
+unfolding factor_start
+shown k a =
+    by_kind (λ k. Shown (face_of (factor_start (symbol_of k a))) (factor_start (symbol_of k a))) refl
+    (value (of_bits binary64 a), refl, refl) (named a, refl, refl) refl refl (time, refl, refl)
+    (triple insw, refl, refl, refl) (triple limit, refl, refl, refl) (pair, refl, refl, refl) refl refl
+    (λ k h. rw (high k a h) (go (eqb k 40))) k
+  where
+    go : (t : Bool) → Shown (face_of (cond t Paren NoFactor)) (cond t Paren NoFactor)
+    go true = refl
+    go false = refl
+
+-- where the face is known
+pub as_shown : (k a : ℕ) {f : Option Face} → f ≡ face_of (factor_start (symbol_of k a))
+    → Shown f (factor_start (symbol_of k a))
+as_shown k a q = subst (λ (f : Option Face). Shown f (factor_start (symbol_of k a))) (sym q) (shown k a)
 
 -- and every other kind begins none
 pub no_face : (k a : ℕ) → (k ≡ number_kind → ⊥) → (k ≡ name_kind → ⊥) → (k ≡ word_kind TIME → ⊥) → (k ≡ 40 → ⊥)
     → (k ≡ word_kind INSW → ⊥) → (k ≡ word_kind LIMIT → ⊥) → (k ≡ word_kind COMPAR → ⊥)
-    → Nothing ≡ face_of (factor_start (symbol_of k a))
+    → None ≡ face_of (factor_start (symbol_of k a))
 unfolding factor_start
 no_face k a =
     by_kind
     (λ k. (k ≡ number_kind → ⊥) → (k ≡ name_kind → ⊥) → (k ≡ word_kind TIME → ⊥) → (k ≡ 40 → ⊥)
     → (k ≡ word_kind INSW → ⊥)
-    → (k ≡ word_kind LIMIT → ⊥) → (k ≡ word_kind COMPAR → ⊥) → Nothing ≡ face_of (factor_start (symbol_of k a)))
+    → (k ≡ word_kind LIMIT → ⊥) → (k ≡ word_kind COMPAR → ⊥) → None ≡ face_of (factor_start (symbol_of k a)))
     (λ m₁ m₂ m₅ m₀ m₆ m₇ m₈. refl) (λ m₁ m₂ m₅ m₀ m₆ m₇ m₈. absurd (m₁ refl)) (λ m₁ m₂ m₅ m₀ m₆ m₇ m₈. absurd (m₂ refl))
     (λ m₁ m₂ m₅ m₀ m₆ m₇ m₈. refl) (λ m₁ m₂ m₅ m₀ m₆ m₇ m₈. refl)
     (λ m₁ m₂ m₅ m₀ m₆ m₇ m₈. absurd (m₅ refl)) (λ m₁ m₂ m₅ m₀ m₆ m₇ m₈. absurd (m₆ refl))

@@ -1,5 +1,6 @@
 -- A signed number and an initial, read at a place: what the code finds there, and what is known where it finds it.
 use Prim.Native.Nat.{ℕ, ◌+◌, ◌-◌, ◌≤◌, ◌<◌}
+use Rattle.std.specs.Prelude.{Ok, Err}
 use mathlib.Core.Path.{◌≡◌, refl, sym, ap, ◌∙◌}
 use mathlib.Core.Bool.{Bool, true, false, cond}
 use mathlib.Core.List.{List, []}
@@ -7,15 +8,12 @@ use native.Mathlib.Nat.{add-zero}
 use native.Mathlib.Omega.{arith}
 use borrow.Author.Tests.{ne_eqb}
 use lib.Dec.{eqb}
-use lib.Ieee.{Float, binary64, to_bits, of_bits, neg}
+use lib.Ieee.{Float, binary64, to_bits, of_bits}
 use lib.ListN.{length, get_or, drop, length-drop, length-append}
 use Rattle.tokens.specs.Symbol.{Symbol, mark}
 use Rattle.tokens.specs.Kinds.{number_kind, name_kind}
 use Rattle.tokens.specs.Held.{held_row}
 use Rattle.tokens.proofs.Holding.{held_length}
-use Rattle.grammar.specs.declared.expressions.Part.{Part}
-use Rattle.grammar.specs.declared.forms.Value.{Value}
-use Rattle.grammar.specs.declared.forms.Value.TheVariants.{Found, Missing}
 use Rattle.drafts.specs.Tree.{plus, Initial, plain, from}
 use Rattle.drafts.specs.Kinds.{kind_number, kind_from}
 use Rattle.drafts.specs.Drafts.{Draft, draft, initial_draft}
@@ -25,6 +23,8 @@ use Rattle.grammar.specs.Grammar.{Signed, unsigned_number, signed_number, Initia
 use Rattle.grammar.specs.Parser.{End, got, bad, Res, give, stop, bind, onward, by_name, by_number, behind_sign}
 use Rattle.grammar.specs.Parser.{signed_value, a_number, by_signed_number, initially}
 use Rattle.grammar.specs.Codes.{skip_of}
+use Rattle.grammar.specs.declared.Misread.{Misread}
+use Rattle.grammar.specs.Contract.{Ended, Needs, EndedValue, Found, Missing, ended_value_in}
 use Rattle.grammar.specs.Contract.{Within, parse_outcome, wrote, part_stopped, part_wrote, Meets, value_read}
 use Rattle.grammar.specs.Contract.{number_at, initial_at}
 use Rattle.grammar.proofs.Endings.{clash, Asked, Before, Out, OutEnd}
@@ -37,7 +37,7 @@ use Rattle.grammar.proofs.Ways.{behind_at, sign_at, skip_within}
 -- ---- what is found
 
 -- only a minus negates
-plain_value : (k : ℕ) (x : Float) → (k ≡ 45 → ⊥) → signed_value (add_op (mark k)) x ≡ x
+pub plain_value : (k : ℕ) (x : Float) → (k ≡ 45 → ⊥) → signed_value (add_op (mark k)) x ≡ x
 unfolding byte_of
 plain_value k x n = rw (ne_eqb k 45 n) (go (eqb k 43))
   where
@@ -45,58 +45,50 @@ plain_value k x n = rw (ne_eqb k 45 n) (go (eqb k 43))
     go true = refl
     go false = refl
 
-module _ {ks us : List ℕ} {i k s m : ℕ} (w : Within ks us i) (ek : k ≡ get_or ks i 0)
-    (es : s ≡ skip_of (add_op (mark k))) (em : m ≡ get_or ks (i + s) 0) where
+module _ {ks us : List ℕ} {i k s : ℕ} (w : Within ks us i) (ek : k ≡ get_or ks i 0)
+    (es : s ≡ skip_of (add_op (mark k))) where
   -- the number behind the sign
   behind : by_signed_number (drop i (held_row ks us)) ≡ a_number (add_op (mark k)) (drop (i + s) (held_row ks us))
   unfolding by_signed_number
   behind = rw (sign_at ks us i k w.even ek, es, ← behind_at (held_row ks us) i (add_op (mark k)))
 
-  number_within : i + s ≤ length ks
+  pub number_within : i + s ≤ length ks
   number_within = skip_within ks i k s w.within ek es
 
   -- none: it is missing there
-  pub number_missing : (m ≡ number_kind → ⊥) → Missing (i + s) ≡ number_at ks us i
+  pub number_missing : {m : Misread} → Needs ks (i + s) number_kind (Err m) → ended_value_in (Err m) ≡ number_at ks us i
   number_missing n =
-      let row = held_row ks us in
       rw (
+        n.1,
         behind,
         token_at_holds ks us (i + s) w.even,
-        no_number {A = Float} (get_or ks (i + s) 0) (get_or us (i + s) 0) _ _
-            (λ z. n (em ∙ z)),
+        no_number {A = Float} (get_or ks (i + s) 0) (get_or us (i + s) 0) _ _ n.0,
       )
-      (ap Missing (sym (place_is ks us (i + s) w.even number_within)))
+      (ap (Missing 18) (sym (place_is ks us (i + s) w.even number_within)))
 
   -- one: its bits
-  pub number_inside : m ≡ number_kind → i + s < length ks
-  number_inside e = stands ks (i + s) λ z. let y : m ≡ 0 = em ∙ z in omega arith
+  module _ {j : ℕ} (n : Needs ks (i + s) number_kind (Ok j)) where
+    pub number_inside : i + s < length ks
+    number_inside = stands ks (i + s) λ z. let y = n.0 in omega arith
 
-  found : (b : ℕ) → m ≡ number_kind
-      → b ≡ to_bits binary64 (signed_value (add_op (mark k)) (of_bits binary64 (get_or us (i + s) 0)))
-      → Found kind_number b (i + s + 1) ≡ number_at ks us i
-  found b e h =
-      let row = held_row ks us in
-      let a = number_inside e in
-      let n = place_is ks us (i + s + 1) w.even (omega arith) in
-      rw (
-        behind,
-        token_at_holds ks us (i + s) w.even,
-        is_number {A = Float} (get_or ks (i + s) 0) (get_or us (i + s) 0) _ _ (sym em ∙ e),
-        rest_at row (i + s),
-        n,
-        h,
-      )
-
-  pub number_plain : {b : ℕ} {x : Float} → m ≡ number_kind → (k ≡ 45 → ⊥) → x ≡ of_bits binary64 (get_or us (i + s) 0)
-      → b ≡ to_bits binary64 x
-      → Found kind_number b (i + s + 1) ≡ number_at ks us i
-  number_plain {b} {x} e n ex eb = found b e (eb ∙ ap (to_bits binary64) (ex ∙ sym (plain_value k _ n)))
-
-  pub number_minus : {b : ℕ} {x : Float} → m ≡ number_kind → k ≡ 45 → x ≡ of_bits binary64 (get_or us (i + s) 0)
-      → b ≡ to_bits binary64 (neg x)
-      → Found kind_number b (i + s + 1) ≡ number_at ks us i
-  unfolding byte_of
-  number_minus {b} {x} e z ex eb = found b e (rw z (eb ∙ ap (λ (y : Float). to_bits binary64 (neg y)) ex))
+    pub number_there : {b : ℕ} {x y : Float} → x ≡ of_bits binary64 (get_or us (i + s) 0)
+        → y ≡ signed_value (add_op (mark k)) x
+        → b ≡ to_bits binary64 y → Found kind_number b j ≡ number_at ks us i
+    number_there ex ey eb =
+        let row = held_row ks us in
+        let a = number_inside in
+        let p = place_is ks us (i + s + 1) w.even (omega arith) in
+        rw (
+          n.1,
+          behind,
+          token_at_holds ks us (i + s) w.even,
+          is_number {A = Float} (get_or ks (i + s) 0) (get_or us (i + s) 0) _ _ n.0,
+          rest_at row (i + s),
+          p,
+          eb,
+          ey,
+          ex,
+        )
 
 module _ {ks us : List ℕ} {i m : ℕ} (w : Within ks us i) (em : m ≡ get_or ks i 0) where
   -- an initial that is a name
@@ -116,7 +108,7 @@ module _ {ks us : List ℕ} {i m : ℕ} (w : Within ks us i) (em : m ≡ get_or 
       )
 
   -- or a number
-  pub initial_number : {r : Value} → (m ≡ name_kind → ⊥) → r ≡ number_at ks us i → r ≡ initial_at ks us i
+  pub initial_number : {r : EndedValue} → (m ≡ name_kind → ⊥) → r ≡ number_at ks us i → r ≡ initial_at ks us i
   unfolding initially bind
   initial_number n h =
       rw (token_at_holds ks us i w.even, no_name {A = Initial} (get_or ks i 0) (get_or us i 0) _ _ (λ z. n (em ∙ z)))
@@ -129,14 +121,9 @@ module _ {ks us : List ℕ} {i m : ℕ} (w : Within ks us i) (em : m ≡ get_or 
 
 -- ---- what is known where a value is found, or missing
 
--- nothing is written, and every fault is one of the grammar
-abbrev Grammar : {A : Type 0} → End A → Type 0
-Grammar (got e t) = Unit {0}
-Grammar (bad c t) = c ≡ 18
-
+-- nothing is written
 record Quiet {A : Type 0} (x : Res A) : Type 0 where
   silent : x.out ≡ []
-  faults : Grammar x.end
 
 quiet_signed : (s : List Symbol) → Quiet (by_signed_number s)
 unfolding by_signed_number
@@ -145,21 +132,21 @@ quiet_signed s =
   where
     go : (o : Op) (s : List Symbol) (p : Start)
         → Quiet (by_number p (λ x. give (signed_value o x) (rest s)) (λ _. stop 18 s))
-    go o s Constants = record { silent = refl; faults = refl }
-    go o s Integral = record { silent = refl; faults = refl }
-    go o s (Named k) = record { silent = refl; faults = refl }
-    go o s (Valued x) = record { silent = refl; faults = tt }
-    go o s Header = record { silent = refl; faults = refl }
-    go o s Ending = record { silent = refl; faults = refl }
-    go o s Other = record { silent = refl; faults = refl }
+    go o s Constants = record { silent = refl }
+    go o s Integral = record { silent = refl }
+    go o s (Named k) = record { silent = refl }
+    go o s (Valued x) = record { silent = refl }
+    go o s Header = record { silent = refl }
+    go o s Ending = record { silent = refl }
+    go o s Other = record { silent = refl }
 
 quiet_plain : (x : Res Float) → Quiet x → Quiet (bind x λ v t. give (plain v) t)
 unfolding bind
-quiet_plain x q = go x.out x.end q.silent q.faults
+quiet_plain x q = go x.out x.end q.silent
   where
-    go : (o : List Draft) (t : End Float) → o ≡ [] → Grammar t → Quiet (onward o t λ v t. give (plain v) t)
-    go o (got e t) s f = record { silent = rw s; faults = tt }
-    go o (bad c t) s f = record { silent = s; faults = f }
+    go : (o : List Draft) (t : End Float) → o ≡ [] → Quiet (onward o t λ v t. give (plain v) t)
+    go o (got e t) s = record { silent = rw s }
+    go o (bad c t) s = record { silent = s }
 
 quiet_initially : (s : List Symbol) → Quiet (initially s)
 unfolding initially
@@ -172,7 +159,7 @@ quiet_initially s = go (start_of (next s))
         → Quiet (by_name p (λ k. give (from k) (rest s)) (λ _. bind (by_signed_number s) λ v t. give (plain v) t))
     go Constants = given
     go Integral = given
-    go (Named k) = record { silent = refl; faults = tt }
+    go (Named k) = record { silent = refl }
     go (Valued x) = given
     go Header = given
     go Ending = given
@@ -231,20 +218,19 @@ module _ {A : Type 0} (f : A → Draft) (x : List Symbol → Res A) {L : Asked A
       go (bad c t) s r h = clash (cc)
 
   -- missing: both stop
-  missing_at : {B : Type 0} {j p : ℕ} {l u : List ℕ} (k : A → List Symbol → Res B)
-      → Missing j ≡ value_read f (length ks) (x (drop i (held_row ks us))).end
-      → Meets ks us (λ s. bind (x s) k) i p l u (part_stopped 18 j) l u
+  missing_at : {B : Type 0} {c j p : ℕ} {l u : List ℕ} (k : A → List Symbol → Res B)
+      → Missing c j ≡ value_read f (length ks) (x (drop i (held_row ks us))).end
+      → Meets ks us (λ s. bind (x s) k) i p l u (part_stopped c j) l u
   unfolding bind wrote
-  missing_at {j = j} {p = p} {l = l} {u = u} k h =
+  missing_at {c = c} {j = j} {p = p} {l = l} {u = u} k h =
       record {
-        same = go (x (drop i (held_row ks us))).out (x (drop i (held_row ks us))).end quiet.silent
-            quiet.faults h;
+        same = go (x (drop i (held_row ks us))).out (x (drop i (held_row ks us))).end quiet.silent h;
       }
     where
-      go : (o : List Draft) (t : End A) → o ≡ [] → Grammar t → Missing j ≡ value_read f (length ks) t
-          → parse_outcome (part_stopped 18 j) l u ≡ part_wrote (length ks) (onward o t k) p l u
-      go o (got e t) s g h = clash (cc)
-      go o (bad c t) s g h = let m : j ≡ length ks - length t = cc in rw (s, g, m)
+      go : (o : List Draft) (t : End A) → o ≡ [] → Missing c j ≡ value_read f (length ks) t
+          → parse_outcome (part_stopped c j) l u ≡ part_wrote (length ks) (onward o t k) p l u
+      go o (got e t) s h = clash (cc)
+      go o (bad d t) s h = let m : j ≡ length ks - length t = cc in let n : c ≡ d = cc in rw (s, n, m)
 
 module _ {ks us : List ℕ} {i : ℕ} (w : Within ks us i) where
   pub number_found : {k a j : ℕ} → Found k a j ≡ number_at ks us i
@@ -259,24 +245,24 @@ module _ {ks us : List ℕ} {i : ℕ} (w : Within ks us i) where
       let s = drop i (held_row ks us) in
       valued_at initial_draft initially (λ o v x r. initially_size r.0) w (initially_out 0 s) (quiet_initially s) h
 
-  pub number_stops : {B : Type 0} {j p : ℕ} {l u : List ℕ} (k : Float → List Symbol → Res B)
-      → Missing j ≡ number_at ks us i
-      → Meets ks us (λ s. bind (by_signed_number s) k) i p l u (part_stopped 18 j) l u
+  pub number_stops : {B : Type 0} {c j p : ℕ} {l u : List ℕ} (k : Float → List Symbol → Res B)
+      → Missing c j ≡ number_at ks us i
+      → Meets ks us (λ s. bind (by_signed_number s) k) i p l u (part_stopped c j) l u
   number_stops k h =
       let s = drop i (held_row ks us) in
       missing_at (λ x. draft kind_number (to_bits binary64 x)) by_signed_number (λ o v x r. signed_size r.0) w
       (signed_out 0 s) (quiet_signed s) k h
 
-  pub initial_stops : {B : Type 0} {j p : ℕ} {l u : List ℕ} (k : Initial → List Symbol → Res B)
-      → Missing j ≡ initial_at ks us i
-      → Meets ks us (λ s. bind (initially s) k) i p l u (part_stopped 18 j) l u
+  pub initial_stops : {B : Type 0} {c j p : ℕ} {l u : List ℕ} (k : Initial → List Symbol → Res B)
+      → Missing c j ≡ initial_at ks us i
+      → Meets ks us (λ s. bind (initially s) k) i p l u (part_stopped c j) l u
   initial_stops k h =
       let s = drop i (held_row ks us) in
       missing_at initial_draft initially (λ o v x r. initially_size r.0) w (initially_out 0 s) (quiet_initially s) k h
 
 -- found: what follows goes on from there
 pub value_then : {A B : Type 0} {f : A → Draft} {x : List Symbol → Res A} {ks us : List ℕ} {i k a j p : ℕ}
-    {l u : List ℕ} {r : Part} {l₁ u₁ : List ℕ}
+    {l u : List ℕ} {r : Ended} {l₁ u₁ : List ℕ}
     (c : A → List Symbol → Res B) (v : ValuedAt f x ks us i k a j) → Meets ks us (c v.what) j p l u r l₁ u₁
     → Meets ks us (λ s. bind (x s) c) i p l u r l₁ u₁
 value_then {x = x} {ks = ks} {us = us} {i = i} {j = j} {p = p} {l = l} {u = u} c v h =

@@ -1,7 +1,8 @@
 -- A rule for each way through each function of the cycle: what its calls ask, and what it gives by what they give. In
 -- all of them i is the token's place, p that of the next draft, l and u are the buffers, and t is the measure at the
 -- entry.
-use Prim.Native.Nat.{ℕ, ◌+◌, ◌-◌, ◌*◌, ◌≤◌, ◌<◌}
+use Prim.Native.Nat.{ℕ, ◌+◌, ◌-◌, ◌≤◌, ◌<◌}
+use Rattle.std.specs.Prelude.{Option, Some, None}
 use mathlib.Core.Path.{◌≡◌, refl, sym, ap, ◌∙◌}
 use mathlib.Core.Bool.{Bool, true, false, cond}
 use mathlib.Core.List.{List, [], ◌∷◌}
@@ -14,8 +15,7 @@ use lib.Seq.{length-sets}
 use Rattle.tokens.specs.Symbol.{Symbol, mark}
 use Rattle.tokens.specs.Held.{symbol_of, held_row}
 use Rattle.tokens.proofs.Holding.{held_length}
-use Rattle.grammar.specs.declared.expressions.Part.{Part}
-use Rattle.drafts.specs.Tree.{Two, plus, minus, times, over, compar, Tree, time, two}
+use Rattle.drafts.specs.Tree.{Two, plus, Tree, time, two}
 use Rattle.drafts.specs.Kinds.{kind_two}
 use Rattle.drafts.specs.Kinds.{kind_negate}
 use Rattle.drafts.specs.Drafts.{Draft, draft}
@@ -23,6 +23,7 @@ use Rattle.grammar.specs.Look.{next, rest, byte_of, Op, none, op, add_op, mul_op
 use Rattle.grammar.specs.Grammar.{Mode, expr, term, factor, terms, factors}
 use Rattle.grammar.specs.Parser.{Res, give, tell, bind, by_op, behind_sign, sign_drafts, reads}
 use Rattle.grammar.specs.Codes.{kind_op, skip_of}
+use Rattle.grammar.specs.Contract.{Ended}
 use Rattle.grammar.specs.Contract.{op_drafts, PutsOp, Ready, part_done, Meets, Parses}
 use Rattle.grammar.proofs.Endings.{clash}
 use Rattle.grammar.proofs.Clauses.{rest_at, reads_expr, reads_terms, reads_term, reads_factors}
@@ -40,16 +41,16 @@ pub record After (n i p : ℕ) (l u : List ℕ) (j q : ℕ) (l₁ u₁ : List �
   pub long_kinds : length l₁ ≡ length l
   pub long_args : length u₁ ≡ length u
 
-module _ {ks us : List ℕ} {i p j q : ℕ} {l u : List ℕ} {r : Part} {l₁ u₁ : List ℕ} where
+module _ {ks us : List ℕ} {i p j q : ℕ} {l u l₁ u₁ : List ℕ} where
   -- of each reader that fits
-  pub after_fits : {A : Type 0} {x : List Symbol → Res A} → Ready ks us i p l u → r ≡ part_done j q
-      → Fits (drop i (held_row ks us)) 0 0 (x (drop i (held_row ks us))) → Meets ks us x i p l u r l₁ u₁
-      → After (length ks) i p l u j q l₁ u₁
-  after_fits {x = x} w e f h =
+  pub after_fits : {A : Type 0} {x : List Symbol → Res A} → Ready ks us i p l u
+      → Fits (drop i (held_row ks us)) 0 0 (x (drop i (held_row ks us)))
+      → Meets ks us x i p l u (part_done j q) l₁ u₁ → After (length ks) i p l u j q l₁ u₁
+  after_fits {x = x} w f h =
       let row = held_row ks us in
       let n = held_length ks us w.even in
       let a = w.within in
-      let z = went row (x (drop i row)) i p l u j q l₁ u₁ (omega arith) f (rw (e, ← n) at h.same) in
+      let z = went row (x (drop i row)) i p l u j q l₁ u₁ (omega arith) f (rw (← n) at h.same) in
       let b = z.inside in
       record {
         on = z.on;
@@ -60,21 +61,21 @@ module _ {ks us : List ℕ} {i p j q : ℕ} {l u : List ℕ} {r : Part} {l₁ u�
       }
 
   -- of a member of the cycle
-  pub after : {m : Mode} {d : ℕ} → Ready ks us i p l u → r ≡ part_done j q → Parses ks us m d i p l u r l₁ u₁
+  pub after : {m : Mode} {d : ℕ} → Ready ks us i p l u → Parses ks us m d i p l u (part_done j q) l₁ u₁
       → After (length ks) i p l u j q l₁ u₁
-  after {m} {d} w e h = after_fits w e (reads_fits m d (drop i (held_row ks us))) h.meets
+  after {m} {d} w h = after_fits w (reads_fits m d (drop i (held_row ks us))) h.meets
 
 module _ {B : Type 0} {ks us : List ℕ} {m : Mode} {d i p : ℕ} {l u : List ℕ} (k : Tree → List Symbol → Res B) where
   -- a part that stops stops the whole
-  pub stops : {r : Part} {l₁ u₁ : List ℕ} → (r.code ≡ 0 → ⊥) → Parses ks us m d i p l u r l₁ u₁
+  pub stops : {r : Ended} {l₁ u₁ : List ℕ} → (r.code ≡ 0 → ⊥) → Parses ks us m d i p l u r l₁ u₁
       → Meets ks us (λ s. bind (reads m d s) k) i p l u r l₁ u₁
   stops e h = meets_bad k e h.meets
 
   -- what follows a part goes on from where it ends
-  pub goes_on : {j q : ℕ} {r r₁ : Part} {l₁ u₁ l₂ u₂ : List ℕ} → Ready ks us i p l u → r₁ ≡ part_done j q
-      → Parses ks us m d i p l u r₁ l₁ u₁
+  pub goes_on : {j q : ℕ} {r : Ended} {l₁ u₁ l₂ u₂ : List ℕ} → Ready ks us i p l u
+      → Parses ks us m d i p l u (part_done j q) l₁ u₁
       → ((e : Tree) → Meets ks us (k e) j q l₁ u₁ r l₂ u₂) → Meets ks us (λ s. bind (reads m d s) k) i p l u r l₂ u₂
-  goes_on w e h g = meets_bind k (reads_fits m d (drop i (held_row ks us))) w.even w.within e h.meets λ x _. g x
+  goes_on w h g = meets_bind k (reads_fits m d (drop i (held_row ks us))) w.even w.within h.meets λ x _. g x
 
 -- ---- the sign of an expression
 
@@ -151,64 +152,52 @@ unfolding byte_of
 factors_chain = record { clause = reads_factors; seen = mul_seen; bare = refl }
 
 -- none, or one with its draft's kind
-no_op : (o : Op) → kind_op o ≡ 0 → o ≡ none
+no_op : (o : Op) → None ≡ kind_op o → o ≡ none
 no_op none h = refl
-no_op (op plus) h = absurd (omega arith)
-no_op (op minus) h = absurd (omega arith)
-no_op (op times) h = absurd (omega arith)
-no_op (op over) h = absurd (omega arith)
-no_op (op compar) h = absurd (omega arith)
+no_op (op n) h = clash (cc)
 
-some_op : (o : Op) → (kind_op o ≡ 0 → ⊥) → (n : Two) × (o ≡ op n)
-some_op none h = absurd (h refl)
-some_op (op n) h = (n, refl)
-
--- the draft of an operator
-op_draft : (k : ℕ) → (k ≡ 0 → ⊥) → op_drafts k ≡ draft k 0 ∷ []
-op_draft k n = rw (ne_eqb k 0 n)
-
-pub op_place : {p n : ℕ} (k : ℕ) → (k ≡ 0 → ⊥) → p + length (op_drafts k) ≤ n → p < n
-op_place k z h = let e : length (op_drafts k) ≡ 1 = ap length (op_draft k z) in omega arith
+some_op : (o : Op) {k : ℕ} → Some k ≡ kind_op o → (n : Two) × (o ≡ op n) × (k ≡ kind_two n)
+some_op none h = clash (cc)
+some_op (op n) h = (n, refl, cc)
 
 module _ {look : Symbol → Op} {part : Mode} {chain : Tree → Mode}
-    (c : Chain look part chain) {ks us : List ℕ} {i p k o : ℕ} {l u : List ℕ}
-    (w : Ready ks us i p l u) (ek : k ≡ get_or ks i 0) (eo : o ≡ kind_op (look (mark k))) where
+    (c : Chain look part chain) {ks us : List ℕ} {i p k : ℕ} {l u : List ℕ}
+    (w : Ready ks us i p l u) (ek : k ≡ get_or ks i 0) where
   -- the look at the token
   look_at : look (next (drop i (held_row ks us))) ≡ look (mark k)
   look_at = ap look (token_at_holds ks us i w.even) ∙ c.seen (get_or ks i 0) (get_or us i 0)
       ∙ ap (λ (x : ℕ). look (mark x)) (sym ek)
 
   -- no operator: it ends
-  chain_end : {d : ℕ} → o ≡ 0 → (x : Tree) → Parses ks us (chain x) d i p l u (part_done i p) l u
+  chain_end : {d : ℕ} → None ≡ kind_op (look (mark k)) → (x : Tree)
+      → Parses ks us (chain x) d i p l u (part_done i p) l u
   chain_end {d} z x =
       let row = held_row ks us in
-      let n = look_at ∙ no_op (look (mark k)) (sym eo ∙ z) in
+      let n = look_at ∙ no_op (look (mark k)) z in
       record {
         meets = meets_by (reads (chain x) d) (c.clause d (drop i row) x ∙ rw n)
             (meets_give w.even w.within x);
       }
 
-  module _ (z : o ≡ 0 → ⊥) where
+  module _ {o : ℕ} (z : Some o ≡ kind_op (look (mark k))) where
     -- it is an operator
-    found : (n : Two) × (look (mark k) ≡ op n)
-    found = some_op (look (mark k)) λ e. z (eo ∙ e)
+    found : (n : Two) × (look (mark k) ≡ op n) × (o ≡ kind_two n)
+    found = some_op (look (mark k)) z
 
     chain_inside : i < length ks
     chain_inside = op_stands look ks i k ek c.bare found.1
 
     -- a part behind it goes on
-    chain_by : {d : ℕ} {r : Part} {l₁ u₁ : List ℕ} (x : Tree)
-        → Meets ks us (λ s. bind (reads part d s) (chain_then d chain (op_drafts o) (two found.0 x)))
+    chain_by : {d : ℕ} {r : Ended} {l₁ u₁ : List ℕ} (x : Tree)
+        → Meets ks us (λ s. bind (reads part d s) (chain_then d chain (op_drafts (Some o)) (two found.0 x)))
         (i + 1) p l u r l₁ u₁
         → Parses ks us (chain x) d i p l u r l₁ u₁
     chain_by {d} {r} {l₁} {u₁} x h =
         let row = held_row ks us in
         let n = found.0 in
-        let f : op_drafts o ≡ draft (kind_two n) 0 ∷ [] =
-        op_draft o z ∙ ap (λ (y : ℕ). draft y 0 ∷ []) (eo ∙ ap kind_op found.1) in
         let y : List Symbol → Res Tree =
         λ s. bind (reads part d s) (chain_then d chain (draft (kind_two n) 0 ∷ []) (two n x)) in
-        let g : Meets ks us y (i + 1) p l u r l₁ u₁ = rw (← f) h in
+        let g : Meets ks us y (i + 1) p l u r l₁ u₁ = rw (← found.2) h in
         record {
           meets = meets_by (reads (chain x) d) (c.clause d (drop i row) x ∙ rw (look_at ∙ found.1))
               (meets_rest g);
@@ -218,32 +207,28 @@ module _ {look : Symbol → Op} {part : Mode} {chain : Tree → Mode}
 
 -- Of the whole, begun in the mode m at token i and draft p, the part at token j is next; behind it stands the draft of
 -- the operator o. What the rest gives, the whole gives.
-pub record Going (ks us : List ℕ) (m part : Mode) (chain : Tree → Mode) (d i p : ℕ) (l u : List ℕ) (o j q : ℕ)
-    (l₁ u₁ : List ℕ) : Type 0 where
+pub record Going (ks us : List ℕ) (m part : Mode) (chain : Tree → Mode) (d i p : ℕ) (l u : List ℕ) (o : Option ℕ)
+    (j q : ℕ) (l₁ u₁ : List ℕ) : Type 0 where
   pub on : i ≤ j
-  pub long_kinds : length l₁ ≡ length l
-  pub long_args : length u₁ ≡ length u
   pub ready : Ready ks us j (q + length (op_drafts o)) l₁ u₁
   pub joins : Tree → Tree → Tree
-  pub onward : {r : Part} {l₂ u₂ : List ℕ}
+  pub onward : {r : Ended} {l₂ u₂ : List ℕ}
       → ((x : Tree) → Meets ks us (λ s. bind (reads part d s) (chain_then d chain (op_drafts o) (joins x))) j q l₁ u₁ r
       l₂ u₂)
       → Parses ks us m d i p l u r l₂ u₂
 
-abbrev pub GoingTerms : List ℕ → List ℕ → ℕ → ℕ → ℕ → List ℕ → List ℕ → ℕ → ℕ → ℕ → List ℕ → List ℕ → Type 0
+abbrev pub GoingTerms : List ℕ → List ℕ → ℕ → ℕ → ℕ → List ℕ → List ℕ → Option ℕ → ℕ → ℕ → List ℕ → List ℕ → Type 0
 GoingTerms ks us = Going ks us expr term terms
 
-abbrev pub GoingFactors : List ℕ → List ℕ → ℕ → ℕ → ℕ → List ℕ → List ℕ → ℕ → ℕ → ℕ → List ℕ → List ℕ → Type 0
+abbrev pub GoingFactors : List ℕ → List ℕ → ℕ → ℕ → ℕ → List ℕ → List ℕ → Option ℕ → ℕ → ℕ → List ℕ → List ℕ → Type 0
 GoingFactors ks us = Going ks us term factor factors
 
 -- a term begins with its first factor
 pub term_first : {ks us : List ℕ} {d i p : ℕ} {l u : List ℕ} → Ready ks us i p l u
-    → Going ks us term factor factors d i p l u 0 i p l u
+    → Going ks us term factor factors d i p l u None i p l u
 term_first {ks} {us} {d} {i} w =
     record {
       on = omega arith;
-      long_kinds = refl;
-      long_args = refl;
       ready =
           record {
             even = w.even;
@@ -255,7 +240,7 @@ term_first {ks} {us} {d} {i} w =
       onward = λ g. record { meets = meets_by (reads term d) (reads_term d (drop i (held_row ks us))) (g time) };
     }
 
-module _ {ks us : List ℕ} {i p k s : ℕ} {l u : List ℕ} (o : ℕ) (w : Ready ks us i p l u) (ek : k ≡ get_or ks i 0)
+module _ {ks us : List ℕ} {i p k s : ℕ} {l u : List ℕ} (o : Option ℕ) (w : Ready ks us i p l u) (ek : k ≡ get_or ks i 0)
     (eo : op_drafts o ≡ sign_drafts (add_op (mark k)))
     (es : s ≡ skip_of (add_op (mark k))) where
   -- the reading behind the sign
@@ -273,8 +258,6 @@ module _ {ks us : List ℕ} {i p k s : ℕ} {l u : List ℕ} (o : ℕ) (w : Read
       let a : length (op_drafts o) ≤ s = rw (eo, es) (sign_pays (add_op (mark k))) in
       record {
         on = omega arith;
-        long_kinds = refl;
-        long_args = refl;
         ready =
             record {
               even = w.even;
@@ -286,8 +269,8 @@ module _ {ks us : List ℕ} {i p k s : ℕ} {l u : List ℕ} (o : ℕ) (w : Read
         onward = λ g. record { meets = meets_by (reads expr d) (signed_at d) (g time) };
       }
 
-module _ {ks us : List ℕ} {m part : Mode} {chain : Tree → Mode} {d i p : ℕ} {l u : List ℕ} {o j q : ℕ} {l₁ u₁ : List ℕ}
-    (z : Going ks us m part chain d i p l u o j q l₁ u₁) where
+module _ {ks us : List ℕ} {m part : Mode} {chain : Tree → Mode} {d i p : ℕ} {l u : List ℕ} {o : Option ℕ}
+    {j q : ℕ} {l₁ u₁ : List ℕ} (z : Going ks us m part chain d i p l u o j q l₁ u₁) where
   part_ready : Ready ks us j q l₁ u₁
   part_ready =
       let w = z.ready in
@@ -298,78 +281,68 @@ module _ {ks us : List ℕ} {m part : Mode} {chain : Tree → Mode} {d i p : ℕ
         room_args = omega (arith, w.room_args);
       }
 
-  -- the part can be called; t is the measure of the whole
-  pub part_enter : {t : ℕ} (g : ℕ) → g + 1 + 5 * (length ks - i) ≡ t
-      → (g + 5 * (length ks - j) < t) × Ready ks us j q l₁ u₁
-  part_enter g h = let a = z.on in (omega arith, part_ready)
-
   -- a part that stops stops the whole
-  pub part_stopped : {r : Part} {l₂ u₂ : List ℕ} → (r.code ≡ 0 → ⊥) → Parses ks us part d j q l₁ u₁ r l₂ u₂
+  pub part_stopped : {r : Ended} {l₂ u₂ : List ℕ} → (r.code ≡ 0 → ⊥) → Parses ks us part d j q l₁ u₁ r l₂ u₂
       → Parses ks us m d i p l u r l₂ u₂
   part_stopped e h = z.onward λ x. stops (chain_then d chain (op_drafts o) (z.joins x)) e h
 
-  module _ {j₁ q₁ : ℕ} {r : Part} {l₂ u₂ : List ℕ} (e : r ≡ part_done j₁ q₁)
-      (h : Parses ks us part d j q l₁ u₁ r l₂ u₂) where
+  module _ {j₁ q₁ : ℕ} {l₂ u₂ : List ℕ} (h : Parses ks us part d j q l₁ u₁ (part_done j₁ q₁) l₂ u₂) where
     -- there is room for the operator's draft
     pub op_room : (q₁ + length (op_drafts o) ≤ length l₂) × (q₁ + length (op_drafts o) ≤ length u₂)
     op_room =
-        let a = after part_ready e h in
+        let a = after part_ready h in
         let w = z.ready in
         (omega (arith, w.room_kinds), omega (arith, w.room_args))
 
     module _ {q₂ : ℕ} {l₃ u₃ : List ℕ} (w : PutsOp o q₁ l₂ u₂ q₂ l₃ u₃) where
-      op_long : (length l₃ ≡ length l) × (length u₃ ≡ length u)
+      op_long : (length l₃ ≡ length l₁) × (length u₃ ≡ length u₁)
       op_long =
-          let a = after part_ready e h in
+          let a = after part_ready h in
           let x : length l₃ ≡ length l₂ = ap length w.kinds ∙ simp length-sets in
           let y : length u₃ ≡ length u₂ = ap length w.args ∙ simp length-sets in
-          (x ∙ a.long_kinds ∙ z.long_kinds, y ∙ a.long_args ∙ z.long_args)
+          (x ∙ a.long_kinds, y ∙ a.long_args)
 
       op_ready : Ready ks us j₁ q₂ l₃ u₃
       op_ready =
-          let a = after part_ready e h in
+          let a = after part_ready h in
           let b = z.ready in
           let x = op_long in
           let n = w.place in
           record {
             even = b.even;
             within = a.inside;
-            room_kinds = omega (arith, b.room_kinds, z.long_kinds);
-            room_args = omega (arith, b.room_args, z.long_args);
+            room_kinds = omega (arith, b.room_kinds);
+            room_args = omega (arith, b.room_args);
           }
 
       -- what the chain gives from there on, the whole gives
-      op_whole : {r : Part} {l₄ u₄ : List ℕ} → ((x : Tree) → Parses ks us (chain x) d j₁ q₂ l₃ u₃ r l₄ u₄)
+      op_whole : {r : Ended} {l₄ u₄ : List ℕ} → ((x : Tree) → Parses ks us (chain x) d j₁ q₂ l₃ u₃ r l₄ u₄)
           → Parses ks us m d i p l u r l₄ u₄
       op_whole g =
-          z.onward λ x. goes_on (chain_then d chain (op_drafts o) (z.joins x)) part_ready e h λ y. meets_op w
+          z.onward λ x. goes_on (chain_then d chain (op_drafts o) (z.joins x)) part_ready h λ y. meets_op w
           (g (z.joins x y)).meets
 
-      module _ {look : Symbol → Op} (c : Chain look part chain) {k o₁ : ℕ} (ek : k ≡ get_or ks j₁ 0)
-          (eo : o₁ ≡ kind_op (look (mark k))) where
+      module _ {look : Symbol → Op} (c : Chain look part chain) {k : ℕ} (ek : k ≡ get_or ks j₁ 0) where
         -- no operator: the whole ends
-        pub part_last : o₁ ≡ 0 → Parses ks us m d i p l u (part_done j₁ q₂) l₃ u₃
-        part_last n = op_whole λ x. chain_end c op_ready ek eo n x
+        pub part_last : None ≡ kind_op (look (mark k)) → Parses ks us m d i p l u (part_done j₁ q₂) l₃ u₃
+        part_last n = op_whole λ x. chain_end c op_ready ek n x
 
-        module _ (n : o₁ ≡ 0 → ⊥) where
+        module _ {o₁ : ℕ} (n : Some o₁ ≡ kind_op (look (mark k))) where
           pub part_inside : j₁ < length ks
-          part_inside = chain_inside c op_ready ek eo n
+          part_inside = chain_inside c op_ready ek n
 
           pub part_less : length ks - (j₁ + 1) < length ks - j
-          part_less = let a = after part_ready e h in let b = part_inside in omega arith
+          part_less = let a = after part_ready h in let b = part_inside in omega arith
 
           -- another part is next
-          pub part_again : Going ks us m part chain d i p l u o₁ (j₁ + 1) q₂ l₃ u₃
+          pub part_again : Going ks us m part chain d i p l u (Some o₁) (j₁ + 1) q₂ l₃ u₃
           part_again =
-              let a = after part_ready e h in
+              let a = after part_ready h in
               let b = part_inside in
               let s = z.on in
               let v = op_ready in
-              let f : length (op_drafts o₁) ≡ 1 = ap length (op_draft o₁ n) in
               record {
                 on = omega arith;
-                long_kinds = op_long.0;
-                long_args = op_long.1;
                 ready =
                     record {
                       even = v.even;
@@ -377,6 +350,6 @@ module _ {ks us : List ℕ} {m part : Mode} {chain : Tree → Mode} {d i p : ℕ
                       room_kinds = omega (arith, v.room_kinds);
                       room_args = omega (arith, v.room_args);
                     };
-                joins = two (found c op_ready ek eo n).0;
-                onward = λ g. op_whole λ x. chain_by c op_ready ek eo n x (g x);
+                joins = two (found c op_ready ek n).0;
+                onward = λ g. op_whole λ x. chain_by c op_ready ek n x (g x);
               }

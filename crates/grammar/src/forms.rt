@@ -1,376 +1,189 @@
 // Statements: constants, assignments, states, and the header and the end of a block, by their first tokens.
 ghost use Rattle.std.specs.Prelude.{◌≡◌, ℕ, ◌+◌, List};
 ghost use Rattle.limits.specs.Limits.{levels};
-ghost use Rattle.tokens.specs.Held.{held_row};
+ghost use Rattle.tokens.specs.Symbol.{mark};
 ghost use Rattle.drafts.specs.Tree.{Initial};
-ghost use Rattle.grammar.specs.Parser.{assigned, rated, integrated, with_inputs, headed, statement, calls};
-ghost use Rattle.grammar.specs.Contract.{Ready, Within, Meets, ParsesMany, ParsesNames, number_at, initial_at};
+ghost use Rattle.grammar.specs.Look.{add_op};
+ghost use Rattle.grammar.specs.Parser.{assigned, rated, integrated, with_inputs, headed, statement};
+ghost use Rattle.grammar.specs.Parser.{signed_value};
+ghost use Rattle.grammar.specs.Contract.{Ready, ReadyAt, Within, SameBuffers, Reads, ReadsMany, ReadsNames};
+ghost use Rattle.grammar.specs.Contract.{calls_for, number_at, initial_at, ended_value_in};
 
-use super::expressions::{Part, emit, expression};
+use super::Misread;
+use super::expressions::expression;
 use super::faces::skip_of;
-use bits::reads::byte_at;
+use super::output::Output;
+use super::row::Row;
+use faults::Fault;
 
-// A constant's or an initial's value as a draft, with the place of the next token; or the place where it is missing.
-#[derive(Drop)]
-pub enum Value {
-    Found { kind: u8, arg: u64, next: usize },
-    Missing { at: usize },
+// A constant's or an initial's value as a draft, and the place of the next token.
+#[derive(Clone, Copy)]
+pub struct Value {
+    pub kind: u8,
+    pub arg: u64,
+    pub next: usize,
+}
+
+// A value behind its sign: a minus negates it.
+fn signed(k: u8, x: f64) -> f64
+    ensures { result ≡ signed_value (add_op (mark k)) x }
+{
+    if k == b'-' { -x } else { x }
 }
 
 // A number with or without a sign; a minus negates it.
-pub(crate) fn signed_number(kinds: &[u8], args: &[u64], at: usize) -> Value
-    requires { Within kinds.now args.now at }
-    ensures { result ≡ number_at kinds.now args.now at }
+pub(crate) fn signed_number(row: &Row, at: usize) -> Result<Value, Misread>
+    requires { Within row.now.kinds.now row.now.args.now at }
+    ensures { ended_value_in result ≡ number_at row.now.kinds.now row.now.args.now at }
 {
-    let k = byte_at(kinds, at);
+    let k = row.kind(at);
     let start = at + skip_of(k);
-    if byte_at(kinds, start) != tokens::NUMBER {
-        return Value::Missing { at: start };
-    }
-    let x = bits::float_of(args[start]);
-    if k == b'-' {
-        return Value::Found {
-            kind: drafts::NUMBER,
-            arg: bits::bits_of(-x),
-            next: start + 1,
-        };
-    }
-    Value::Found {
+    let next = row.need(start, tokens::NUMBER)?;
+    let x = signed(k, bits::float_of(row.args[start]));
+    Ok(Value {
         kind: drafts::NUMBER,
         arg: bits::bits_of(x),
-        next: start + 1,
-    }
+        next,
+    })
 }
 
 // An initial: a name, or a number with or without a sign.
-pub(crate) fn initial(kinds: &[u8], args: &[u64], at: usize) -> Value
-    requires { Within kinds.now args.now at }
-    ensures { result ≡ initial_at kinds.now args.now at }
+pub(crate) fn initial(row: &Row, at: usize) -> Result<Value, Misread>
+    requires { Within row.now.kinds.now row.now.args.now at }
+    ensures { ended_value_in result ≡ initial_at row.now.kinds.now row.now.args.now at }
 {
-    if byte_at(kinds, at) == tokens::NAME {
-        return Value::Found {
+    if row.kind(at) == tokens::NAME {
+        Ok(Value {
             kind: drafts::FROM,
-            arg: args[at],
+            arg: row.args[at],
             next: at + 1,
-        };
+        })
+    } else {
+        signed_number(row, at)
     }
-    signed_number(kinds, args, at)
 }
 
 // Constants: a name, = and a number with or without a sign, with commas between.
-pub(crate) fn constants(
-    kinds: &[u8],
-    args: &[u64],
-    at: usize,
-    drafts: &mut [u8],
-    values: &mut [u64],
-    place: usize,
-) -> Part
-    requires { Ready kinds.now args.now at place drafts.old values.old }
-    ensures { ParsesMany kinds.now args.now at place
-        drafts.old values.old result drafts.new values.new }
+pub(crate) fn constants(row: &Row, at: usize, out: &mut Output) -> Result<usize, Misread>
+    requires { ReadyAt row.now at out.old }
+    ensures same { SameBuffers out.old out.new }
+    ensures reads { ReadsMany row.now at out.old result out.new }
 {
-    if byte_at(kinds, at) != tokens::NAME {
-        return Part {
-            code: 18,
-            next: at,
-            place: 0,
-        };
-    }
-    if byte_at(kinds, at + 1) != b'=' {
-        return Part {
-            code: 18,
-            next: at + 1,
-            place: 0,
-        };
-    }
-    let value = signed_number(kinds, args, at + 2);
-    match value {
-        Value::Missing { at: m } => Part {
-            code: 18,
-            next: m,
-            place: 0,
-        },
-        Value::Found { kind, arg, next } => {
-            emit(drafts, values, place, drafts::CONSTANT, args[at]);
-            emit(drafts, values, place + 1, kind, arg);
-            if byte_at(kinds, next) != b',' {
-                return Part {
-                    code: 0,
-                    next,
-                    place: place + 2,
-                };
-            }
-            constants(kinds, args, next + 1, drafts, values, place + 2)
+    let mut i = at;
+    loop {
+        let equals = row.need(i, tokens::NAME)?;
+        let start = row.need(equals, b'=')?;
+        let value = signed_number(row, start)?;
+        out.emit(drafts::CONSTANT, row.args[i]);
+        out.emit(value.kind, value.arg);
+        if row.kind(value.next) != b',' {
+            return Ok(value.next);
         }
+        i = value.next + 1;
     }
 }
 
 // Behind name =: an expression, and the draft that stores it.
-pub(crate) fn assignment(
-    kinds: &[u8],
-    args: &[u64],
-    at: usize,
-    key: u64,
-    drafts: &mut [u8],
-    values: &mut [u64],
-    place: usize,
-) -> Part
-    requires { Ready kinds.now args.now at (place + 1) drafts.old values.old }
-    ensures { Meets kinds.now args.now
-        (assigned (calls (held_row kinds.now args.now)) levels key) at place
-        drafts.old values.old result drafts.new values.new }
+pub(crate) fn assignment(row: &Row, at: usize, key: u64, out: &mut Output) -> Result<usize, Misread>
+    requires { Ready row.now.kinds.now row.now.args.now at (out.old.place + 1) out.old.kinds.now out.old.args.now }
+    ensures same { SameBuffers out.old out.new }
+    ensures reads { Reads row.now (assigned (calls_for row.now) levels key) at out.old result out.new }
 {
-    let r = expression(kinds, args, at, limits::LEVELS, drafts, values, place);
-    if r.code != 0 {
-        return r;
-    }
-    let next = r.next;
-    let p = r.place;
-    emit(drafts, values, p, drafts::STORE, key);
-    Part {
-        code: 0,
-        next,
-        place: p + 1,
-    }
+    let next = expression(row, at, limits::LEVELS, out)?;
+    out.emit(drafts::STORE, key);
+    Ok(next)
 }
 
 // Behind the initial of a state: the expression of its rate, a closing parenthesis, and the draft that sets it.
-pub(crate) fn rate(
-    kinds: &[u8],
-    args: &[u64],
-    at: usize,
-    key: u64,
-    drafts: &mut [u8],
-    values: &mut [u64],
-    place: usize,
-) -> Part
-    requires { Ready kinds.now args.now at place drafts.old values.old }
-    ensures { (i : Initial) → Meets kinds.now args.now
-        (rated (calls (held_row kinds.now args.now)) levels key i) at place
-        drafts.old values.old result drafts.new values.new }
+pub(crate) fn rate(row: &Row, at: usize, key: u64, out: &mut Output) -> Result<usize, Misread>
+    requires { ReadyAt row.now at out.old }
+    ensures same { SameBuffers out.old out.new }
+    ensures reads { (i : Initial) → Reads row.now (rated (calls_for row.now) levels key i) at out.old result out.new }
 {
-    let e = expression(kinds, args, at, limits::LEVELS, drafts, values, place);
-    if e.code != 0 {
-        return e;
-    }
-    let next = e.next;
-    let p = e.place;
-    if byte_at(kinds, next) != b')' {
-        return Part {
-            code: 18,
-            next,
-            place: 0,
-        };
-    }
-    emit(drafts, values, p, drafts::RATE, key);
-    Part {
-        code: 0,
-        next: next + 1,
-        place: p + 1,
-    }
+    let behind = expression(row, at, limits::LEVELS, out)?;
+    let next = row.need(behind, b')')?;
+    out.emit(drafts::RATE, key);
+    Ok(next)
 }
 
 // Behind name = INTGRL: an initial in parentheses with the expression of the rate.
-pub(crate) fn state(
-    kinds: &[u8],
-    args: &[u64],
-    at: usize,
-    key: u64,
-    drafts: &mut [u8],
-    values: &mut [u64],
-    place: usize,
-) -> Part
-    requires { Ready kinds.now args.now at place drafts.old values.old }
-    ensures { Meets kinds.now args.now
-        (integrated (calls (held_row kinds.now args.now)) levels key) at place
-        drafts.old values.old result drafts.new values.new }
+pub(crate) fn state(row: &Row, at: usize, key: u64, out: &mut Output) -> Result<usize, Misread>
+    requires { ReadyAt row.now at out.old }
+    ensures same { SameBuffers out.old out.new }
+    ensures reads { Reads row.now (integrated (calls_for row.now) levels key) at out.old result out.new }
 {
-    if byte_at(kinds, at) != b'(' {
-        return Part {
-            code: 18,
-            next: at,
-            place: 0,
-        };
-    }
-    let value = initial(kinds, args, at + 1);
-    match value {
-        Value::Missing { at: m } => Part {
-            code: 18,
-            next: m,
-            place: 0,
-        },
-        Value::Found { kind, arg, next } => {
-            emit(drafts, values, place, drafts::INITIAL, key);
-            emit(drafts, values, place + 1, kind, arg);
-            if byte_at(kinds, next) != b',' {
-                return Part {
-                    code: 18,
-                    next,
-                    place: 0,
-                };
-            }
-            rate(kinds, args, next + 1, key, drafts, values, place + 2)
-        }
-    }
+    let start = row.need(at, b'(')?;
+    let value = initial(row, start)?;
+    out.emit(drafts::INITIAL, key);
+    out.emit(value.kind, value.arg);
+    let second = row.need(value.next, b',')?;
+    rate(row, second, key, out)
 }
 
 // Names with commas between, each with a draft of this kind.
-pub(crate) fn names(
-    kinds: &[u8],
-    args: &[u64],
-    at: usize,
-    kind: u8,
-    drafts: &mut [u8],
-    values: &mut [u64],
-    place: usize,
-) -> Part
-    requires { Ready kinds.now args.now at place drafts.old values.old }
-    ensures { ParsesNames kinds.now args.now kind at place
-        drafts.old values.old result drafts.new values.new }
+pub(crate) fn names(row: &Row, at: usize, kind: u8, out: &mut Output) -> Result<usize, Misread>
+    requires { ReadyAt row.now at out.old }
+    ensures same { SameBuffers out.old out.new }
+    ensures reads { ReadsNames row.now kind at out.old result out.new }
 {
     let mut i = at;
-    let mut w = place;
-    while byte_at(kinds, i) == tokens::NAME {
-        emit(&mut *drafts, &mut *values, w, kind, args[i]);
-        if byte_at(kinds, i + 1) != b',' {
-            return Part {
-                code: 0,
-                next: i + 1,
-                place: w + 1,
-            };
+    loop {
+        let next = row.need(i, tokens::NAME)?;
+        out.emit(kind, row.args[i]);
+        if row.kind(next) != b',' {
+            return Ok(next);
         }
-        i += 2;
-        w += 1;
-    }
-    Part {
-        code: 18,
-        next: i,
-        place: 0,
+        i = next + 1;
     }
 }
 
 // Behind the opening parenthesis of a header: the inputs, and a closing parenthesis.
-pub(crate) fn inputs(
-    kinds: &[u8],
-    args: &[u64],
-    at: usize,
-    drafts: &mut [u8],
-    values: &mut [u64],
-    place: usize,
-) -> Part
-    requires { Ready kinds.now args.now at place drafts.old values.old }
-    ensures { (os : List ℕ) → Meets kinds.now args.now
-        (with_inputs (calls (held_row kinds.now args.now)) os) at place
-        drafts.old values.old result drafts.new values.new }
+pub(crate) fn inputs(row: &Row, at: usize, out: &mut Output) -> Result<usize, Misread>
+    requires { ReadyAt row.now at out.old }
+    ensures same { SameBuffers out.old out.new }
+    ensures reads { (os : List ℕ) → Reads row.now (with_inputs (calls_for row.now) os) at out.old result out.new }
 {
-    let r = names(kinds, args, at, drafts::INPUT, drafts, values, place);
-    if r.code != 0 {
-        return r;
-    }
-    let next = r.next;
-    if byte_at(kinds, next) != b')' {
-        return Part {
-            code: 18,
-            next,
-            place: 0,
-        };
-    }
-    Part {
-        code: 0,
-        next: next + 1,
-        place: r.place,
-    }
+    let behind = names(row, at, drafts::INPUT, out)?;
+    row.need(behind, b')')
 }
 
 // Behind PROCED: the outputs, =, the block's name, and the inputs in parentheses.
-pub(crate) fn header(
-    kinds: &[u8],
-    args: &[u64],
-    at: usize,
-    drafts: &mut [u8],
-    values: &mut [u64],
-    place: usize,
-) -> Part
-    requires { Ready kinds.now args.now at place drafts.old values.old }
-    ensures { Meets kinds.now args.now
-        (headed (calls (held_row kinds.now args.now))) at place
-        drafts.old values.old result drafts.new values.new }
+pub(crate) fn header(row: &Row, at: usize, out: &mut Output) -> Result<usize, Misread>
+    requires { ReadyAt row.now at out.old }
+    ensures same { SameBuffers out.old out.new }
+    ensures reads { Reads row.now (headed (calls_for row.now)) at out.old result out.new }
 {
-    let r = names(kinds, args, at, drafts::OUTPUT, drafts, values, place);
-    if r.code != 0 {
-        return r;
-    }
-    let next = r.next;
-    let p = r.place;
-    if byte_at(kinds, next) != b'=' {
-        return Part {
-            code: 18,
-            next,
-            place: 0,
-        };
-    }
-    if byte_at(kinds, next + 1) != tokens::NAME {
-        return Part {
-            code: 18,
-            next: next + 1,
-            place: 0,
-        };
-    }
-    if byte_at(kinds, next + 2) != b'(' {
-        return Part {
-            code: 18,
-            next: next + 2,
-            place: 0,
-        };
-    }
-    inputs(kinds, args, next + 3, drafts, values, p)
+    let behind = names(row, at, drafts::OUTPUT, out)?;
+    let name = row.need(behind, b'=')?;
+    let open = row.need(name, tokens::NAME)?;
+    let start = row.need(open, b'(')?;
+    inputs(row, start, out)
 }
 
 // A statement, by its first token.
-pub(crate) fn any_statement(
-    kinds: &[u8],
-    args: &[u64],
-    drafts: &mut [u8],
-    values: &mut [u64],
-    place: usize,
-) -> Part
-    requires { Ready kinds.now args.now 0 place drafts.old values.old }
-    ensures { Meets kinds.now args.now
-        (statement (calls (held_row kinds.now args.now)) levels) 0 place
-        drafts.old values.old result drafts.new values.new }
+pub(crate) fn any_statement(row: &Row, out: &mut Output) -> Result<usize, Misread>
+    requires { ReadyAt row.now 0 out.old }
+    ensures same { SameBuffers out.old out.new }
+    ensures reads { Reads row.now (statement (calls_for row.now) levels) 0 out.old result out.new }
 {
-    let k = byte_at(kinds, 0);
-    if k == tokens::NAME {
-        if byte_at(kinds, 1) != b'=' {
-            return Part {
-                code: 18,
-                next: 1,
-                place: 0,
-            };
+    match row.kind(0) {
+        tokens::NAME => {
+            row.need(1, b'=')?;
+            if row.kind(2) == tokens::INTGRL {
+                state(row, 3, row.args[0], out)
+            } else {
+                assignment(row, 2, row.args[0], out)
+            }
         }
-        if byte_at(kinds, 2) == tokens::INTGRL {
-            return state(kinds, args, 3, args[0], drafts, values, place);
+        tokens::PROCED => header(row, 1, out),
+        tokens::ENDPRO => {
+            out.emit(drafts::ENDING, 0);
+            Ok(1)
         }
-        return assignment(kinds, args, 2, args[0], drafts, values, place);
+        tokens::CONSTANTS => constants(row, 1, out),
+        _ => Err(Misread {
+            fault: Fault::Ungrammatical,
+            at: 0,
+        }),
     }
-    if k == tokens::PROCED {
-        return header(kinds, args, 1, drafts, values, place);
-    }
-    if k == tokens::ENDPRO {
-        emit(drafts, values, place, drafts::ENDING, 0);
-        return Part {
-            code: 0,
-            next: 1,
-            place: place + 1,
-        };
-    }
-    if k != tokens::CONSTANTS {
-        return Part {
-            code: 18,
-            next: 0,
-            place: 0,
-        };
-    }
-    constants(kinds, args, 1, drafts, values, place)
 }

@@ -1,7 +1,6 @@
 -- What is written is in reach: the places behind it are numbers of the machine.
 use Prim.Native.Nat.{ℕ, zero, suc, ◌+◌, ◌-◌, ◌*◌, ◌^◌, ◌≤◌, ◌<◌}
 use mathlib.Core.Path.{ap}
-use mathlib.Core.Bool.{Bool, true, false}
 use mathlib.Core.List.{List, [], ◌∷◌, ◌++◌}
 use native.Mathlib.Nat.{sub-zero, suc-mul, pow-suc}
 use native.Mathlib.Omega.{arith}
@@ -15,7 +14,7 @@ use Rattle.laws.proofs.Gathers.{Writes, gather_step}
 use Rattle.bits.specs.Low.{low_word}
 use Rattle.records.specs.Record.{field}
 use Rattle.listing_text.specs.Listing.{figures, line, line2, line4}
-use Rattle.listing_text.specs.Written.{detail_at, head, InReach}
+use Rattle.listing_text.specs.Written.{fault_at, ordered_at, head, InReach}
 use Rattle.listing_text.proofs.Figures.{few_figures}
 
 -- ---- what follows what
@@ -90,10 +89,13 @@ gather_within f m h zero i = omega arith
 gather_within f m h (suc k) i =
     rw (suc-mul k m) (omega (arith, h i, gather_within f m h k (suc i), length-append (f i) (gather f k (suc i))))
 
--- the line of a statement, and of a fault
-detail_short : (ok : Bool) (o l : List ℕ) → Shorts o → Bytes l → (i : ℕ) → length (detail_at ok o l i) ≤ 196871
-detail_short true o l s b i = omega (arith, line_short (get_or o i 0), s i)
-detail_short false o l s b i =
+-- the line of a unit
+pub unit_short : (o : List ℕ) → Shorts o → (i : ℕ) → length (ordered_at o i) ≤ 196871
+unit_short o s i = omega (arith, line_short (get_or o i 0), s i)
+
+-- and of a fault
+pub fault_short : (l : List ℕ) → Bytes l → (i : ℕ) → length (fault_at l i) ≤ 196871
+fault_short l b i =
     let at = i * fault_bytes in
     omega (
       arith,
@@ -105,9 +107,9 @@ detail_short false o l s b i =
     )
 
 -- REACH: the first line, with no more than the most records, and as many lines behind it
-pub listing_reach : (ok : Bool) (a b n count : ℕ) (o l : List ℕ) → n ≤ most_records → count ≤ most_records → Shorts o
-    → Bytes l
-    → InReach (head a b n ++ gather (detail_at ok o l) count 0) 0
-listing_reach ok a b n count o l h few shorts bytes =
-    let g = gather_within (detail_at ok o l) 196871 (detail_short ok o l shorts bytes) count 0 in
-    omega (arith, line_short n, length-append (head a b n) (gather (detail_at ok o l) count 0))
+pub listing_reach : (f : ℕ → List ℕ) → ((i : ℕ) → length (f i) ≤ 196871) → (a b n count : ℕ) → n ≤ most_records
+    → count ≤ most_records
+    → InReach (head a b n ++ gather f count 0) 0
+listing_reach f short a b n count h few =
+    let g = gather_within f 196871 short count 0 in
+    omega (arith, line_short n, length-append (head a b n) (gather f count 0))

@@ -1,6 +1,6 @@
 -- The listing as code writes it: by a verdict's number and counts, from the bytes of a fault list or from the order
 -- that was handed out. Every read past an end gives 0.
-use Rattle.std.specs.Prelude.{ℕ, ◌+◌, ◌*◌, ◌<◌, Bool, true, false, cond, List, ◌∷◌, ◌++◌, eqb, length, get_or}
+use Rattle.std.specs.Prelude.{ℕ, ◌+◌, ◌*◌, ◌<◌, cond, List, ◌∷◌, ◌++◌, eqb, length, get_or}
 use Rattle.limits.specs.Limits.{fault_bytes}
 use Rattle.laws.specs.Text.{bytes}
 use Rattle.laws.specs.Places.{gather}
@@ -13,14 +13,9 @@ fault_at list i =
     let o = i * fault_bytes in
     line4 (field list o 2) (field list (o + 2) 1) (field list (o + 4) 2) (field list (o + 6) 2)
 
--- the first line of ordered statement i
+-- the first line of ordered unit i
 abbrev pub ordered_at : List ℕ → ℕ → List ℕ
 ordered_at order i = line (get_or order i 0)
-
--- either, of an order or of a list
-abbrev pub detail_at : Bool → List ℕ → List ℕ → ℕ → List ℕ
-detail_at true order list = ordered_at order
-detail_at false order list = fault_at list
 
 -- two letters, a space and a number
 abbrev pub head : ℕ → ℕ → ℕ → List ℕ

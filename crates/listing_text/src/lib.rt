@@ -1,7 +1,7 @@
 // The listing of a text, as bytes.
 #![tactic(auto)]
 
-ghost use Rattle.std.specs.Prelude.{◌≡◌, [], ◌∷◌, ◌++◌, ◌<◌, ◌≤◌, min};
+ghost use Rattle.std.specs.Prelude.{◌≡◌, Err, [], ◌∷◌, ◌++◌, ◌<◌, ◌≤◌, min};
 ghost use Rattle.limits.specs.Limits.{most_records};
 ghost use Rattle.laws.specs.Places.{gather};
 ghost use Rattle.laws.specs.Put.{Put};
@@ -9,11 +9,11 @@ ghost use Rattle.records.specs.Record.{field};
 ghost use Rattle.translator.specs.Contract.{number_in, count_in};
 ghost use Rattle.listing_text.specs.Listing.{figures, line, line2, line4};
 ghost use Rattle.listing_text.specs.Contract.{Lists};
-ghost use Rattle.listing_text.specs.Written.{fault_at, head, detail_at, written, InReach};
+ghost use Rattle.listing_text.specs.Written.{fault_at, ordered_at, head, InReach};
 
 use bits::reads::short_at;
 use limits::{FAULT_BYTES, FAULT_ROOM, PROGRAM_ROOM, STATEMENTS};
-use translator::Verdict;
+use translator::{Ordered, Refusal};
 
 // ---- numbers and lines. Each writer answers the place behind what it wrote; past the end of the lent bytes nothing is
 // written.
@@ -109,109 +109,50 @@ fn put_fault_line(list: &[u8], i: usize, out: &mut [u8], at: usize) -> usize
     put_row(line, code, place, column, out, at)
 }
 
-// Writes the first line of an ordered statement, or else the line of a fault.
-fn put_detail(ok: bool, ordered: &[u16], list: &[u8], i: usize, out: &mut [u8], at: usize) -> usize
-    requires { (i < most_records) × InReach (detail_at ok ordered.now list.now i) at }
-    ensures { Put (detail_at ok ordered.now list.now i) at result out.old
-        out.new }
-{
-    if ok {
-        return put_line(short_at(ordered, i) as u64, out, at);
-    }
-    put_fault_line(list, i, out, at)
-}
-
-// Writes so many of them.
-fn put_details(
-    ok: bool,
-    ordered: &[u16],
-    list: &[u8],
-    count: usize,
-    out: &mut [u8],
-    at: usize,
-) -> usize
-    requires { (count ≤ most_records) × InReach (gather (detail_at ok ordered.now list.now) count 0) at }
-    ensures { Put (gather (detail_at ok ordered.now list.now) count 0) at result
-        out.old out.new }
+// Writes the first lines of so many ordered units.
+fn put_units(ordered: &[u16], count: usize, out: &mut [u8], at: usize) -> usize
+    requires { (count ≤ most_records) × InReach (gather (ordered_at ordered.now) count 0) at }
+    ensures { Put (gather (ordered_at ordered.now) count 0) at result out.old out.new }
 {
     let mut w = at;
-    let mut i: usize = 0;
-    while i < count {
-        w = put_detail(ok, ordered, list, i, &mut *out, w);
-        i += 1;
+    for i in 0..count {
+        w = put_line(short_at(ordered, i) as u64, &mut *out, w);
+    }
+    w
+}
+
+// Writes the lines of so many faults.
+fn put_faults(list: &[u8], count: usize, out: &mut [u8], at: usize) -> usize
+    requires { (count ≤ most_records) × InReach (gather (fault_at list.now) count 0) at }
+    ensures { Put (gather (fault_at list.now) count 0) at result out.old out.new }
+{
+    let mut w = at;
+    for i in 0..count {
+        w = put_fault_line(list, i, &mut *out, w);
     }
     w
 }
 
 // ---- the listing
 
-// The number of a verdict.
-fn number_of(verdict: Verdict) -> u8
-    ensures { result ≡ number_in verdict }
-{
-    match verdict {
-        Verdict::Refused(n) => n,
-        Verdict::Faulty(n, _) => n,
-        Verdict::Translated(_) => 0,
-    }
-}
-
-// Its count.
-fn count_of(verdict: Verdict) -> usize
-    ensures { result ≡ count_in verdict }
-{
-    match verdict {
-        Verdict::Refused(_) => 0,
-        Verdict::Faulty(_, k) => k,
-        Verdict::Translated(k) => k,
-    }
-}
-
-// Writes the first line and, from an order or a list, so many lines behind it.
-fn put_all(
-    a: u8,
-    b: u8,
-    n: u64,
-    ok: bool,
-    ordered: &[u16],
-    list: &[u8],
-    count: usize,
-    out: &mut [u8],
-) -> usize
-    requires { (n ≤ most_records) × (count ≤ most_records) }
-    ensures { Put (head a b n ++ gather (detail_at ok ordered.now list.now) count 0) 0 result
+// Writes the listing of a translated text: its records, then the first lines of its ordered units.
+fn put_order(done: Ordered, ordered: &[u16], out: &mut [u8]) -> usize
+    requires { (done.records ≤ most_records) × (done.units ≤ most_records) }
+    ensures { Put (head 79 75 done.records ++ gather (ordered_at ordered.now) done.units 0) 0 result
         out.old out.new }
 {
-    let at = put_head(a, b, n, &mut *out);
-    put_details(ok, ordered, list, count, out, at)
+    let at = put_head(b'O', b'K', done.records as u64, &mut *out);
+    put_units(ordered, done.units, out, at)
 }
 
-// Writes the listing of a verdict, with the faults or so many lines of the order that it left.
-fn put_listing(
-    number: u8,
-    count: usize,
-    lines: usize,
-    faults: &[u8],
-    ordered: &[u16],
-    out: &mut [u8],
-) -> usize
-    requires { (count ≤ most_records) × (lines ≤ most_records) }
-    ensures { Put (written number count lines faults.now ordered.now) 0 result
-        out.old out.new }
+// Writes that of a refusal: its number, then its faults.
+fn put_refusal(refusal: Refusal, faults: &[u8], out: &mut [u8]) -> usize
+    requires { count_in (Err refusal) ≤ most_records }
+    ensures { Put (head 78 79 (number_in (Err refusal)) ++ gather (fault_at faults.now) (count_in (Err refusal)) 0) 0
+        result out.old out.new }
 {
-    if number == 0 {
-        return put_all(b'O', b'K', count as u64, true, ordered, faults, lines, out);
-    }
-    put_all(
-        b'N',
-        b'O',
-        number as u64,
-        false,
-        ordered,
-        faults,
-        count,
-        out,
-    )
+    let at = put_head(b'N', b'O', u64::from(refusal.number()), &mut *out);
+    put_faults(faults, refusal.count(), out, at)
 }
 
 // The listing of a text, written to the front of what is lent, as far as there are places; how many bytes it has.
@@ -221,14 +162,9 @@ pub fn list(text: &[u8], out: &mut [u8]) -> usize
     let mut faults = [0u8; FAULT_ROOM];
     let mut program = [0u8; PROGRAM_ROOM];
     let mut ordered = [0u16; STATEMENTS];
-    let r = translator::translate_in_order(text, &mut faults, &mut program, &mut ordered);
-    let verdict = r.verdict;
-    put_listing(
-        number_of(verdict),
-        count_of(verdict),
-        r.units,
-        &faults,
-        &ordered,
-        out,
-    )
+    let answer = translator::translate_in_order(text, &mut faults, &mut program, &mut ordered);
+    match answer {
+        Ok(done) => put_order(done, &ordered, out),
+        Err(refusal) => put_refusal(refusal, &faults, out),
+    }
 }

@@ -18,7 +18,7 @@ use Rattle.records.specs.Record.{decode_at_within, decode_from_within, decoded_w
 use Rattle.records.specs.Shape.{zero64, value, slot}
 use Rattle.records.specs.Shape.{Shape, constant, initial, push, fold, store, derivative, store_again, bad, shape_of}
 use Rattle.records.proofs.Decoding.{decode_more}
-use Rattle.evaluator.specs.declared.Answer.{Answer}
+use Rattle.evaluator.specs.Judge.{Answer}
 use Rattle.evaluator.specs.Judge.{unset_mark, given_mark, state_mark, derived_mark, stored_mark, rule_of, takes, gives}
 use Rattle.evaluator.specs.Judge.{phase_of}
 use Rattle.evaluator.specs.Judge.{Judge, good, judged, judge_begun, any_open, answer, judge_from, judge_within}

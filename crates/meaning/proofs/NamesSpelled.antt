@@ -15,6 +15,7 @@ use Rattle.laws.proofs.Runs.{all_pass, run_run, run_take}
 use Rattle.laws.proofs.Tests.{cond_ind}
 use Rattle.limits.specs.Limits.{name_bytes}
 use Rattle.bits.specs.Low.{low_bytes, low_word}
+use Rattle.faults.specs.declared.Fault.TheVariants.{StrayByte, LongName, Malformed, OutOfRange}
 use Rattle.tokens.specs.declared.Token.{Token}
 use Rattle.tokens.specs.declared.Token.TheVariants.{Name as Named, Mark, Number, End, Bad}
 use Rattle.tokens.specs.declared.Cut.{Cut}
@@ -87,7 +88,7 @@ module _ (s : List ℕ) where
   ranged_good : (m up down : ℕ) → NamedIn s (ranged_number m up down)
   unfolding ranged_number
   ranged_good m up down =
-      cond_ind (NamedIn s) (in_range m up down) (Number (scaled m up down)) (Bad 17) (λ _. tt) (λ _. tt)
+      cond_ind (NamedIn s) (in_range m up down) (Number (scaled m up down)) (Bad OutOfRange) (λ _. tt) (λ _. tt)
 
   -- by the sign of the exponent
   signed_good : (m : Digits) (minus : Bool) (e : ℕ) → NamedIn s (number_with m minus e)
@@ -98,7 +99,7 @@ module _ (s : List ℕ) where
   end_good : (at : ℕ) (m : Digits) (e : Exponent) → Good (number_end s at m e)
   end_good at m wrong = tt
   end_good at m (exponent minus e stop) =
-      cond_ind Good (is_word (get_or s stop 0) || is_point (get_or s stop 0)) (bad_at 16 at)
+      cond_ind Good (is_word (get_or s stop 0) || is_point (get_or s stop 0)) (bad_at Malformed at)
       (cut_of (number_with m minus e) at stop) (λ _. tt) (λ _. signed_good m minus e)
 
   -- by the digits
@@ -106,7 +107,7 @@ module _ (s : List ℕ) where
   unfolding number_cut
   number_good at =
       let m = digits_from s at in
-      cond_ind Good (eqb m.count 0) (bad_at 16 at) (number_end s at m (exponent_from s m.end)) (λ _. tt)
+      cond_ind Good (eqb m.count 0) (bad_at Malformed at) (number_end s at m (exponent_from s m.end)) (λ _. tt)
       (λ _. end_good at m (exponent_from s m.end))
 
   -- a name has letters and digits, and not too many
@@ -114,7 +115,7 @@ module _ (s : List ℕ) where
   unfolding name_at
   name_good at =
       let n = length (word_at s at) in
-      cond_ind Good (ltb name_bytes n) (bad_at 15 at) (cut_of (Named at n) at (at + n)) (λ _. tt)
+      cond_ind Good (ltb name_bytes n) (bad_at LongName at) (cut_of (Named at n) at (at + n)) (λ _. tt)
       (λ t. rw (run_take is_word (drop at s))
       (record { spelled = run_run is_word (drop at s); few = ltb-false name_bytes n t }))
 
@@ -127,7 +128,7 @@ module _ (s : List ℕ) where
       cond_ind Good (leb (length s) at) (cut_of End at at) _ (λ _. tt)
       (λ _. cond_ind Good (is_letter b) (name_at s at) _ (λ _. name_good at)
       (λ _. cond_ind Good (is_digit b || is_point b) (number_cut s at) _ (λ _. number_good at)
-      (λ _. cond_ind Good (is_mark b) (cut_of (Mark b) at (at + 1)) (bad_at 14 at) (λ _. tt) (λ _. tt))))
+      (λ _. cond_ind Good (is_mark b) (cut_of (Mark b) at (at + 1)) (bad_at StrayByte at) (λ _. tt) (λ _. tt))))
 
 -- of what the grammar sees: a name is spelled out
 abbrev SpelledToken : Symbol → Type 0

@@ -21,7 +21,7 @@ use Rattle.records.specs.declared.Instr.TheVariants.{Constant, Initial, Value, S
 use Rattle.records.specs.declared.Instr.TheVariants.{Neg, Insw, Limit, Compar, Store, Deriv, StoreAgain, Bad}
 use Rattle.records.specs.Record.{decoded}
 use Rattle.records.specs.Shape.{Shape, constant, store, derivative, store_again, shape_of}
-use Rattle.evaluator.specs.declared.Answer.{Answer}
+use Rattle.evaluator.specs.Judge.{Answer}
 use Rattle.evaluator.specs.Judge.{unset_mark, given_mark, phase_of, judge₀, answer}
 use Rattle.evaluator.specs.Machine.{Machine, act, run, begun}
 use Rattle.evaluator.specs.Evaluate.{each_state, refusal, ran}

@@ -20,7 +20,7 @@ use Rattle.records.specs.declared.Instr.TheVariants.{Neg, Insw, Limit, Compar, S
 use Rattle.records.specs.Record.{field, decode_at, decode_at_within, decode_from, decode_from_within, decoded}
 use Rattle.records.specs.Record.{decoded_within}
 use Rattle.records.specs.Shape.{shape_of}
-use Rattle.evaluator.specs.declared.Answer.{Answer}
+use Rattle.evaluator.specs.Judge.{Answer}
 use Rattle.evaluator.specs.Judge.{answer, judge}
 use Rattle.evaluator.proofs.EntryAnswers.{by_judge, answers_zero}
 use Rattle.meaning.specs.Faithful.{Accepted}

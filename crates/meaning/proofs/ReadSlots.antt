@@ -12,7 +12,7 @@ use Rattle.laws.proofs.Tests.{lt_or_ge}
 use Rattle.records.specs.declared.Instr.{Instr}
 use Rattle.records.specs.Record.{decoded}
 use Rattle.records.specs.Shape.{Shape, initial, shape_of}
-use Rattle.evaluator.specs.declared.Answer.{Answer}
+use Rattle.evaluator.specs.Judge.{Answer}
 use Rattle.evaluator.specs.Judge.{unset_mark, given_mark, Judge, judged, judge₀, answer, judge_from, judge}
 use Rattle.evaluator.specs.Machine.{Machine, run, begun, act}
 use Rattle.evaluator.specs.Evaluate.{run_outcome, refusal, ran, evaluated, evaluated_within}

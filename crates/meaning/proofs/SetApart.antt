@@ -18,7 +18,7 @@ use Rattle.records.specs.declared.Instr.{Instr}
 use Rattle.records.specs.Fields.{fields_of}
 use Rattle.records.specs.Shape.{value, slot}
 use Rattle.records.specs.Shape.{Shape, constant, initial, push, fold, store, derivative, store_again, bad, shape_of}
-use Rattle.evaluator.specs.declared.Answer.{Answer}
+use Rattle.evaluator.specs.Judge.{Answer}
 use Rattle.evaluator.specs.Judge.{unset_mark, given_mark, state_mark, derived_mark, stored_mark}
 use Rattle.evaluator.specs.Judge.{rule_of, takes, gives, phase_of, Judge, good, judged, answer, judge_from}
 use Rattle.evaluator.specs.Sound.{Sound, SoundWithin}

@@ -21,7 +21,7 @@ use Rattle.records.specs.declared.Instr.TheVariants.{Neg, Insw, Limit, Compar, S
 use Rattle.records.specs.Fields.{fields_of}
 use Rattle.records.specs.Shape.{value, slot, operands}
 use Rattle.records.specs.Shape.{Shape, constant, initial, push, fold, store, derivative, store_again, bad, shape_of}
-use Rattle.evaluator.specs.declared.Answer.{Answer}
+use Rattle.evaluator.specs.Judge.{Answer}
 use Rattle.evaluator.specs.Judge.{given_mark, derived_mark, stored_mark, rule_of, Judge, judged, any_open}
 use Rattle.evaluator.specs.Judge.{answer, judge_from}
 use Rattle.evaluator.specs.Machine.{Machine, act, run, begun}

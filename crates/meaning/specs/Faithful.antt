@@ -1,12 +1,12 @@
 -- What holds of every text that is translated, and of the program that is handed on.
-use Rattle.std.specs.Prelude.{ℕ, ◌*◌, ◌≤◌, ◌≡◌, List, length, take, Float}
+use Rattle.std.specs.Prelude.{ℕ, ◌*◌, ◌≤◌, ◌≡◌, List, Result, length, take, Float}
 use Rattle.limits.specs.Limits.{slots, record_bytes}
 use Rattle.model.specs.Text.{text_units}
 use Rattle.records.specs.Record.{Rec, program_bytes}
-use Rattle.evaluator.specs.declared.Answer.{Answer}
+use Rattle.evaluator.specs.declared.Refusal.{Refusal}
 use Rattle.evaluator.specs.Judge.{answer}
 use Rattle.evaluator.specs.Evaluate.{refusal, RunOutcome, run_outcome}
-use Rattle.evaluator.specs.Contract.{Evaluated, Started, Stepped}
+use Rattle.evaluator.specs.Contract.{answer_in, Evaluated, Started, Stepped}
 use Rattle.meaning.specs.Statements.{Solution, Beginning, Stepping}
 use Rattle.meaning.specs.Recorded.{NothingLost}
 
@@ -45,13 +45,13 @@ Accepted program = (v d : List Float) → HasSlots v d → refusal program v d �
 -- starts and steps; there is one solution; and nothing is lost
 pub record Faithful (text program : List ℕ) : Type 0 where
   pub accepted : Accepted program
-  pub evaluates : (v d : List Float) → HasSlots v d → (r : Answer) (v' d' : List Float) → Evaluated program v d r v' d'
-      → Evaluates text v d (run_outcome r v' d')
-  pub starts : (v d : List Float) → HasSlots v d → (r : Answer) (v' d' : List Float) → Started program v d r v' d'
-      → Starts text v d (run_outcome r v' d')
-  pub steps : (h : Float) (v d : List Float) → HasSlots v d → (r : Answer) (v' d' : List Float)
+  pub evaluates : (v d : List Float) → HasSlots v d → (r : Result (Unit {0}) Refusal) (v' d' : List Float) → Evaluated program v d r v' d'
+      → Evaluates text v d (run_outcome (answer_in r) v' d')
+  pub starts : (v d : List Float) → HasSlots v d → (r : Result (Unit {0}) Refusal) (v' d' : List Float) → Started program v d r v' d'
+      → Starts text v d (run_outcome (answer_in r) v' d')
+  pub steps : (h : Float) (v d : List Float) → HasSlots v d → (r : Result (Unit {0}) Refusal) (v' d' : List Float)
       → Stepped program h v d r v' d'
-      → Steps text h v d (run_outcome r v' d')
+      → Steps text h v d (run_outcome (answer_in r) v' d')
   pub one_solution : (v d v₁ d₁ v₂ d₂ : List Float) → Solution (text_units text) v d v₁ d₁
       → Solution (text_units text) v d v₂ d₂
       → (v₁ ≡ v₂) × (d₁ ≡ d₂)

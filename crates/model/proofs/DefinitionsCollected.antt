@@ -1,6 +1,6 @@
 -- The definitions collected, draft by draft.
 use Prim.Native.Nat.{ℕ, ◌+◌, ◌≤◌, ◌<◌}
-use mathlib.Core.Path.{◌≡◌, refl}
+use mathlib.Core.Path.{◌≡◌, refl, sym, ◌∙◌}
 use mathlib.Core.Bool.{Bool, true, false}
 use mathlib.Core.List.{List}
 use native.Mathlib.Omega.{arith}
@@ -11,7 +11,7 @@ use Rattle.laws.proofs.Tests.{not_both}
 use Rattle.laws.proofs.Gathers.{Writes, writes_first, writes_next, whole_count, whole_all}
 use Rattle.drafts.specs.Kinds.{defines}
 use Rattle.model.specs.Places.{defined_at, keys_in, places_in}
-use Rattle.model.specs.Working.{Noted, place_at, Collected}
+use Rattle.model.specs.Working.{place_at, Collected}
 
 -- one value, or none
 pub only_length : {A : Type 0} (b : Bool) (x : A) → length (only_if b x) ≤ 1
@@ -26,17 +26,6 @@ put_one false x d t e = absurd (not_both t refl)
 pub put_unless : (b : Bool) (x d : ℕ) (l : List ℕ) → b ≡ false → Put (only_if b x) d d l l
 put_unless true x d l t = absurd (not_both refl t)
 put_unless false x d l t = record { behind = omega arith; written = refl }
-
--- a definition, and a draft that is none
-pub noted : (kind key place d : ℕ) {keys keys' places places' : List ℕ} → defines kind ≡ true
-    → keys' ≡ set keys d key → places' ≡ set places d place → Noted kind key place d (d + 1) keys keys' places places'
-noted kind key place d t k p =
-    record { keys_so = put_one (defines kind) key d t k; placed = put_one (defines kind) place d t p }
-
-pub not_noted : (kind key place d : ℕ) (keys places : List ℕ) → defines kind ≡ false
-    → Noted kind key place d d keys keys places places
-not_noted kind key place d keys places t =
-    record { keys_so = put_unless (defines kind) key d keys t; placed = put_unless (defines kind) place d places t }
 
 -- the loop stands at draft i, with d definitions
 pub record Collecting (kinds args keys₀ places₀ : List ℕ) (d i : ℕ) (keys places : List ℕ) : Type 0 where
@@ -56,17 +45,29 @@ collecting_first kinds args keys places =
 module _ {kinds args keys₀ places₀ : List ℕ} {d i : ℕ} {keys places : List ℕ}
     (v : Collecting kinds args keys₀ places₀ d i keys places) where
   -- one draft further on
-  pub collecting_next : {key r : ℕ} {keys' places' : List ℕ} → i < length kinds → key ≡ get_or args i 0
-      → Noted (get_or kinds i 0) key i d r keys keys' places places'
-      → Collecting kinds args keys₀ places₀ r (i + 1) keys' places'
-  collecting_next {key} {r} {keys'} {places'} h e noting =
-      let keys_so : Put (defined_at kinds args i) d r keys keys' = rw e at noting.keys_so in
-      let placed = noting.placed in
+  further : {r : ℕ} {keys' places' : List ℕ} → i < length kinds → Put (defined_at kinds args i) d r keys keys'
+      → Put (place_at kinds i) d r places places' → Collecting kinds args keys₀ places₀ r (i + 1) keys' places'
+  further {r} {keys'} {places'} h key place =
       record {
-        few = omega (arith, v.few, keys_so.behind, only_length (defines (get_or kinds i 0)) (get_or args i 0));
-        keys_so = writes_next v.keys_so h r keys' keys_so.behind keys_so.written;
-        placed = writes_next v.placed h r places' placed.behind placed.written;
+        few = omega (arith, v.few, key.behind, only_length (defines (get_or kinds i 0)) (get_or args i 0));
+        keys_so = writes_next v.keys_so h r keys' key.behind key.written;
+        placed = writes_next v.placed h r places' place.behind place.written;
       }
+
+  -- a definition, and a draft that is none
+  pub collecting_one : {b : Bool} {r : ℕ} {keys' places' : List ℕ} → i < length kinds → b ≡ defines (get_or kinds i 0)
+      → b ≡ true → keys' ≡ set keys d (get_or args i 0) → places' ≡ set places d i → r ≡ d + 1
+      → Collecting kinds args keys₀ places₀ r (i + 1) keys' places'
+  collecting_one h t y k p e =
+      let defining = sym t ∙ y in
+      rw e (further h (put_one _ (get_or args i 0) d defining k) (put_one _ i d defining p))
+
+  pub collecting_none : {b : Bool} {r : ℕ} {keys' places' : List ℕ} → i < length kinds → b ≡ defines (get_or kinds i 0)
+      → b ≡ false → keys' ≡ keys → places' ≡ places → r ≡ d
+      → Collecting kinds args keys₀ places₀ r (i + 1) keys' places'
+  collecting_none h t n k p e =
+      let other = sym t ∙ n in
+      rw (e, k, p) (further h (put_unless _ (get_or args i 0) d keys other) (put_unless _ i d places other))
 
   -- its end
   pub collecting_last : length kinds ≤ i → Collected kinds args d keys₀ keys places₀ places

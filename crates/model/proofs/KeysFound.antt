@@ -217,14 +217,14 @@ module _ {keys links₀ hints links : List ℕ} {d b : ℕ} (v : Hinting keys li
       other n = get_or-set_other links (d - 1) e x 0 n ∙ v.link e (omega (arith, lt_of_le_of_ne lo (λ z. n (sym z)))) hi
 
   pub hinting_next : {x : ℕ} {hints' links' : List ℕ} → x ≡ get_or hints b 0 → links' ≡ set links (d - 1) x
-      → hints' ≡ set hints b d
+      → hints' ≡ set hints b (d - 1 + 1)
       → Hinting keys links₀ (d - 1) hints' links'
   hinting_next {x} {hints'} {links'} o m e =
       record {
         within = omega (arith, inside);
-        long = ap length e ∙ length-set hints b d ∙ v.long;
+        long = ap length e ∙ length-set hints b (d - 1 + 1) ∙ v.long;
         room = omega (arith, ap length m, length-set links (d - 1) x, v.room);
         kept = ap length m ∙ length-set links (d - 1) x ∙ v.kept;
-        hint = rw e next_hint;
+        hint = rw (e, back) next_hint;
         link = rw m (next_link x o);
       }

@@ -74,12 +74,10 @@ pub unmarked_single : (marks equated lines : List ℕ) (r : ℕ) → length (unm
 unmarked_single marks equated lines r = if_length (eqb (get_or marks r 0) 0) (get_or lines (get_or equated r 0) 0) 24
 
 -- 24 at equation r, as it was found
-pub unmarked_found : (marks equated lines : List ℕ) (r : ℕ) {b line j : ℕ} → b ≡ get_or marks r 0
-    → j ≡ get_or equated r 0
-    → line ≡ get_or lines j 0
+pub unmarked_found : (marks equated lines : List ℕ) (r : ℕ) {b line : ℕ} → b ≡ get_or marks r 0
+    → line ≡ get_or lines (get_or equated r 0) 0
     → fault_if (eqb b 0) line 24 ≡ unmarked_at marks equated lines r
-unmarked_found marks equated lines r p q l =
-    ap₂ (λ (m n : ℕ). fault_if (eqb m 0) n 24) p (l ∙ ap (λ (i : ℕ). get_or lines i 0) q)
+unmarked_found marks equated lines r p l = ap₂ (λ (m n : ℕ). fault_if (eqb m 0) n 24) p l
 
 -- 24 is the same by marks
 pub unmarked_loops : {placed marks list list' : List ℕ} {r : ℕ} (equated lines : List ℕ) → Marked placed marks

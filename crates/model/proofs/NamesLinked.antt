@@ -1,7 +1,7 @@
 -- Names resolved and uses listed: a turn of each of the two loops, over drafts and over units, and their ends.
 use Prim.Native.Nat.{ℕ, ◌+◌, ◌-◌, ◌≤◌, ◌<◌}
 use mathlib.Core.Path.{◌≡◌, refl, sym, ap, ap₂, ◌∙◌}
-use mathlib.Core.Bool.{Bool, true, false, cond}
+use mathlib.Core.Bool.{Bool, true, false, cond, ◌||◌}
 use mathlib.Core.List.{List, [], ◌∷◌, ◌++◌}
 use native.Mathlib.Omega.{arith}
 use lib.Dec.{ltb}
@@ -22,8 +22,7 @@ use Rattle.model.specs.Working.{Linkable, Tabled, Linked}
 use Rattle.model.specs.declared.names.Usage.{Usage}
 use Rattle.laws.proofs.Puts.{put_none, put_both}
 use Rattle.model.proofs.DefinitionsCollected.{only_length}
-use Rattle.model.proofs.NamesResolved.{resolving_first, resolving_flawed, resolving_clear, resolving_other}
-use Rattle.model.proofs.NamesResolved.{resolving_last, slot_here}
+use Rattle.model.proofs.NamesResolved.{resolving_first, resolving_named, resolving_other, resolving_last, slot_here}
 use Rattle.model.proofs.SlotOwners.{used_same}
 use Rattle.model.proofs.UsesTabled.{rises_to, gather_next, ends_within, uses_of, uses_to, begin_at, whole_uses}
 use Rattle.model.proofs.UsesTabled.{whole_begin}
@@ -123,14 +122,9 @@ module _ {keys kinds places owners args₁ used₁ args used : List ℕ} {from e
         (λ args₀ wide k.
         (more args₀ wide k, ap (used_here owners (get_or kinds i 0)) (sym (slot_here k (omega arith) wide s))))
 
-    pub walking_flawed : {b after : Bool} → b ≡ flawed_by places kinds (get_or kinds i 0) slot → b ≡ true → after ≡ true
+    pub walking_named : {b after : Bool} → b ≡ flawed_by places kinds (get_or kinds i 0) slot → after ≡ (flawed || b)
         → Walking keys kinds places owners args₁ used₁ from end n r after (i + 1) args' used'
-    walking_flawed t y z = listed (λ args₀ wide k. resolving_flawed k (omega arith) wide s t y a z)
-
-    pub walking_clear : {b after : Bool} → b ≡ flawed_by places kinds (get_or kinds i 0) slot → b ≡ false
-        → after ≡ flawed
-        → Walking keys kinds places owners args₁ used₁ from end n r after (i + 1) args' used'
-    walking_clear t y z = listed (λ args₀ wide k. resolving_clear k (omega arith) wide s t y a z)
+    walking_named t z = listed (λ args₀ wide k. resolving_named k (omega arith) wide s t a z)
 
   -- a draft is no name
   pub walking_other : {r : ℕ} {after : Bool} {args' used' : List ℕ} → i < end → is_named (get_or kinds i 0) ≡ false

@@ -6,7 +6,7 @@ use mathlib.Core.List.{List, [], ◌∷◌, ◌++◌, append_assoc}
 use native.Mathlib.Nat.{sub-zero}
 use native.Mathlib.Numerals.{add-one}
 use native.Mathlib.Omega.{arith}
-use lib.Dec.{eqb, ltb}
+use lib.Dec.{eqb}
 use lib.ListN.{length, get_or, set, take, drop, length-set, drop_of_length-le, take-append-drop}
 use lib.Seq.{drop-cons, set-get_or, take-suc-set, drop-set-lt, get_or_at, length-take-le}
 use Rattle.laws.specs.Places.{any_in}
@@ -15,18 +15,18 @@ use Rattle.laws.proofs.Bools.{or_false}
 use Rattle.laws.proofs.Runs.{held as stands}
 use Rattle.laws.proofs.Gathers.{any_step, any_stop, any_pass, any_done}
 use Rattle.model.specs.Definitions.{place_in}
-use Rattle.blocks.specs.Tests.{fault_if}
+use Rattle.std.specs.Prelude.{Option, Some, None}
+use Rattle.faults.specs.declared.Fault.{Fault as FaultKind}
+use Rattle.faults.specs.declared.Fault.TheVariants.{Undefined, NoConstant}
 use Rattle.model.specs.Faults.{name_fault}
 use Rattle.drafts.specs.Kinds.{kind_constant, kind_from, defines, is_use, asks, is_named}
 use Rattle.drafts.specs.Places.{home_of, begins, ends, any_of}
 use Rattle.model.specs.Places.{resolved_at, resolved, unknown, undefined_at, unfit_at, names_at}
 use Rattle.model.specs.Working.{flawed_by, flawed_at, Resolved, Resolving, name_flaw}
-use Rattle.blocks.proofs.FaultsListed.{if_length}
+use Rattle.blocks.specs.Contract.{fault_of}
+use Rattle.model.proofs.ReportedFaults.{fault_length}
 
 -- ---- tests one after the other
-or_true_right : (a : Bool) {b : Bool} → b ≡ true → (a || b) ≡ true
-or_true_right a {b} e = or_right a b e
-
 or_false_right : (a : Bool) {b : Bool} → b ≡ false → a ≡ (a || b)
 or_false_right true e = refl
 or_false_right false e = sym e
@@ -133,16 +133,10 @@ module _ {keys kinds places args₀ args : List ℕ} {flawed : Bool} {i : ℕ}
               ∙ ap (λ (a : Bool). flawed || a) (sym (any_step f (length kinds) i h)) ∙ v.left;
         }
 
-    -- a name that is flawed, and one that is not
-    pub resolving_flawed : {b after : Bool} {args' : List ℕ} → b ≡ flawed_by places kinds (get_or kinds i 0) slot
-        → b ≡ true → args' ≡ set args i slot
-        → after ≡ true → Resolving keys kinds places args₀ after (i + 1) args'
-    resolving_flawed t y s z = rw s (more t (z ∙ sym (or_right flawed _ y)))
-
-    pub resolving_clear : {b after : Bool} {args' : List ℕ} → b ≡ flawed_by places kinds (get_or kinds i 0) slot
-        → b ≡ false → args' ≡ set args i slot
-        → after ≡ flawed → Resolving keys kinds places args₀ after (i + 1) args'
-    resolving_clear t y s z = rw s (more t (z ∙ or_false_right flawed y))
+    -- a name, flawed or not
+    pub resolving_named : {b after : Bool} {args' : List ℕ} → b ≡ flawed_by places kinds (get_or kinds i 0) slot
+        → args' ≡ set args i slot → after ≡ (flawed || b) → Resolving keys kinds places args₀ after (i + 1) args'
+    resolving_named t s z = rw s (more t z)
 
   -- what is no name stays as it is
   pub resolving_other : {after : Bool} {args' : List ℕ} → i < length kinds → length kinds ≤ length args₀
@@ -151,8 +145,9 @@ module _ {keys kinds places args₀ args : List ℕ} {flawed : Bool} {i : ℕ}
   resolving_other h l n s z =
       let kind = get_or kinds i 0 in
       let arg = get_or args i 0 in
-      resolving_clear h l (slot_other keys kind arg n) (sym (other_clear places kinds kind arg n)) refl
-      (s ∙ sym (set-get_or args i 0)) z
+      let clear = sym (other_clear places kinds kind arg n) in
+      resolving_named h l (slot_other keys kind arg n) clear (s ∙ sym (set-get_or args i 0))
+      (z ∙ or_false_right flawed refl)
 
   pub resolving_last : length kinds ≤ i → Resolved keys kinds places args₀ args flawed
   unfolding resolved
@@ -163,45 +158,52 @@ module _ {keys kinds places args₀ args : List ℕ} {flawed : Bool} {i : ℕ}
       record { same = e; found = rw e (or_false_right flawed (any_done f (length kinds) i h) ∙ v.left) }
 
 -- ---- the flaw of the drafts from place i on, before b, with the worst that stands before them
-module _ (f g : ℕ → Bool) (b : ℕ) where
-  pub record Seeking (from i flaw : ℕ) : Type 0 where
-    pub unfound : any_in f (b - i) i ≡ any_in f (b - from) from
-    pub fit : flaw ≡ name_flaw false (ltb 0 flaw)
-    pub left : (ltb 0 flaw || any_in g (b - i) i) ≡ any_in g (b - from) from
 
-pub seeking_first : (f g : ℕ → Bool) (b from : ℕ) → Seeking f g b from from 0
+abbrev is_some : Option FaultKind → Bool
+is_some None = false
+is_some (Some f) = true
+
+module _ (f g : ℕ → Bool) (b : ℕ) where
+  pub record Seeking (from i : ℕ) (flaw : Option FaultKind) : Type 0 where
+    pub unfound : any_in f (b - i) i ≡ any_in f (b - from) from
+    pub fit : flaw ≡ name_flaw false (is_some flaw)
+    pub left : (is_some flaw || any_in g (b - i) i) ≡ any_in g (b - from) from
+
+pub seeking_first : (f g : ℕ → Bool) (b from : ℕ) → Seeking f g b from from None
 seeking_first f g b from = record { unfound = refl; fit = refl; left = refl }
 
-module _ {f g : ℕ → Bool} {b from i flaw : ℕ} (v : Seeking f g b from i flaw) where
+module _ {f g : ℕ → Bool} {b from i : ℕ} {flaw : Option FaultKind} (v : Seeking f g b from i flaw) where
   -- a name that is undefined
-  pub seeking_found : i < b → f i ≡ true → 22 ≡ name_flaw (any_in f (b - from) from) (any_in g (b - from) from)
+  pub seeking_found : i < b → f i ≡ true
+      → Some Undefined ≡ name_flaw (any_in f (b - from) from) (any_in g (b - from) from)
   seeking_found h t = rw (← v.unfound, any_stop f b i h t)
 
   -- an initial that is unfit, and none
-  pub seeking_unfit : {worse : ℕ} → i < b → f i ≡ false → g i ≡ true → worse ≡ 23 → Seeking f g b from (i + 1) worse
+  pub seeking_unfit : {worse : Option FaultKind} → i < b → f i ≡ false → g i ≡ true → worse ≡ Some NoConstant
+      → Seeking f g b from (i + 1) worse
   seeking_unfit h t u e =
       rw e
       (record {
         unfound = sym (any_pass f b i h t)
             ∙ v.unfound;
         fit = refl;
-        left = sym (or_true_right (ltb 0 flaw) (any_stop g b i h u)) ∙ v.left;
+        left = sym (or_right (is_some flaw) _ (any_stop g b i h u)) ∙ v.left;
       })
 
-  pub seeking_pass : {same : ℕ} → i < b → f i ≡ false → g i ≡ false → same ≡ flaw → Seeking f g b from (i + 1) same
+  pub seeking_pass : {same : Option FaultKind} → i < b → f i ≡ false → g i ≡ false → same ≡ flaw
+      → Seeking f g b from (i + 1) same
   seeking_pass h t u e =
-      let rest = ap (λ (r : Bool). ltb 0 flaw || r) (sym (any_pass g b i h u)) in
+      let rest = ap (λ (r : Bool). is_some flaw || r) (sym (any_pass g b i h u)) in
       rw e (record { unfound = sym (any_pass f b i h t) ∙ v.unfound; fit = v.fit; left = rest ∙ v.left })
 
   pub seeking_last : b ≤ i → flaw ≡ name_flaw (any_in f (b - from) from) (any_in g (b - from) from)
   seeking_last h =
       let none : any_in f (b - from) from ≡ false = sym v.unfound ∙ any_done f b i h in
-      let worst : ltb 0 flaw ≡ any_in g (b - from) from = or_false_right (ltb 0 flaw) (any_done g b i h) ∙ v.left in
+      let worst : is_some flaw ≡ any_in g (b - from) from = or_false_right (is_some flaw) (any_done g b i h) ∙ v.left in
       rw (none, ← worst) v.fit
 
 -- a flaw as a fault
-pub flaw_fault : (u x : Bool) (line : ℕ)
-    → fault_if (ltb 0 (name_flaw u x)) line (name_flaw u x) ≡ name_fault (not u) (not x) line
+pub flaw_fault : (u x : Bool) (line : ℕ) → fault_of (name_flaw u x) line ≡ name_fault (not u) (not x) line
 flaw_fault true x line = refl
 flaw_fault false true line = refl
 flaw_fault false false line = refl
@@ -212,17 +214,17 @@ pub names_single : (places lines bounds kinds slots : List ℕ) (j : ℕ)
 names_single places lines bounds kinds slots j =
     let u = any_of bounds (undefined_at places kinds slots) j in
     let x = any_of bounds (unfit_at places kinds slots) j in
-    rw (← (flaw_fault u x (get_or lines j 0))) (if_length (ltb 0 (name_flaw u x)) (get_or lines j 0) (name_flaw u x))
+    rw (← (flaw_fault u x (get_or lines j 0))) (fault_length (name_flaw u x) (get_or lines j 0))
 
 -- 22 or 23 at unit j, as it was found
-pub flaw_found : (places lines bounds kinds slots : List ℕ) (j : ℕ) {flaw line a b : ℕ}
+pub flaw_found : (places lines bounds kinds slots : List ℕ) (j : ℕ) {flaw : Option FaultKind} {a b : ℕ}
     → flaw ≡ name_flaw (any_in (undefined_at places kinds slots) (b - a) a)
     (any_in (unfit_at places kinds slots) (b - a) a)
-    → a ≡ begins bounds j → b ≡ ends bounds j → line ≡ get_or lines j 0
-    → fault_if (ltb 0 flaw) line flaw ≡ names_at places lines bounds kinds slots j
-flaw_found places lines bounds kinds slots j {flaw} {line} {a} {b} e p q l =
-    let found : ℕ → ℕ → ℕ = λ (x y : ℕ).
+    → a ≡ begins bounds j → b ≡ ends bounds j
+    → fault_of flaw (get_or lines j 0) ≡ names_at places lines bounds kinds slots j
+flaw_found places lines bounds kinds slots j {flaw} {a} {b} e p q =
+    let found : ℕ → ℕ → Option FaultKind = λ (x y : ℕ).
     name_flaw (any_in (undefined_at places kinds slots) (y - x) x) (any_in (unfit_at places kinds slots) (y - x) x) in
-    ap₂ (λ (c n : ℕ). fault_if (ltb 0 c) n c) (e ∙ ap₂ found p q) l
+    ap (λ (f : Option FaultKind). fault_of f (get_or lines j 0)) (e ∙ ap₂ found p q)
     ∙ flaw_fault (any_of bounds (undefined_at places kinds slots) j)
     (any_of bounds (unfit_at places kinds slots) j) (get_or lines j 0)

@@ -16,11 +16,10 @@ use Rattle.laws.proofs.Bools.{or_false}
 use Rattle.laws.proofs.Runs.{inside as within}
 use Rattle.laws.proofs.Gathers.{any_none, none_any, gather_none, gather_short}
 use Rattle.sheet.specs.Sheet.{Fault, fault_list}
+use Rattle.std.specs.Prelude.{Option, Some, None}
 use Rattle.order.specs.Greedy.{order}
 use Rattle.order.specs.Table.{uses_by_table, Fit, fits}
 use Rattle.order.specs.Contract.{Sorts}
-use Rattle.order.specs.declared.Sorted.{Sorted}
-use Rattle.order.specs.declared.Sorted.TheVariants.{Placed, Unfit}
 use Rattle.order.proofs.Tables.{fits_iff}
 use Rattle.drafts.specs.Kinds.{defines, is_use, asks, is_named}
 use Rattle.drafts.specs.Places.{begins, ends, any_of}
@@ -36,11 +35,11 @@ use Rattle.model.specs.Plan.{ordered_plan, weighed, tested, own_slots, own_uses,
 use Rattle.model.specs.Plan.{planned}
 use Rattle.blocks.specs.Working.{Reported}
 use Rattle.model.specs.Working.{Collected, Keyed, flawed_at, Follows, Holds, Wide, Slotted, Owned}
-use Rattle.model.specs.Working.{Unowned, Room, Linkable, Linked, Links, Searched, Weighs}
+use Rattle.model.specs.Working.{Unowned, Linkable, Linked, Links, Searched, Weighs}
 use Rattle.model.specs.Working.{repeated}
 use Rattle.model.specs.declared.names.Usage.{Usage}
 use Rattle.model.specs.declared.stages.Link.{Link}
-use Rattle.model.specs.declared.answer.Plan.{Plan}
+use Rattle.model.specs.Plan.{Plan}
 use Rattle.model.proofs.DefinitionsCollected.{only_length}
 use Rattle.model.proofs.KeysFound.{place_le}
 use Rattle.model.proofs.RepeatedKeys.{as_many, repeated_doubles}
@@ -83,11 +82,11 @@ no_faults (f ∷ fs) e = absurd (let z : ⊥ = omega arith in z)
 
 module _ {fs : List Fault} {c : ℕ} {list list' : List ℕ} (v : Reported fs 0 c list list') where
   -- faults stand
-  pub faults_stand : {p : Plan} (args used : List ℕ) (l : Lent) (rest : PlanOutcome) → 0 < c → p ≡ refused 7 c
-      → plan_outcome p args used list' l ≡ cond (some fs) (faulted fs args used list l) rest
-  faults_stand args used l rest h e =
+  pub faults_stand : (args used : List ℕ) (l : Lent) (rest : PlanOutcome) → 0 < c
+      → plan_outcome (refused 7 c) args used list' l ≡ cond (some fs) (faulted fs args used list l) rest
+  faults_stand args used l rest h =
       let n : c ≡ length fs = omega (arith, v.behind) in
-      rw (lt-ltb 0 (length fs) (omega arith)) (outcome_same args used (e ∙ ap (refused 7) n) v.written refl)
+      rw (lt-ltb 0 (length fs) (omega arith)) (outcome_same args used (ap (refused 7) n) v.written refl)
 
   -- none stands, and nothing is written
   pub faults_none : c ≤ 0 → (list' ≡ list) × (some fs ≡ false)
@@ -100,26 +99,25 @@ module _ {fs : List Fault} {c : ℕ} {list list' : List ℕ} (v : Reported fs 0 
       )
 
 -- ---- 24
-module _ {m : ℕ} {starts used array out : List ℕ} {r : Sorted} (v : Sorts m starts used array r out)
-    (f : Fit m starts used)
+module _ (equated : List ℕ) {starts used array out : List ℕ} {r : Option ℕ}
+    (v : Sorts (length equated) starts used array r out)
+    (f : Fit (length equated) starts used)
     (w : most_statements ≤ length array) where
   abbrev in_order : List ℕ
-  in_order = order m (uses_by_table starts used)
+  in_order = order (length equated) (uses_by_table starts used)
 
-  sorts_room : m ≤ length array
+  sorts_room : length equated ≤ length array
   sorts_room = omega (arith, f.few)
 
-  fitting : fits m starts used (length array) ≡ true
-  fitting = (fits_iff m starts used (length array)).1 (f, sorts_room)
+  fitting : fits (length equated) starts used (length array) ≡ true
+  fitting = (fits_iff (length equated) starts used (length array)).1 (f, sorts_room)
 
   -- a table that fits is sorted
-  pub sorts_fit : r ≡ Unfit → ⊥
-  sorts_fit e =
-      let a = v.answer in let p : r ≡ Placed (length in_order) = rw fitting at a in let z : ◌≡◌ {A = ℕ} 0 1 = cc in
-      omega arith
+  pub sorts_fit : r ≡ None → ⊥
+  sorts_fit e = let a = v.answer in let p : r ≡ Some (length in_order) = rw fitting at a in cc
 
-  sorts_count : {k : ℕ} → r ≡ Placed k → k ≡ length in_order
-  sorts_count e = let a = v.answer in let p : r ≡ Placed (length in_order) = rw fitting at a in cc
+  sorts_count : {k : ℕ} → r ≡ Some k → k ≡ length in_order
+  sorts_count e = let a = v.answer in let p : r ≡ Some (length in_order) = rw fitting at a in cc
 
   sorts_content : out ≡ sets array 0 in_order
   sorts_content = let a = v.content in rw fitting at a
@@ -128,36 +126,30 @@ module _ {m : ℕ} {starts used array out : List ℕ} {r : Sorted} (v : Sorts m 
   sorts_long = ap length sorts_content ∙ length-sets array 0 in_order
 
   -- fewer are placed than there are
-  pub sorts_short : {equated faults faults' : List ℕ} {k c : ℕ} {p : Plan} (n : ℕ) (lines : List ℕ) → r ≡ Placed k
-      → k < m
-      → Holds equated m (take m equated)
-      → Reported (loops (take k out) (take m equated) lines) 0 c faults faults' → p ≡ refused 7 c
-      → (slots filled places : List ℕ)
-      → plan_outcome p slots filled faults' (lent places equated out)
-      ≡ ordered_plan in_order n (take m equated) lines slots filled faults (lent places equated array)
+  pub sorts_short : {faults faults' : List ℕ} {k c : ℕ} (n : ℕ) (lines : List ℕ) → r ≡ Some k → k < length equated
+      → Reported (loops (take k out) equated lines) 0 c faults faults' → (slots filled places array₁ : List ℕ)
+      → plan_outcome (refused 7 c) slots filled faults' (lent places array₁ out)
+      ≡ ordered_plan in_order n equated lines slots filled faults (lent places array₁ array)
   unfolding ordered_plan
-  sorts_short {equated} {faults} {faults'} {k} {c} n lines e l q u z slots filled places =
+  sorts_short {faults} {faults'} {k} {c} n lines e l u slots filled places array₁ =
       let front : take k out ≡ in_order =
       rw (sorts_content, sorts_count e) (front_row array in_order (omega (arith, sorts_room, sorts_count e))) in
-      let reported : Reported (loops in_order (take m equated) lines) 0 c faults faults' = rw front at u in
-      let count : c ≡ length (loops in_order (take m equated) lines) = omega (arith, reported.behind) in
-      rw (lt-ltb (length in_order) (length (take m equated)) (omega (arith, q.long, sorts_count e)))
-      (outcome_same slots filled (z ∙ ap (refused 7) count) reported.written
-      (ap (lent places equated) sorts_content))
+      let reported : Reported (loops in_order equated lines) 0 c faults faults' = rw front at u in
+      let count : c ≡ length (loops in_order equated lines) = omega (arith, reported.behind) in
+      rw (lt-ltb (length in_order) (length equated) (omega (arith, sorts_count e)))
+      (outcome_same slots filled (ap (refused 7) count) reported.written
+      (ap (lent places array₁) sorts_content))
 
   -- all are placed
-  pub sorts_whole : {equated : List ℕ} {k : ℕ} (n : ℕ) (lines faults : List ℕ) → r ≡ Placed k → m ≤ k
-      → Holds equated m (take m equated)
-      → (slots filled places : List ℕ)
-      → plan_outcome (record { number = 0; count = 0; definitions = n; units = m }) slots filled faults
-      (lent places equated out)
-      ≡ ordered_plan in_order n (take m equated) lines slots filled faults (lent places equated array)
+  pub sorts_whole : {k : ℕ} (n : ℕ) (lines faults : List ℕ) → r ≡ Some k → length equated ≤ k
+      → (slots filled places array₁ : List ℕ)
+      → plan_outcome (record { number = 0; count = 0; definitions = n; units = length equated }) slots filled faults
+      (lent places array₁ out)
+      ≡ ordered_plan in_order n equated lines slots filled faults (lent places array₁ array)
   unfolding ordered_plan
-  sorts_whole {equated} n lines faults e l q slots filled places =
-      rw (le-ltb (length in_order) (length (take m equated)) (omega (arith, q.long, sorts_count e)))
-      (outcome_same slots filled
-      (ap (λ (b : ℕ). record { number = 0; count = 0; definitions = n; units = b }) q.long) refl
-      (ap (lent places equated) sorts_content))
+  sorts_whole n lines faults e l slots filled places array₁ =
+      rw (le-ltb (length in_order) (length equated) (omega (arith, sorts_count e)))
+      (outcome_same slots filled refl refl (ap (lent places array₁) sorts_content))
 
 -- the units of the order are no more than the units
 pub equated_few : (n : ℕ) (bounds kinds : List ℕ) → length (ordered_in n bounds kinds) ≤ n
@@ -224,31 +216,31 @@ module _ {lines bounds kinds keys places args slots used used' starts equated : 
 
 module _ {lines bounds kinds slots starts used equated : List ℕ} {m w : ℕ}
     (v : Weighs lines bounds kinds slots m w starts used equated) where
-  pub weighed_fit : Fit m (take (m + 1) starts) (take w used)
+  pub weighed_fit : Fit (length (take m equated)) (take (m + 1) starts) (take w used)
   weighed_fit =
-      let equated = ordered_in (length lines) bounds kinds in
-      rw (v.starts_held, v.used_held, v.equated_held.long)
-      (table_fit equated bounds kinds slots (omega (arith, v.few_equated, v.equated_held.long)))
+      let listed = ordered_in (length lines) bounds kinds in
+      rw (v.starts_held, v.used_held, v.equated_held.front)
+      (table_fit listed bounds kinds slots (omega (arith, v.few_equated, v.equated_held.long)))
 
   pub weighed_by : {p : Plan} {faults' placed' : List ℕ} (n : ℕ) (faults placed : List ℕ)
-      → ((slots filled places : List ℕ)
-      → plan_outcome p slots filled faults' (lent places equated placed')
-      ≡ ordered_plan (order m (uses_by_table (take (m + 1) starts) (take w used))) n (take m equated) lines slots filled
-      faults
-      (lent places equated placed))
+      → ((slots filled places array : List ℕ)
+      → plan_outcome p slots filled faults' (lent places array placed')
+      ≡ ordered_plan (order (length (take m equated)) (uses_by_table (take (m + 1) starts) (take w used))) n
+      (take m equated) lines slots filled faults
+      (lent places array placed))
       → (places : List ℕ)
       → plan_outcome p slots used faults' (lent places equated placed')
       ≡ weighed (ordered_in (length lines) bounds kinds) n lines bounds kinds slots used faults
       (lent places equated placed)
   unfolding weighed
-  weighed_by n faults placed e places = e slots used places ∙ same
+  weighed_by n faults placed e places = e slots used places equated ∙ same
     where
-      same : ordered_plan (order m (uses_by_table (take (m + 1) starts) (take w used))) n
+      same : ordered_plan (order (length (take m equated)) (uses_by_table (take (m + 1) starts) (take w used))) n
           (take m equated) lines slots used faults
           (lent places equated placed)
           ≡ weighed (ordered_in (length lines) bounds kinds) n lines bounds kinds slots used faults
           (lent places equated placed)
-      same = rw (v.starts_held, v.used_held, v.equated_held.front, v.equated_held.long)
+      same = rw (v.starts_held, v.used_held, v.equated_held.front)
 
 -- ---- a name that is used has one of the slots of the definitions, or the one behind
 slotted : (keys kinds args : List ℕ) (n : ℕ) → length keys + 1 < n → length kinds ≤ length args
@@ -317,12 +309,12 @@ module _ {lines bounds ulines ubounds kinds args used keys places : List ℕ} (s
       ∙ repeated_doubles kinds args lines bounds s.rises (ends_within s) in
       rw same at v
 
-  pub distinct_fault : {p : Plan} (l : Lent) → 0 < c → p ≡ refused 7 c
-      → plan_outcome p args used faults' l ≡ distinct lines bounds ulines ubounds kinds args used faults l
+  pub distinct_fault : (l : Lent) → 0 < c
+      → plan_outcome (refused 7 c) args used faults' l ≡ distinct lines bounds ulines ubounds kinds args used faults l
   unfolding distinct
-  distinct_fault l h e =
+  distinct_fault l h =
       let slots = resolved (keys_in kinds args) kinds args in
-      faults_stand doubled args used l (linked_plan (places_in kinds) ulines ubounds kinds slots used faults l) h e
+      faults_stand doubled args used l (linked_plan (places_in kinds) ulines ubounds kinds slots used faults l) h
 
   pub distinct_none : {p : Plan} {slots used' faults'' : List ℕ} {l' : Lent} (l : Lent) → c ≤ 0
       → plan_outcome p slots used' faults'' l'
@@ -337,6 +329,12 @@ module _ {lines bounds ulines ubounds kinds args used keys places : List ℕ} (s
 
 -- ---- linking
 module _ {lines bounds kinds args used keys places : List ℕ} (k : Keyed lines bounds kinds args used keys places) where
+  -- there is room for the units of the order
+  pub ordered_held : {equated equated' : List ℕ} {m : ℕ}
+      → Put (ordered_in (length lines) bounds kinds) 0 m equated equated' → most_statements ≤ length equated
+      → Holds equated' m (ordered_in (length lines) bounds kinds)
+  ordered_held put room = holds_put put (omega (arith, equated_few (length lines) bounds kinds, k.sound.few))
+
   -- the owners of the slots at hand, the names can be resolved
   pub linkable : {owners : List ℕ} → Owned (own_slots (length lines) bounds kinds (resolved keys kinds args)) owners
       → length keys + 1 < length owners → Linkable lines bounds kinds keys owners args used
@@ -351,25 +349,13 @@ module _ {lines bounds kinds args used keys places : List ℕ} (k : Keyed lines 
 
   -- with the units of the order written, the names resolved, and what is used tabled
   module _ {slots starts used' equated equated' : List ℕ} {n : Link}
-      (r : Links lines bounds kinds keys places n args slots used used' equated equated' starts)
-      (room : most_statements ≤ length equated) where
-    abbrev table : Linked lines bounds kinds keys places (record { count = n.used; flawed = n.flawed }) args slots
-        (replicate (most_statements + 1) 0) starts used used'
-    table = r.linked
-
-    units_held : Holds equated' n.units (ordered_in (length lines) bounds kinds)
-    units_held = holds_put r.units_put
-        (omega (arith, equated_few (length lines) bounds kinds, k.sound.few))
-
-    pub placeable : Weighs lines bounds kinds slots n.units n.used starts used' equated'
-    placeable = weighs k.sound units_held table
-
+      (r : Links lines bounds kinds keys places n args slots used used' equated equated' starts) where
     same_slots : slots ≡ resolved (keys_in kinds args) kinds args
-    same_slots = table.resolved_so.same ∙ ap (λ (a : List ℕ). resolved a kinds args) k.keys_so
+    same_slots = r.linked.resolved_so.same ∙ ap (λ (a : List ℕ). resolved a kinds args) k.keys_so
 
     -- the search for 22 and 23 can be made
-    pub searched : Searched lines bounds kinds slots places n.flawed
-    searched = record { few = k.sound.few; inside = ends_within k.sound; flaw = table.resolved_so.found }
+    pub searched : Searched lines bounds kinds slots places n.usage.flawed
+    searched = record { few = k.sound.few; inside = ends_within k.sound; flaw = r.linked.resolved_so.found }
 
     -- what is found of the names is found of the plan
     linked_by : {p : Plan} {faults' : List ℕ} {l' : Lent} (faults places₀ placed : List ℕ)
@@ -381,7 +367,7 @@ module _ {lines bounds kinds args used keys places : List ℕ} (k : Keyed lines 
     unfolding linked_plan
     linked_by {p} {faults'} {l'} faults places₀ placed e =
         plan_outcome p slots used' faults' l' ≡⟨ e ⟩
-        rest used' slots equated' ≡⟨ ap (λ (u : List ℕ). rest u slots equated') table.tabled_so.uses.written ⟩
+        rest used' slots equated' ≡⟨ ap (λ (u : List ℕ). rest u slots equated') r.linked.tabled_so.uses.written ⟩
         rest (uses slots) slots equated' ≡⟨ ap (rest (uses slots) slots) r.units_put.written ⟩
         rest (uses slots) slots ordered ≡⟨ ap (λ (a : List ℕ). rest (uses a) a ordered) same_slots ⟩
         rest (uses (resolved (keys_in kinds args) kinds args)) (resolved (keys_in kinds args) kinds args) ordered ∎
@@ -402,16 +388,16 @@ module _ {lines bounds kinds args used keys places : List ℕ} (k : Keyed lines 
       reported : Reported (nameless (places_in kinds) lines bounds kinds slots) 0 c faults faults'
       reported = rw k.placed at v
 
-      pub tested_fault : {p : Plan} → 0 < c → p ≡ refused 7 c
-          → plan_outcome p slots used' faults' (lent places₀ equated' placed)
+      pub tested_fault : 0 < c
+          → plan_outcome (refused 7 c) slots used' faults' (lent places₀ equated' placed)
           ≡ linked_plan (places_in kinds) lines bounds kinds (resolved (keys_in kinds args) kinds args) used faults
           (lent places₀ equated placed)
       unfolding tested
-      tested_fault h e =
+      tested_fault h =
           let l = lent places₀ equated' placed in
           let rest = weighed (ordered_in (length lines) bounds kinds)
           (length (places_in kinds)) lines bounds kinds slots used' faults l in
-          linked_by faults places₀ placed (faults_stand reported slots used' l rest h e)
+          linked_by faults places₀ placed (faults_stand reported slots used' l rest h)
 
       pub tested_none : {p : Plan} {b : ℕ} {faults'' placed' : List ℕ} → b ≡ length places → c ≤ 0
           → plan_outcome p slots used' faults'' (lent places₀ equated' placed')
@@ -432,51 +418,47 @@ module _ {lines bounds kinds args used keys places : List ℕ} (k : Keyed lines 
           count f.0 in
           linked_by faults places₀ placed (rw f.1 (e ∙ same))
 
--- ---- the room for n definitions is room for fewer
-pub room_of : (n : ℕ) {m : ℕ} → m ≤ n → Room m (replicate n 0) (replicate n 0) (replicate (n + 2) 0)
-room_of n {m} h =
-    let long = length-replicate {A = ℕ} n 0 in
-    let longer = length-replicate {A = ℕ} (n + 2) 0 in
-    record {
-      keys_room = omega (arith, long);
-      links_room = omega (arith, long);
-      owners_room = record { room = omega (arith, longer); none = rw longer };
-    }
+-- ---- the definitions at hand: their keys and places stand at the front, and there is room for their links and for the
+-- owners of their slots
+pub record Defined (kinds args : List ℕ) (n : ℕ) (keys places links owners : List ℕ) : Type 0 where
+  pub few : n ≤ most_definitions
+  pub keys_held : Holds keys n (keys_in kinds args)
+  pub places_held : Holds places n (places_in kinds)
+  pub links_wide : n ≤ length links
+  pub unowned : Unowned n owners
 
--- ---- the definitions
+module _ {kinds args keys places links owners : List ℕ} {n : ℕ}
+    (d : Defined kinds args n keys places links owners) where
+  pub keyed : {lines bounds used : List ℕ} → Follows lines bounds kinds used → length kinds ≤ length args
+      → Keyed lines bounds kinds args used (take n keys) (take n places)
+  keyed s w =
+      record {
+        sound = s;
+        wide = w;
+        few = omega (arith, (holds_front d.keys_held).long, d.few);
+        keys_so = d.keys_held.front;
+        placed = d.places_held.front;
+      }
+
 module _ {kinds args keys₀ keys places places' : List ℕ} {n : ℕ}
     (v : Collected kinds args n keys₀ keys places places') where
   counted : n ≡ length (keys_in kinds args)
   counted = omega (arith, v.keys_so.behind)
 
   -- there is room for them, where there are no more than there may be
-  module _ {links owners : List ℕ} (r : Room (min (length kinds) most_definitions) keys₀ links owners)
-      (h : n ≤ most_definitions) where
-    within_room : n ≤ min (length kinds) most_definitions
-    within_room = omega (arith, counted, keys_few kinds args)
-
-    pub keys_held : Holds keys n (keys_in kinds args)
-    keys_held = holds_put v.keys_so (omega (arith, within_room, counted, r.keys_room))
-
-    pub links_wide : n ≤ length links
-    links_wide = omega (arith, within_room, r.links_room)
-
-    pub owners_wide : Unowned n owners
-    owners_wide = record { room = omega (arith, within_room, r.owners_room.room); none = r.owners_room.none }
-
-  pub places_held : n ≤ most_definitions → most_definitions ≤ length places → Holds places' n (places_in kinds)
-  places_held h w = holds_put v.placed (omega (arith, counted, as_many_keys kinds args))
-
-  pub keyed : {lines bounds used links owners : List ℕ} → Follows lines bounds kinds used → length kinds ≤ length args
-      → most_definitions ≤ length places → Room (min (length kinds) most_definitions) keys₀ links owners
-      → n ≤ most_definitions → Keyed lines bounds kinds args used (take n keys) (take n places')
-  keyed s w p r h =
+  pub defined : (k o : ℕ) → keys₀ ≡ replicate k 0 → min (length kinds) most_definitions ≤ k → k + 2 ≤ o
+      → most_definitions ≤ length places → n ≤ most_definitions
+      → Defined kinds args n keys places' (replicate k 0) (replicate o 0)
+  defined k o e room more wide few =
+      let within : n ≤ min (length kinds) most_definitions = omega (arith, counted, keys_few kinds args) in
+      let long = length-replicate {A = ℕ} k 0 in
+      let longer = length-replicate {A = ℕ} o 0 in
       record {
-        sound = s;
-        wide = w;
-        few = omega (arith, (holds_front (keys_held r h)).long);
-        keys_so = (keys_held r h).front;
-        placed = (places_held h p).front;
+        few = few;
+        keys_held = holds_put v.keys_so (omega (arith, within, counted, ap length e, long));
+        places_held = holds_put v.placed (omega (arith, counted, as_many_keys kinds args));
+        links_wide = omega (arith, within, long);
+        unowned = record { room = omega (arith, within, longer); none = rw longer };
       }
 
   -- the places are written
@@ -484,17 +466,17 @@ module _ {kinds args keys₀ keys places places' : List ℕ} {n : ℕ}
       ≡ with_places (places_in kinds) (lent places equated order)
   arrays equated order = ap (λ (a : List ℕ). lent a equated order) v.placed.written
 
-  module _ {p : Plan} (lines bounds ulines ubounds used faults equated order : List ℕ) where
-    pub sheeted_many : most_definitions < n → p ≡ refused 6 0
-        → plan_outcome p args used faults (lent places' equated order)
+  module _ (lines bounds ulines ubounds used faults equated order : List ℕ) where
+    pub sheeted_many : most_definitions < n
+        → plan_outcome (refused 6 0) args used faults (lent places' equated order)
         ≡ sheeted lines bounds ulines ubounds kinds args used faults
         (lent places equated order)
     unfolding sheeted
-    sheeted_many h e =
+    sheeted_many h =
         rw (lt-ltb most_definitions (length (keys_in kinds args)) (omega (arith, counted)))
-        (outcome_same args used e refl (arrays equated order))
+        (outcome_same args used refl refl (arrays equated order))
 
-    pub sheeted_few : {args' used' faults' : List ℕ} {l' : Lent} → n ≤ most_definitions
+    pub sheeted_few : {p : Plan} {args' used' faults' : List ℕ} {l' : Lent} → n ≤ most_definitions
         → plan_outcome p args' used' faults' l'
         ≡ distinct lines bounds ulines ubounds kinds args used faults (lent places' equated order)
         → plan_outcome p args' used' faults' l'
@@ -566,7 +548,7 @@ module _ (lines bounds ulines ubounds kinds args used faults : List ℕ) (l : Le
   unfolding planned
   planned_fit t e = rw t e
 
-  pub planned_unfit : {p : Plan} → fitted ≡ false → p ≡ refused 9 0
-      → plan_outcome p args used faults l ≡ planned lines bounds ulines ubounds kinds args used faults l
+  pub planned_unfit : fitted ≡ false
+      → plan_outcome (refused 9 0) args used faults l ≡ planned lines bounds ulines ubounds kinds args used faults l
   unfolding planned
-  planned_unfit t e = rw t (outcome_same args used e refl refl)
+  planned_unfit t = rw t

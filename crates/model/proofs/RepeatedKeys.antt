@@ -148,13 +148,13 @@ repeat_single lines bounds keys places j =
     if_length (repeats keys (before (begins bounds j) places) (before (ends bounds j) places)) (get_or lines j 0) 21
 
 -- 21 at statement j, as it was found
-pub repeat_found : (lines bounds keys places : List ℕ) (j : ℕ) {again : Bool} {line d end e : ℕ}
+pub repeat_found : (lines bounds keys places : List ℕ) (j : ℕ) {again : Bool} {d end e : ℕ}
     → again ≡ repeats keys d end
-    → d ≡ before (begins bounds j) places → end ≡ before e places → e ≡ ends bounds j → line ≡ get_or lines j 0
-    → fault_if again line 21 ≡ repeat_at lines bounds keys places j
-repeat_found lines bounds keys places j t p q e l =
+    → d ≡ before (begins bounds j) places → end ≡ before e places → e ≡ ends bounds j
+    → fault_if again (get_or lines j 0) 21 ≡ repeat_at lines bounds keys places j
+repeat_found lines bounds keys places j t p q e =
     let last = q ∙ ap (λ (b : ℕ). before b places) e in
-    ap₂ (λ (b : Bool) (n : ℕ). fault_if b n 21) (t ∙ ap₂ (repeats keys) p last) l
+    ap (λ (b : Bool). fault_if b (get_or lines j 0) 21) (t ∙ ap₂ (repeats keys) p last)
 
 -- ---- the keys and places that are collected
 module _ (kinds args : List ℕ) where

@@ -100,16 +100,19 @@ owning_start equated bounds kinds args {owners} e =
     rw (length-map equated (assigned_by bounds kinds args)) at (owning_first assigned {owners = owners} e)
 
 module _ {assigned : List (List ℕ)} {owners₀ owners : List ℕ} {r : ℕ} (v : Owning assigned owners₀ r owners) where
-  pub owning_next : {ss owners' : List ℕ} → 0 < r → ss ≡ get_or assigned (r - 1) [] → owners' ≡ noted ss r owners
-      → Owning assigned owners₀ (r - 1) owners'
-  owning_next {ss} {owners'} h p e =
+  pub owning_next : {ss owners' : List ℕ} → 0 < r → ss ≡ get_or assigned (r - 1) []
+      → owners' ≡ noted ss (r - 1 + 1) owners → Owning assigned owners₀ (r - 1) owners'
+  owning_next {ss} {owners'} h p e₀ =
       record { within = omega (arith, v.within); long = same ∙ v.long; owner = at }
     where
-      same : length owners' ≡ length owners
-      same = ap length e ∙ length_noted ss r owners
-
       back : r - 1 + 1 ≡ r
       back = omega arith
+
+      e : owners' ≡ noted ss r owners
+      e = rw back at e₀
+
+      same : length owners' ≡ length owners
+      same = ap length e ∙ length_noted ss r owners
 
       front : drop (r - 1) assigned ≡ ss ∷ drop r assigned
       front =

@@ -11,7 +11,6 @@ use Rattle.order.specs.Greedy.{order}
 use Rattle.order.specs.Table.{uses_by_table}
 use Rattle.model.specs.Places.{keys_in, places_in, doubles, resolved, nameless, ordered_in, assigned_slots, used_in}
 use Rattle.model.specs.Places.{starts_from, loops}
-use Rattle.model.specs.declared.answer.Plan.{Plan}
 
 -- the three arrays that are lent for what the program is written from: the places of the definitions, the units of the
 -- order by number, and their order
@@ -33,7 +32,14 @@ with_equated row l = lent l.places (sets l.equated 0 row) l.order
 abbrev pub with_order : List ℕ → Lent → Lent
 with_order row l = lent l.places l.equated (sets l.order 0 row)
 
--- the answer, and the final content of the arguments, the table of uses, the fault list and the three arrays
+-- a number, 0 without refusal; the count of faults; with number 0 the counts of definitions and of units of the order
+pub record Plan : Type 0 where
+  pub number : ℕ
+  pub count : ℕ
+  pub definitions : ℕ
+  pub units : ℕ
+
+-- these, and the final content of the arguments, the table of uses, the fault list and the three arrays
 pub record PlanOutcome : Type 0 where
   pub plan : Plan
   pub args : List ℕ

@@ -1,13 +1,15 @@
 -- What the passes of the code keep and leave: tables by which a name's definition and a slot's unit are found without a
 -- search, and rows that are written to the front of an array. lines and bounds are those of units, but for 21.
 use Rattle.std.specs.Prelude.{ℕ, zero, suc, ◌+◌, ◌-◌, ◌%◌, ◌≤◌, ◌<◌, ◌≡◌, Bool, true, not, cond, ◌&&◌, ◌||◌, List, []}
-use Rattle.std.specs.Prelude.{◌∷◌, ◌++◌, eqb, ltb, length, get_or, set, take, drop, replicate}
+use Rattle.std.specs.Prelude.{◌∷◌, ◌++◌, eqb, ltb, length, get_or, set, take, drop, replicate, Option, Some, None}
 use Rattle.std.proofs.lemmas.List.Edits.{sets}
 use Rattle.std.proofs.Math.Seq.{slice}
 use Rattle.limits.specs.Limits.{most_statements, most_definitions, text_bytes}
 use Rattle.laws.specs.Places.{gather, any_in, only_if}
 use Rattle.laws.specs.Counts.{has}
 use Rattle.laws.specs.Put.{Put}
+use Rattle.faults.specs.declared.Fault.{Fault as FaultKind}
+use Rattle.faults.specs.declared.Fault.TheVariants.{Undefined, NoConstant}
 use Rattle.sheet.specs.Sheet.{Fault}
 use Rattle.blocks.specs.Tests.{again, fault_if}
 use Rattle.model.specs.Plan.{own_slots, own_uses}
@@ -17,8 +19,6 @@ use Rattle.drafts.specs.Kinds.{kind_constant, kind_from, defines, is_use, asks}
 use Rattle.drafts.specs.Places.{begins, ends, home_of}
 use Rattle.model.specs.Places.{keys_in, places_in, resolved, unknown, ordered_in, assigned_slots, place_among, used_in}
 use Rattle.model.specs.Places.{starts_from}
-
--- ---- rows that are written
 
 -- ---- arrays that fit
 
@@ -58,13 +58,6 @@ pub record Keyed (lines bounds kinds args used keys places : List ℕ) : Type 0 
   pub few : length keys ≤ most_definitions
   pub keys_so : keys ≡ keys_in kinds args
   pub placed : places ≡ places_in kinds
-
--- ---- definitions noted behind d others: their keys and their places
-
--- a draft of a kind, if it is one
-pub record Noted (kind key place d r : ℕ) (keys keys' places places' : List ℕ) : Type 0 where
-  pub keys_so : Put (only_if (defines kind) key) d r keys keys'
-  pub placed : Put (only_if (defines kind) place) d r places places'
 
 -- place i, if it defines a name
 abbrev pub place_at : List ℕ → ℕ → List ℕ
@@ -120,9 +113,9 @@ flawed_by places kinds kind slot =
 abbrev pub flawed_at : List ℕ → List ℕ → List ℕ → ℕ → Bool
 flawed_at places kinds slots i = flawed_by places kinds (get_or kinds i 0) (get_or slots i 0)
 
--- ---- 22 or 23, 0 for neither: by whether a name is undefined and whether an initial is unfit
-abbrev pub name_flaw : Bool → Bool → ℕ
-name_flaw undefined unfit = cond undefined 22 (cond unfit 23 0)
+-- ---- 22 or 23, if it is either: by whether a name is undefined and whether an initial is unfit
+abbrev pub name_flaw : Bool → Bool → Option FaultKind
+name_flaw undefined unfit = cond undefined (Some Undefined) (cond unfit (Some NoConstant) None)
 
 -- ---- a slot's unit: its place among those of the order and one more, 0 where none assigns the slot
 abbrev pub owner_in : List (List ℕ) → ℕ → ℕ
@@ -155,16 +148,6 @@ used_from owners kinds slots i = used_here owners (get_or kinds i 0) (get_or slo
 -- a name that is used has one of n slots
 pub record Slotted (n : ℕ) (kinds args : List ℕ) : Type 0 where
   pub slot : (i : ℕ) → is_use (get_or kinds i 0) ≡ true → get_or args i 0 < n
-
--- ---- the room for what is known of n definitions: their keys, the links of these, and the owners of their slots
-pub record Room (n : ℕ) (keys links owners : List ℕ) : Type 0 where
-  pub keys_room : n ≤ length keys
-  pub links_room : n ≤ length links
-  pub owners_room : Unowned n owners
-
--- the most drafts of a model that is planned in the smaller room
-abbrev pub few_drafts : ℕ
-few_drafts = 128
 
 -- ---- names resolved and uses listed, draft by draft
 
@@ -216,20 +199,6 @@ pub record Linked (lines bounds kinds keys places : List ℕ) (n : Usage)
   pub tabled_so : Tabled (ordered_in (length lines) bounds kinds) bounds kinds args'
       n.count starts starts' used used'
 
--- what linking gives: the units of the order are at the front of equated, the names are resolved, and what is used is
--- tabled
-pub record Links (lines bounds kinds keys places : List ℕ) (r : Link)
-    (args args' used used' equated equated' starts' : List ℕ) : Type 0 where
-  pub units_put : Put (ordered_in (length lines) bounds kinds) 0 r.units equated equated'
-  pub linked : Linked lines bounds kinds keys places (record { count = r.used; flawed = r.flawed }) args args'
-      (replicate (most_statements + 1) 0) starts' used used'
-
--- what the search for 22 and 23 asks: no unit ends behind the last draft, and whether a name is flawed is known
-pub record Searched (lines bounds kinds slots places : List ℕ) (flawed : Bool) : Type 0 where
-  pub few : length lines ≤ most_statements
-  pub inside : (j : ℕ) → j < length lines → ends bounds j ≤ length kinds
-  pub flaw : flawed ≡ any_in (flawed_at places kinds slots) (length kinds) 0
-
 -- the m units of the order are held in equated, and what they use at the front of starts and used
 pub record Weighs (lines bounds kinds slots : List ℕ) (m w : ℕ) (starts used equated : List ℕ) : Type 0 where
   pub few : length lines ≤ most_statements
@@ -241,6 +210,21 @@ pub record Weighs (lines bounds kinds slots : List ℕ) (m w : ℕ) (starts used
       (ordered_in (length lines) bounds kinds)
   pub used_room : w ≤ length used
   pub used_held : take w used ≡ own_uses (length lines) bounds kinds slots
+
+-- what linking gives: the units of the order are at the front of equated, the names are resolved, and what is used is
+-- tabled
+pub record Links (lines bounds kinds keys places : List ℕ) (r : Link)
+    (args args' used used' equated equated' starts' : List ℕ) : Type 0 where
+  pub units_put : Put (ordered_in (length lines) bounds kinds) 0 r.units equated equated'
+  pub linked : Linked lines bounds kinds keys places r.usage args args'
+      (replicate (most_statements + 1) 0) starts' used used'
+  pub weighs : Weighs lines bounds kinds args' r.units r.usage.count starts' used' equated'
+
+-- what the search for 22 and 23 asks: no unit ends behind the last draft, and whether a name is flawed is known
+pub record Searched (lines bounds kinds slots places : List ℕ) (flawed : Bool) : Type 0 where
+  pub few : length lines ≤ most_statements
+  pub inside : (j : ℕ) → j < length lines → ends bounds j ≤ length kinds
+  pub flaw : flawed ≡ any_in (flawed_at places kinds slots) (length kinds) 0
 
 -- ---- 24: a mark for each unit that is placed
 pub record Marked (placed marks : List ℕ) : Type 0 where

@@ -5,7 +5,6 @@ ghost use Rattle.limits.specs.Limits.{most_definitions};
 ghost use Rattle.model.specs.Definitions.{place_in};
 ghost use Rattle.model.specs.Working.{buckets, Hinted};
 
-use super::lists::put_short;
 use bits::reads::short_at;
 use blocks::hints::BUCKETS;
 
@@ -22,26 +21,35 @@ pub(crate) fn note_hints(keys: &[u64], hints: &mut [u16], links: &mut [u16])
         × (length keys.now ≤ length links.old) }
     ensures { Hinted keys.now hints.new links.new }
 {
-    let mut d = keys.len();
-    while 0 < d {
-        let b = bucket(keys[d - 1]);
-        put_short(&mut *links, d - 1, short_at(hints, b));
-        put_short(&mut *hints, b, d);
-        d -= 1;
+    for d in (0..keys.len()).rev() {
+        let b = bucket(keys[d]);
+        links[d] = hints[b];
+        hints[b] = d as u16 + 1;
     }
 }
 
-// The place of a key, the count of keys where it does not stand there.
-pub(crate) fn find(keys: &[u64], hints: &[u16], links: &[u16], key: u64) -> usize
-    requires { Hinted keys.now hints.now links.now }
-    ensures { result ≡ place_in key keys.now }
-{
-    let mut h = short_at(hints, bucket(key));
-    while 0 < h {
-        if keys[h - 1] == key {
-            return h - 1;
+// The names of the definitions: their keys, no more than there may be, and the table by which each is found.
+#[derive(Clone, Copy)]
+pub(crate) struct Names<'a> {
+    pub keys: &'a [u64],
+    pub hints: &'a [u16],
+    pub links: &'a [u16],
+    ghost few: { length keys.now ≤ most_definitions },
+    ghost hinted: { Hinted keys.now hints.now links.now },
+}
+
+impl Names<'_> {
+    // The place of a key, the count of keys where it does not stand there.
+    pub(crate) fn find(&self, key: u64) -> usize
+        ensures { result ≡ place_in key self.now.keys.now }
+    {
+        let mut h = short_at(self.hints, bucket(key));
+        while 0 < h {
+            if self.keys[h - 1] == key {
+                return h - 1;
+            }
+            h = short_at(self.links, h - 1);
         }
-        h = short_at(links, h - 1);
+        self.keys.len()
     }
-    keys.len()
 }

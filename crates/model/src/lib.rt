@@ -9,14 +9,14 @@ mod collect;
 mod doubles;
 mod fitting;
 mod hints;
-mod lists;
 mod loops;
 mod names;
-mod report;
 mod stages;
 mod units;
 
-use answer::Plan;
+use answer::Counts;
+use blocks::answer::Refusal;
+use sheet::Sheet;
 
 // Plans units: lines and bounds are the statements', ulines and ubounds the units', kinds and args the drafts. The
 // table of uses is written to used, model faults to the list, the places of the definitions, the units of the order and
@@ -34,29 +34,33 @@ pub fn plan(
     places: &mut [u16],
     equated: &mut [u16],
     order: &mut [u16],
-) -> Plan
+) -> Result<Counts, Refusal>
     ensures { Plans lines.now bounds.now ulines.now ubounds.now
         kinds.now args.old used.old faults.old
         (lent places.old equated.old order.old) result
         args.new used.new faults.new
         (lent places.new equated.new order.new) }
 {
-    if fitting::fits(
+    let sheet = Sheet {
         lines,
         bounds,
+        kinds,
+        args: &*args,
+    };
+    let fits = fitting::fits(
+        &sheet,
         ulines,
         ubounds,
-        kinds,
-        args.len(),
         used.len(),
         faults.len(),
         places.len(),
         equated.len(),
         order.len(),
-    ) {
-        return stages::run(
-            lines, bounds, ulines, ubounds, kinds, args, used, faults, places, equated, order,
-        );
+    );
+    if !fits {
+        return Err(Refusal::Unfit);
     }
-    stages::refusal(9, 0)
+    stages::run(
+        lines, bounds, ulines, ubounds, kinds, args, used, faults, places, equated, order,
+    )
 }

@@ -5,9 +5,10 @@ ghost use Rattle.model.specs.Places.{loops};
 ghost use Rattle.blocks.specs.Working.{Reported};
 ghost use Rattle.model.specs.Working.{Marked, unmarked};
 
-use super::lists::put_byte;
-use super::report::add_fault;
+use bits::put;
 use bits::reads::{byte_at, short_at};
+use blocks::report::add_fault;
+use faults::Fault;
 use limits::STATEMENTS;
 
 // Marks the units that are placed.
@@ -15,10 +16,8 @@ fn mark(placed: &[u16], marks: &mut [u8])
     requires { marks.old ≡ replicate most_statements 0 }
     ensures { Marked placed.now marks.new }
 {
-    let mut k = 0;
-    while k < placed.len() {
-        put_byte(&mut *marks, short_at(placed, k), 1);
-        k += 1;
+    for &unit in placed {
+        put(&mut *marks, unit as usize, 1);
     }
 }
 
@@ -28,12 +27,10 @@ fn report_unmarked(marks: &[u8], equated: &[u16], lines: &[u16], faults: &mut [u
     ensures { Reported (unmarked marks.now equated.now lines.now) 0 result
         faults.old faults.new }
 {
-    let mut count: usize = 0;
-    let mut r = 0;
-    while r < equated.len() {
-        let line = short_at(lines, short_at(equated, r));
-        count = add_fault(byte_at(marks, r) == 0, line, 24, &mut *faults, count);
-        r += 1;
+    let mut count = 0;
+    for (r, &unit) in equated.iter().enumerate() {
+        let fault = (byte_at(marks, r) == 0).then_some(Fault::Unsortable);
+        count = add_fault(fault, short_at(lines, unit as usize), &mut *faults, count);
     }
     count
 }

@@ -4,11 +4,10 @@ pub mod Chains
 pub mod FirstOrder
 pub mod Tables
 pub mod Searches
+pub mod Seeking
 pub mod Marking
 pub mod Queues
 pub mod Flagging
-pub mod Seeking
-pub mod Arrays
 pub mod Settling
 pub mod Placing
 pub mod AnswerByFit

@@ -1,12 +1,16 @@
 -- Laws of `first`, for a loop that goes up by one.
 use mathlib.Core.Path.{◌≡◌, ◌∙◌}
 use mathlib.Core.Bool.{Bool, true, false, cond}
+use mathlib.Core.Logic.{⊎_elim}
 use Prim.Native.Nat.{ℕ, zero, suc, ◌+◌, ◌-◌, ◌≤◌, ◌<◌}
 use native.Mathlib.Nat.{sub-zero}
 use native.Mathlib.Numerals.{add-one}
 use native.Mathlib.Omega.{arith}
-use Rattle.laws.proofs.Tests.{cond_ind}
+use borrow.Author.Tests.{lt-ltb, le-ltb}
+use Rattle.std.specs.Prelude.{Some, None}
+use Rattle.laws.proofs.Tests.{lt_or_ge, cond_ind}
 use Rattle.order.specs.Greedy.{first}
+use Rattle.order.specs.Marks.{below_end}
 
 module _ (f : ℕ → Bool) (n i : ℕ) where
   -- one step of a search
@@ -46,3 +50,21 @@ unfolding first
 first_bound f zero i = omega arith
 first_bound f (suc k) i =
     cond_ind (λ r. r ≤ i + suc k) (f i) i _ (λ t. omega arith) (λ t. omega (arith, first_bound f k (suc i)))
+
+-- ---- a place that stands before an end
+
+pub before_found : (n : ℕ) {i : ℕ} → i < n → below_end n i ≡ Some i
+before_found n {i} h = rw (lt-ltb i n h)
+
+pub before_past : (n : ℕ) {i : ℕ} → n ≤ i → below_end n i ≡ None
+before_past n {i} h = rw (le-ltb i n h)
+
+-- which one it is
+pub before_some : (n : ℕ) {i k : ℕ} → Some k ≡ below_end n i → (k ≡ i) × (i < n)
+before_some n {i} {k} e =
+    ⊎_elim (λ (h : i < n). (let f = before_found n h in cc, h))
+    (λ h. let f = before_past n h in absurd (cc)) (lt_or_ge i n)
+
+-- or that it does not
+pub before_none : (n : ℕ) {i : ℕ} → None ≡ below_end n i → n ≤ i
+before_none n {i} e = ⊎_elim (λ (h : i < n). let f = before_found n h in absurd (cc)) (λ h. h) (lt_or_ge i n)

@@ -1,14 +1,18 @@
 -- Laws of the tests of a table.
-use mathlib.Core.Path.{◌≡◌, refl, sym, ◌∙◌}
-use mathlib.Core.Bool.{Bool, true, false}
+use mathlib.Core.Path.{◌≡◌, sym, ◌∙◌}
+use mathlib.Core.Bool.{true}
 use mathlib.Core.Logic.{◌↔◌}
 use mathlib.Core.List.{List}
-use Prim.Native.Nat.{ℕ, zero, suc, ◌+◌, ◌-◌, ◌≤◌, ◌<◌}
+use Prim.Native.Nat.{ℕ, ◌+◌, ◌-◌, ◌≤◌, ◌<◌}
 use native.Mathlib.Omega.{arith}
 use borrow.Author.Tests.{ltb-true, leb-true, lt-ltb, le-leb}
 use lib.Dec.{ltb, leb}
-use lib.ListN.{length, get_or, take}
+use lib.ListN.{length, get_or, take, drop}
 use lib.Seq.{slice, length-slice, take-length, get_or-drop, get_or-take}
+use Rattle.std.specs.Prelude.{slice_range, All}
+use Rattle.std.proofs.lemmas.List.{get_or_default}
+use Rattle.std.proofs.lemmas.List.Elements.{All-get_or, All-from_get_or}
+use Rattle.std.proofs.lemmas.Grind.{common_steps}
 use Rattle.limits.specs.Limits.{most_statements}
 use Rattle.laws.specs.Counts.{◌∈◌}
 use Rattle.laws.proofs.Tests.{and_true, and_both}
@@ -18,25 +22,29 @@ use Rattle.order.specs.Greedy.{all}
 use Rattle.order.specs.Table.{Fit, ends_in, below_at, fits}
 use Rattle.order.proofs.Sorting.{all_true, all_intro}
 
--- ---- `all`, from the last number down
+-- ---- the ends of the n are the starts from place 1 on
+module _ (n size : ℕ) (starts : List ℕ) (h : n < length starts) where
+  -- those places
+  abbrev ends : List ℕ
+  ends = slice_range starts 1 (n + 1)
 
--- one that fails
-pub all_stop : (f : ℕ → Bool) (k : ℕ) → 0 < k → f (k - 1) ≡ false → all k f ≡ false
-unfolding all
-all_stop f zero h e = absurd (omega arith)
-all_stop f (suc k) h e = let p : suc k - 1 ≡ k = omega arith in rw (rw p at e)
+  end_at : (i d : ℕ) → i < n → get_or ends i d ≡ get_or starts (i + 1) 0
+  end_at i d l =
+      let e : 1 + i ≡ i + 1 = omega arith in
+      get_or-take (n + 1 - 1) (drop 1 starts) i d (omega arith)
+      ∙ get_or-drop 1 starts i d
+      ∙ rw e (get_or_default starts (i + 1) d 0 (omega arith))
 
--- one that passes
-pub all_pass : (f : ℕ → Bool) (k : ℕ) → 0 < k → f (k - 1) ≡ true → all k f ≡ all (k - 1) f
-unfolding all
-all_pass f zero h e = absurd (omega arith)
-all_pass f (suc k) h e = let p : suc k - 1 ≡ k = omega arith in rw (rw p at e, p)
+  ends_size : length ends ≡ n
+  ends_size = grind (arith, common_steps)
 
--- none is left
-pub all_done : (f : ℕ → Bool) (k : ℕ) → k ≤ 0 → all k f ≡ true
-unfolding all
-all_done f zero h = refl
-all_done f (suc k) h = absurd (omega arith)
+  pub ends_within : All (λ e. e ≤ size) ends ↔ ((i : ℕ) → i < n → get_or starts (i + 1) 0 ≤ size)
+  ends_within = (
+    λ a i l. rw (end_at i 0 l) at (All-get_or (λ e. e ≤ size) ends i 0 (omega (arith, ends_size)) a),
+    λ f.
+        All-from_get_or (λ e. e ≤ size) ends 0
+        (λ i l. let k : i < n = omega (arith, ends_size) in rw (end_at i 0 k) (f i k)),
+  )
 
 -- ---- the test of a table
 module _ (n : ℕ) (starts used : List ℕ) (room : ℕ) where

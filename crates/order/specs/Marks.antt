@@ -1,30 +1,40 @@
--- What the code keeps while it places statements: a mark for each that is placed, a cursor for each past what it uses
+-- What a desk keeps while statements are placed: a mark for each that is placed, a cursor for each past what it uses
 -- that is placed, a flag for each that is ready; any other waits for one that it uses, in a list of those that do.
-use Rattle.std.specs.Prelude.{◌≡◌, Bool, true, false, not, ◌&&◌, ◌||◌, List, [], ◌∷◌, ℕ, ◌+◌, ◌≤◌, ◌<◌, eqb, ltb}
-use Rattle.std.specs.Prelude.{length, get_or, set}
+use Rattle.std.specs.Prelude.{◌≡◌, Bool, true, false, not, cond, ◌&&◌, ◌||◌, List, [], ◌∷◌, ℕ, ◌+◌, ◌≤◌, ◌<◌, eqb, ltb}
+use Rattle.std.specs.Prelude.{length, get_or, set, replicate, Option, Some, None}
 use Rattle.limits.specs.Limits.{most_statements}
 use Rattle.laws.specs.Counts.{once, count, ◌∈◌}
+use Rattle.order.specs.declared.Desk.{Desk}
+use Rattle.order.specs.declared.table.Table.{Table}
 use Rattle.order.specs.Greedy.{all}
-use Rattle.order.specs.Table.{uses_by_table, Fit}
+use Rattle.order.specs.Table.{uses_by_table}
+
+-- a place, if it stands before an end
+abbrev pub below_end : ℕ → ℕ → Option ℕ
+below_end end k = cond (ltb k end) (Some k) None
 
 -- j is placed: it has its mark
-abbrev pub placed_in : List ℕ → ℕ → Bool
-placed_in marks j = ltb 0 (get_or marks j 0)
+abbrev pub placed_in : List Bool → ℕ → Bool
+placed_in marks j = get_or marks j false
+
+-- none of n is
+abbrev pub NonePlaced : ℕ → List Bool → Type 0
+NonePlaced n marks = (j : ℕ) → j < n → placed_in marks j ≡ false
 
 -- the statement used at place p is not placed
-abbrev pub open_at : List ℕ → List ℕ → ℕ → Bool
+abbrev pub open_at : List ℕ → List Bool → ℕ → Bool
 open_at used marks p = not (placed_in marks (get_or used p 0))
 
 -- all that i uses is placed
-abbrev pub free_in : ℕ → List ℕ → List ℕ → List ℕ → ℕ → Bool
+abbrev pub free_in : ℕ → List ℕ → List ℕ → List Bool → ℕ → Bool
 free_in n starts used marks i = all n (λ j. not (uses_by_table starts used i j) || placed_in marks j)
 
 -- i is not placed, and all that it uses is
-unfoldable pub ready_in : ℕ → List ℕ → List ℕ → List ℕ → ℕ → Bool
+unfoldable pub ready_in : ℕ → List ℕ → List ℕ → List Bool → ℕ → Bool
 ready_in n starts used marks i = not (placed_in marks i) && free_in n starts used marks i
 
 -- of what i uses the first are placed, as many as its cursor says; there is a mark and a cursor for each of n
-pub record Cursors (n : ℕ) (starts used marks cursors : List ℕ) : Type 0 where
+pub record Cursors (n : ℕ) (starts used : List ℕ) (marks : List Bool) (cursors : List ℕ) : Type 0 where
   pub marks_size : n ≤ length marks
   pub size : n ≤ length cursors
   pub pass : (i d : ℕ) → i < n → d < get_or cursors i 0 → open_at used marks (get_or starts i 0 + d) ≡ false
@@ -56,87 +66,91 @@ pub record Queues (n : ℕ) (heads links waits : List ℕ) (p x : ℕ) : Type 0 
   pub stands : (i q : ℕ) → i < n → q < n → count i (queue q) ≡ once (eqb (get_or waits i 0) q)
   pub only : (i q : ℕ) → q < n → i ∈ queue q → i < n
 
+-- i is put to the front of the list of those that wait for j
+abbrev pub hang : {N : ℕ} → Desk N → ℕ → ℕ → Desk N
+hang d i j =
+    record d {
+      heads = set d.heads j i;
+      links = set d.links i (get_or d.heads j 0);
+      waits = set d.waits i j;
+    }
+
 -- ---- who is ready
 
 -- the flag of i is set
-abbrev pub flag : List ℕ → ℕ → Bool
-flag flags i = ltb 0 (get_or flags i 0)
-
--- one of them is
-unfoldable pub some_flag : List ℕ → Bool
-some_flag [] = false
-some_flag (a ∷ l) = ltb 0 a || some_flag l
+abbrev pub flag : List Bool → ℕ → Bool
+flag flags i = get_or flags i false
 
 -- of the statements before k: who is flagged is ready, and waits for none; nor does one that is placed; any other waits
 -- for one that it uses and that is not placed, unless that is p; there is a flag for each of n
-pub record Flags (n k : ℕ) (starts used marks flags waits : List ℕ) (p : ℕ) : Type 0 where
+pub record Flags (n k : ℕ) (starts used : List ℕ) (marks flags : List Bool) (waits : List ℕ) (p : ℕ) : Type 0 where
   pub flags_size : n ≤ length flags
-  pub flagged : (i : ℕ) → i < k → 0 < get_or flags i 0
+  pub flagged : (i : ℕ) → i < k → flag flags i ≡ true
       → (ready_in n starts used marks i ≡ true) × (get_or waits i 0 ≡ none)
-  pub placed : (i : ℕ) → i < k → 0 < get_or marks i 0 → get_or waits i 0 ≡ none
-  pub blocked : (i : ℕ) → i < k → get_or marks i 0 ≡ 0 → get_or flags i 0 ≡ 0
+  pub placed : (i : ℕ) → i < k → placed_in marks i ≡ true → get_or waits i 0 ≡ none
+  pub blocked : (i : ℕ) → i < k → placed_in marks i ≡ false → flag flags i ≡ false
       → (get_or waits i 0 < n) × (uses_by_table starts used i (get_or waits i 0) ≡ true)
-      × ((get_or waits i 0 ≡ p → ⊥) → get_or marks (get_or waits i 0) 0 ≡ 0)
+      × ((get_or waits i 0 ≡ p → ⊥) → placed_in marks (get_or waits i 0) ≡ false)
 
 -- all that is known between two steps
-pub record Between (n k : ℕ) (starts used marks flags cursors heads links waits : List ℕ) (p x : ℕ) : Type 0 where
-  pub moved : Cursors n starts used marks cursors
-  pub lists : Queues n heads links waits p x
-  pub known : Flags n k starts used marks flags waits p
+pub record Between {N : ℕ} (t : Table) (k : ℕ) (d : Desk N) (p x : ℕ) : Type 0 where
+  pub moved : Cursors t.n t.starts.now t.used.now d.marks d.cursors
+  pub lists : Queues t.n d.heads d.links d.waits p x
+  pub known : Flags t.n k t.starts.now t.used.now d.marks d.ready d.waits p
 
--- what `settle` gives: whether i is ready; if not, i waits for one that it uses and that is not placed, at the front of
--- its list
-pub record Settles (n : ℕ) (starts used marks : List ℕ) (i : ℕ) (r : Bool)
-    (cursors heads links waits heads' links' waits' : List ℕ) : Type 0 where
-  pub moved : Cursors n starts used marks cursors
-  pub flag_is : r ≡ ready_in n starts used marks i
-  pub kept : r ≡ true → (heads' ≡ heads) × (links' ≡ links) × (waits' ≡ waits)
-  pub hung : r ≡ false → (j : ℕ) × (j < n) × (uses_by_table starts used i j ≡ true) × (get_or marks j 0 ≡ 0)
-      × (heads' ≡ set heads j i) × (links' ≡ set links i (get_or heads j 0)) × (waits' ≡ set waits i j)
+-- ---- one is settled
+
+-- what `settle` needs of i: it is one of the n, and not placed; there is a place for each of them
+pub record MaySettle {N : ℕ} (t : Table) (i : ℕ) (d : Desk N) : Type 0 where
+  pub one : i < t.n
+  pub unplaced : placed_in d.marks i ≡ false
+  pub moved : Cursors t.n t.starts.now t.used.now d.marks d.cursors
+  pub room : Room t.n d.heads d.links d.waits
+
+-- what it gives: whether i is ready; if not, i waits for one that it uses and that is not placed, at the front of its
+-- list
+pub record Settles {N : ℕ} (t : Table) (i : ℕ) (r : Bool) (d d' : Desk N) : Type 0 where
+  pub moved : Cursors t.n t.starts.now t.used.now d.marks d'.cursors
+  pub flag_is : r ≡ ready_in t.n t.starts.now t.used.now d.marks i
+  pub kept : r ≡ true → d' ≡ d
+  pub hung : r ≡ false → (j : ℕ) × (j < t.n) × (uses_by_table t.starts.now t.used.now i j ≡ true)
+      × (placed_in d.marks j ≡ false) × (d' ≡ hang (record d { cursors = d'.cursors }) i j)
 
 -- ---- at first
 
--- the most statements that are ordered in the smaller arrays
-abbrev pub few_statements : ℕ
-few_statements = 64
+-- a desk with room for N statements: none is placed or flagged, none waits, no cursor has moved and every list is empty
+abbrev pub empty_desk : (N : ℕ) → Desk N
+empty_desk N =
+    record {
+      marks = replicate N false;
+      ready = replicate N false;
+      cursors = replicate N 0;
+      heads = replicate N none;
+      links = replicate N 0;
+      waits = replicate N none;
+    }
 
--- there is a 0 for each of n: of marks, that none is placed; of cursors, that none has moved
-pub record Zeros (n : ℕ) (array : List ℕ) : Type 0 where
-  pub size : n ≤ length array
-  pub zero_at : (i : ℕ) → i < n → get_or array i 0 ≡ 0
-
--- no statement is flagged, none waits, and every list is empty
-pub record Blank (n : ℕ) (flags heads links waits : List ℕ) : Type 0 where
-  pub room : Room n heads links waits
-  pub unflagged : Zeros n flags
-  pub unheaded : (i : ℕ) → i < n → get_or heads i 0 ≡ none
-  pub idle : (i : ℕ) → i < n → get_or waits i 0 ≡ none
-
--- what `settle_first` gives: the same, with any marks and cursors that are 0
-pub record SettlesFirst (n : ℕ) (starts used : List ℕ) (i : ℕ) (r : Bool)
-    (heads links waits heads' links' waits' : List ℕ) : Type 0 where
-  pub settles : (marks cursors : List ℕ) → Zeros n marks → Zeros n cursors
-      → Settles n starts used marks i r cursors heads links waits heads' links' waits'
-
--- what `settle_all` gives: all that is known then, with any marks and cursors that are 0
-pub record SettledAll (n : ℕ) (starts used flags heads links waits : List ℕ) : Type 0 where
-  pub state : (marks cursors : List ℕ) → Zeros n marks → Zeros n cursors
-      → Between n n starts used marks flags cursors heads links waits none none
+-- the statements before k are settled while none is placed; any other has no flag, and waits for none
+pub record Begun {N : ℕ} (t : Table) (k : ℕ) (d : Desk N) : Type 0 where
+  pub state : Between t k d none none
+  pub unplaced : NonePlaced t.n d.marks
+  pub unflagged : (i : ℕ) → k ≤ i → i < t.n → flag d.ready i ≡ false
+  pub idle : (i : ℕ) → k ≤ i → i < t.n → get_or d.waits i 0 ≡ none
 
 -- ---- one is placed
 
--- j is placed, and those that wait for it still do
-pub record Woken (n : ℕ) (starts used marks flags cursors heads links waits : List ℕ) (j low : ℕ) : Type 0 where
-  pub fit : Fit n starts used
-  pub one : j < n
-  pub mark : 0 < get_or marks j 0
-  pub moved : Cursors n starts used marks cursors
-  pub lists : Queues n heads links waits none none
-  pub known : Flags n n starts used marks flags waits j
-  pub clear : (i : ℕ) → i < low → get_or flags i 0 ≡ 0
+-- j is placed, and those that wait for it still do; no flag is set before it
+pub record Woken {N : ℕ} (t : Table) (j : ℕ) (d : Desk N) : Type 0 where
+  pub one : j < t.n
+  pub mark : placed_in d.marks j ≡ true
+  pub moved : Cursors t.n t.starts.now t.used.now d.marks d.cursors
+  pub lists : Queues t.n d.heads d.links d.waits none none
+  pub known : Flags t.n t.n t.starts.now t.used.now d.marks d.ready d.waits j
+  pub clear : (i : ℕ) → i < j → flag d.ready i ≡ false
 
--- nobody does; no flag is set before r
-pub record Awake (n : ℕ) (starts used marks flags cursors heads links waits : List ℕ) (low r : ℕ) : Type 0 where
-  pub state : Between n n starts used marks flags cursors heads links waits none none
-  pub early : r ≤ low
-  pub clear : (i : ℕ) → i < r → get_or flags i 0 ≡ 0
+-- nobody does; no flag is set before r; the marks are as they were
+pub record Awake {N : ℕ} (t : Table) (j : ℕ) (marks : List Bool) (d : Desk N) (r : ℕ) : Type 0 where
+  pub same : d.marks ≡ marks
+  pub state : Between t t.n d none none
+  pub early : r ≤ j
+  pub clear : (i : ℕ) → i < r → flag d.ready i ≡ false

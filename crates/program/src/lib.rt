@@ -17,16 +17,15 @@ use drafts::{
     records_of,
 };
 use limits::RECORD_BYTES;
+use sheet::Sheet;
 
 // How many records the drafts of these kinds write.
 pub fn count_records(kinds: &[u8]) -> usize
     ensures { CountsRecords kinds.now result }
 {
     let mut n: usize = 0;
-    let mut i: usize = 0;
-    while i < kinds.len() {
-        n += records_of(kinds[i]);
-        i += 1;
+    for &kind in kinds {
+        n += records_of(kind);
     }
     n
 }
@@ -60,13 +59,13 @@ fn put_record(kind: u8, slot: u64, line: u64, bits: u64, out: &mut [u8], w: usiz
 }
 
 // The bits of the value behind a constant or an initial.
-fn value_at(places: &[u16], kinds: &[u8], slots: &[u64], i: usize) -> u64
+fn value_at(places: &[u16], sheet: &Sheet, i: usize) -> u64
     requires { i < 65536 }
-    ensures { result ≡ value_at places.now kinds.now slots.now i }
+    ensures { result ≡ value_at places.now sheet.now.kinds.now sheet.now.args.now i }
 {
-    let v = word_at(slots, i + 1);
-    if byte_at(kinds, i + 1) == FROM {
-        return word_at(slots, home_of(places, v) + 1);
+    let v = word_at(sheet.args, i + 1);
+    if byte_at(sheet.kinds, i + 1) == FROM {
+        return word_at(sheet.args, home_of(places, v) + 1);
     }
     v
 }
@@ -75,20 +74,19 @@ fn value_at(places: &[u16], kinds: &[u8], slots: &[u64], i: usize) -> u64
 fn put_setting(
     phase: u8,
     places: &[u16],
-    kinds: &[u8],
-    slots: &[u64],
+    sheet: &Sheet,
     line: u64,
     i: usize,
     out: &mut [u8],
     w: usize,
 ) -> usize
     requires { (i < 65536) × (w ≤ length out.old) }
-    ensures { Fills (setting_at phase places.now kinds.now slots.now line i) w result
+    ensures { Fills (setting_at phase places.now sheet.now.kinds.now sheet.now.args.now line i) w result
         out.old out.new }
 {
-    if byte_at(kinds, i) == phase {
-        let slot = word_at(slots, i);
-        let bits = value_at(places, kinds, slots, i);
+    if byte_at(sheet.kinds, i) == phase {
+        let slot = word_at(sheet.args, i);
+        let bits = value_at(places, sheet, i);
         return put_record(phase, slot, line, bits, out, w);
     }
     w
@@ -98,69 +96,50 @@ fn put_setting(
 fn setting_end(phase: u8, from: usize, end: usize) -> usize
     ensures { (result - from ≡ reach phase (end - from)) × (result ≤ end) }
 {
-    if phase != INITIAL {
-        return end;
+    if phase == INITIAL && from < end {
+        from + 1
+    } else {
+        end
     }
-    if from < end {
-        return from + 1;
-    }
-    end
 }
 
 // Writes the constants or initials of a statement: none where its first draft is not one.
 fn put_settings(
     phase: u8,
     places: &[u16],
-    lines: &[u16],
-    bounds: &[u16],
-    kinds: &[u8],
-    slots: &[u64],
+    sheet: &Sheet,
     j: usize,
     out: &mut [u8],
-    at: usize,
+    mut w: usize,
 ) -> usize
-    requires { (j < length lines.now) × (at ≤ length out.old) }
-    ensures { Fills (settings_of phase places.now lines.now bounds.now kinds.now
-        slots.now j)
-        at result out.old out.new }
+    requires { (j < length sheet.now.lines.now) × (w ≤ length out.old) }
+    ensures { Fills (settings_of phase places.now sheet.now.lines.now sheet.now.bounds.now sheet.now.kinds.now
+        sheet.now.args.now j)
+        w result out.old out.new }
 {
-    let mut i = short_at(bounds, j);
-    if byte_at(kinds, i) != phase {
-        return at;
+    let begin = short_at(sheet.bounds, j);
+    if byte_at(sheet.kinds, begin) != phase {
+        return w;
     }
-    let line = short_at(lines, j) as u64;
-    let end = setting_end(phase, i, short_at(bounds, j + 1));
-    let mut w = at;
-    while i < end {
-        w = put_setting(phase, places, kinds, slots, line, i, &mut *out, w);
-        i += 1;
+    let line = short_at(sheet.lines, j) as u64;
+    let end = setting_end(phase, begin, short_at(sheet.bounds, j + 1));
+    for i in begin..end {
+        w = put_setting(phase, places, sheet, line, i, &mut *out, w);
     }
     w
 }
 
 // Writes all constants or all initials, in text order.
-fn put_all_settings(
-    phase: u8,
-    places: &[u16],
-    lines: &[u16],
-    bounds: &[u16],
-    kinds: &[u8],
-    slots: &[u64],
-    out: &mut [u8],
-    at: usize,
-) -> usize
-    requires { at ≤ length out.old }
+fn put_all_settings(phase: u8, places: &[u16], sheet: &Sheet, out: &mut [u8], mut w: usize) -> usize
+    requires { w ≤ length out.old }
     ensures { Fills (gather
-        (settings_of phase places.now lines.now bounds.now kinds.now
-        slots.now)
-        (length lines.now) 0)
-        at result out.old out.new }
+        (settings_of phase places.now sheet.now.lines.now sheet.now.bounds.now sheet.now.kinds.now
+        sheet.now.args.now)
+        (length sheet.now.lines.now) 0)
+        w result out.old out.new }
 {
-    let mut w = at;
-    let mut j: usize = 0;
-    while j < lines.len() {
-        w = put_settings(phase, places, lines, bounds, kinds, slots, j, &mut *out, w);
-        j += 1;
+    for j in 0..sheet.lines.len() {
+        w = put_settings(phase, places, sheet, j, &mut *out, w);
     }
     w
 }
@@ -181,52 +160,32 @@ fn put_step(kind: u8, arg: u64, line: u64, out: &mut [u8], w: usize) -> usize
 }
 
 // Writes the steps of a statement.
-fn put_steps(
-    lines: &[u16],
-    bounds: &[u16],
-    kinds: &[u8],
-    slots: &[u64],
-    j: usize,
-    out: &mut [u8],
-    at: usize,
-) -> usize
-    requires { (j < 65536) × (at ≤ length out.old) }
-    ensures { Fills (steps_of lines.now bounds.now kinds.now slots.now j)
-        at result out.old out.new }
+fn put_steps(sheet: &Sheet, j: usize, out: &mut [u8], mut w: usize) -> usize
+    requires { (j < 65536) × (w ≤ length out.old) }
+    ensures { Fills (steps_of sheet.now.lines.now sheet.now.bounds.now sheet.now.kinds.now sheet.now.args.now j)
+        w result out.old out.new }
 {
-    let line = short_at(lines, j) as u64;
-    let end = short_at(bounds, j + 1);
-    let mut i = short_at(bounds, j);
-    let mut w = at;
-    while i < end {
-        w = put_step(byte_at(kinds, i), word_at(slots, i), line, &mut *out, w);
-        i += 1;
+    let line = short_at(sheet.lines, j) as u64;
+    let begin = short_at(sheet.bounds, j);
+    let end = short_at(sheet.bounds, j + 1);
+    for i in begin..end {
+        let kind = byte_at(sheet.kinds, i);
+        w = put_step(kind, word_at(sheet.args, i), line, &mut *out, w);
     }
     w
 }
 
 // Writes the steps of the statements of a unit.
-fn put_unit(
-    firsts: &[u16],
-    lines: &[u16],
-    bounds: &[u16],
-    kinds: &[u8],
-    slots: &[u64],
-    j: usize,
-    out: &mut [u8],
-    at: usize,
-) -> usize
-    requires { (j < 65536) × (at ≤ length out.old) }
-    ensures { Fills (unit_steps firsts.now lines.now bounds.now kinds.now
-        slots.now j)
-        at result out.old out.new }
+fn put_unit(firsts: &[u16], sheet: &Sheet, j: usize, out: &mut [u8], mut w: usize) -> usize
+    requires { (j < 65536) × (w ≤ length out.old) }
+    ensures { Fills (unit_steps firsts.now sheet.now.lines.now sheet.now.bounds.now sheet.now.kinds.now
+        sheet.now.args.now j)
+        w result out.old out.new }
 {
+    let begin = short_at(firsts, j);
     let end = short_at(firsts, j + 1);
-    let mut i = short_at(firsts, j);
-    let mut w = at;
-    while i < end {
-        w = put_steps(lines, bounds, kinds, slots, i, &mut *out, w);
-        i += 1;
+    for i in begin..end {
+        w = put_steps(sheet, i, &mut *out, w);
     }
     w
 }
@@ -235,25 +194,19 @@ fn put_unit(
 fn put_ordered(
     equated: &[u16],
     firsts: &[u16],
-    lines: &[u16],
-    bounds: &[u16],
-    kinds: &[u8],
-    slots: &[u64],
+    sheet: &Sheet,
     order: &[u16],
     out: &mut [u8],
-    at: usize,
+    mut w: usize,
 ) -> usize
-    requires { at ≤ length out.old }
-    ensures { Fills (ordered_steps equated.now firsts.now lines.now bounds.now
-        kinds.now slots.now order.now)
-        at result out.old out.new }
+    requires { w ≤ length out.old }
+    ensures { Fills (ordered_steps equated.now firsts.now sheet.now.lines.now sheet.now.bounds.now
+        sheet.now.kinds.now sheet.now.args.now order.now)
+        w result out.old out.new }
 {
-    let mut w = at;
-    let mut q: usize = 0;
-    while q < order.len() {
-        let j = short_at(equated, short_at(order, q));
-        w = put_unit(firsts, lines, bounds, kinds, slots, j, &mut *out, w);
-        q += 1;
+    for &place in order {
+        let j = short_at(equated, place as usize);
+        w = put_unit(firsts, sheet, j, &mut *out, w);
     }
     w
 }
@@ -263,18 +216,15 @@ pub fn put_program(
     places: &[u16],
     equated: &[u16],
     firsts: &[u16],
-    lines: &[u16],
-    bounds: &[u16],
-    kinds: &[u8],
-    slots: &[u64],
+    sheet: &Sheet,
     order: &[u16],
     out: &mut [u8],
 ) -> usize
     ensures { PutsProgram places.now equated.now firsts.now
-        lines.now bounds.now kinds.now slots.now order.now
+        sheet.now.lines.now sheet.now.bounds.now sheet.now.kinds.now sheet.now.args.now order.now
         out.old result out.new }
 {
-    let a = put_all_settings(CONSTANT, places, lines, bounds, kinds, slots, &mut *out, 0);
-    let b = put_all_settings(INITIAL, places, lines, bounds, kinds, slots, &mut *out, a);
-    put_ordered(equated, firsts, lines, bounds, kinds, slots, order, out, b)
+    let constants = put_all_settings(CONSTANT, places, sheet, &mut *out, 0);
+    let settings = put_all_settings(INITIAL, places, sheet, &mut *out, constants);
+    put_ordered(equated, firsts, sheet, order, out, settings)
 }

@@ -13,6 +13,7 @@ use bits::put_eight;
 use bits::reads::{byte_at, short_at, word_at};
 use drafts::{CONSTANT, INITIAL, OWN, is_defining};
 use limits::ROSTER_BYTES;
+use sheet::Sheet;
 
 // What a name is, one byte.
 const WHAT_CONSTANT: u8 = 1;
@@ -27,16 +28,12 @@ const WHAT_HIDDEN: u8 = 4;
 fn what_kind(kind: u8) -> u8
     ensures { result ≡ what_kind kind }
 {
-    if kind == CONSTANT {
-        return WHAT_CONSTANT;
+    match kind {
+        CONSTANT => WHAT_CONSTANT,
+        INITIAL => WHAT_STATE,
+        OWN => WHAT_HIDDEN,
+        _ => WHAT_ASSIGNED,
     }
-    if kind == INITIAL {
-        return WHAT_STATE;
-    }
-    if kind == OWN {
-        return WHAT_HIDDEN;
-    }
-    WHAT_ASSIGNED
 }
 
 // Writes an entry behind n others, eight bytes at a time.
@@ -56,57 +53,37 @@ fn enter(kind: u8, key: u64, line: u64, out: &mut [u8], n: usize) -> usize
     ensures { Enters (only_if (defines kind) (entry key (what_kind kind) line)) n result out.old
         out.new }
 {
-    if is_defining(kind) {
-        if n < out.len() / ROSTER_BYTES {
-            put_entry(key, what_kind(kind), line, out, n);
-            return n + 1;
-        }
-        return n;
+    if is_defining(kind) && n < out.len() / ROSTER_BYTES {
+        put_entry(key, what_kind(kind), line, out, n);
+        return n + 1;
     }
     n
 }
 
 // Writes the entries of a statement.
-fn enter_statement(
-    lines: &[u16],
-    bounds: &[u16],
-    kinds: &[u8],
-    args: &[u64],
-    j: usize,
-    out: &mut [u8],
-    before: usize,
-) -> usize
-    requires { j < length lines.now }
-    ensures { Enters (entries_of lines.now bounds.now kinds.now
-        args.now j) before result out.old out.new }
+fn enter_statement(sheet: &Sheet, j: usize, out: &mut [u8], mut n: usize) -> usize
+    requires { j < length sheet.now.lines.now }
+    ensures { Enters (entries_of sheet.now.lines.now sheet.now.bounds.now sheet.now.kinds.now
+        sheet.now.args.now j) n result out.old out.new }
 {
-    let line = short_at(lines, j) as u64;
-    let end = short_at(bounds, j + 1);
-    let mut i = short_at(bounds, j);
-    let mut n = before;
-    while i < end {
-        n = enter(byte_at(kinds, i), word_at(args, i), line, &mut *out, n);
-        i += 1;
+    let line = short_at(sheet.lines, j) as u64;
+    let begin = short_at(sheet.bounds, j);
+    let end = short_at(sheet.bounds, j + 1);
+    for i in begin..end {
+        let kind = byte_at(sheet.kinds, i);
+        n = enter(kind, word_at(sheet.args, i), line, &mut *out, n);
     }
     n
 }
 
 // Writes the roster to the front of the lent bytes, as many entries as there is room for; how many these are.
-pub fn put_roster(
-    lines: &[u16],
-    bounds: &[u16],
-    kinds: &[u8],
-    args: &[u64],
-    out: &mut [u8],
-) -> usize
-    ensures { PutsRoster lines.now bounds.now kinds.now args.now
+pub fn put_roster(sheet: &Sheet, out: &mut [u8]) -> usize
+    ensures { PutsRoster sheet.now.lines.now sheet.now.bounds.now sheet.now.kinds.now sheet.now.args.now
         out.old result out.new }
 {
     let mut n: usize = 0;
-    let mut j: usize = 0;
-    while j < lines.len() {
-        n = enter_statement(lines, bounds, kinds, args, j, &mut *out, n);
-        j += 1;
+    for j in 0..sheet.lines.len() {
+        n = enter_statement(sheet, j, &mut *out, n);
     }
     n
 }

@@ -32,6 +32,7 @@ bits =
       get_low = of_bits.get_low;
       put_bytes = of_bits.put_bytes;
       put_low = of_bits.put_low;
+      put = of_bits.put;
       put_eight = of_bits.put_eight;
       float_of = of_bits.float_of;
       bits_of = of_bits.bits_of;
@@ -42,7 +43,7 @@ deck =
     record {
       next_statement = of_deck.next_statement;
       line_count = of_deck.line_count;
-      size_code = of_deck.size_code;
+      size_fault = of_deck.size_fault;
       join = of_deck.join;
       find_spot = of_deck.find_spot;
     }
@@ -60,6 +61,7 @@ drafts =
       is_named = of_drafts.is_named;
       is_closing = of_drafts.is_closing;
       records_of = of_drafts.records_of;
+      last_of = of_drafts.last_of;
       home_of = of_drafts.home_of;
     }
 
@@ -76,7 +78,8 @@ pub sheet : Sheets
 sheet = record { put_fault = of_sheet.put_fault }
 
 pub blocks : Blocks
-blocks = record { group = of_blocks.group }
+blocks =
+    record { group = of_blocks.group; is_in_turn = of_blocks.is_in_turn; add_fault = of_blocks.add_fault }
 
 pub model : Model
 model = record { plan = of_model.plan }
@@ -90,11 +93,20 @@ programs =
     }
 
 pub evaluator : Evaluator
-evaluator = record { evaluate = of_evaluator.evaluate; start = of_evaluator.start; step = of_evaluator.step }
+evaluator =
+    record {
+      number = of_evaluator.number;
+      place = of_evaluator.place;
+      evaluate = of_evaluator.evaluate;
+      start = of_evaluator.start;
+      step = of_evaluator.step;
+    }
 
 pub translator : Translator
 translator =
     record {
+      number = of_translator.number;
+      count = of_translator.count;
       translate = of_translator.translate;
       translate_in_order = of_translator.translate_in_order;
       names = of_translator.names;

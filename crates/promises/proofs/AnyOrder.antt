@@ -4,6 +4,7 @@ use mathlib.Core.Path.{◌≡◌, refl}
 use mathlib.Core.List.{List}
 use lib.ListN.{length}
 use lib.Ieee.{of_bits, to_bits, add, round, units, size, climb, span, odd}
+use Rattle.std.specs.Prelude.{Ok}
 use Rattle.laws.specs.Lists.{concat_map, numbers}
 use Rattle.laws.specs.Runs.{front_run}
 use Rattle.bits.specs.Low.{low_bytes, low_word}
@@ -13,7 +14,6 @@ use Rattle.order.specs.Order.{Permutation}
 use Rattle.records.specs.Fields.{by_kind, instr_within}
 use Rattle.records.specs.Record.{Rec, rec_bytes, program_bytes, decode_at_within, decode_from_within, decoded}
 use Rattle.records.specs.Record.{decoded_within}
-use Rattle.translator.specs.declared.Verdict.TheVariants.{Translated}
 use Rattle.translator.specs.Verdict.{translated, verdict_of}
 use Rattle.translator.specs.Contract.{Translates, in_numbers}
 use Rattle.translator.proofs.Verdicts.{by_number}
@@ -40,10 +40,10 @@ pub any_order : (text : List ℕ) (faults room : ℕ) (rs : List Rec) (ls : List
 any_order text faults room rs ls e = orders.any_order (clear text faults room rs ls e)
 
 -- FROM THE ENTRY: of a text that `translate` translated, the lent program buffer cut to the count of records
-pub any_order_for : (text f p : List ℕ) (k : ℕ) (f' p' : List ℕ) → Translates text f p (Translated k) f' p'
+pub any_order_for : (text f p : List ℕ) (k : ℕ) (f' p' : List ℕ) → Translates text f p (Ok k) f' p'
     → (q : List ℕ) → GoodOrder (text_units text) q → AnyOrder text (handed_on k p') q
 any_order_for text f p k f' p' t =
-    orders.any_by_answer text f p (in_numbers (Translated k) f' p') (by_number text f p t) refl
+    orders.any_by_answer text f p (in_numbers (Ok k) f' p') (by_number text f p (Ok k) t) refl
 
 -- the same at the boundary to other languages
 pub any_order_linked : (text f p : List ℕ) (r : CVerdict) (f' p' : List ℕ) → TranslatesFixed text f p r f' p'

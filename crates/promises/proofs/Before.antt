@@ -6,10 +6,11 @@ use native.Mathlib.Omega.{arith}
 use lib.Dec.{lit<, lit≤}
 use lib.ListN.{length}
 use lib.Ieee.{Float}
+use Rattle.std.specs.Prelude.{Result}
 use Rattle.limits.specs.Limits.{fault_room, slots}
 use Rattle.limits.specs.Before.{sizes, sizes_before, slots_before}
 use Rattle.records.specs.Record.{Rec}
-use Rattle.translator.specs.declared.Verdict.{Verdict}
+use Rattle.translator.specs.declared.Refusal.{Refusal}
 use Rattle.translator.specs.Verdict.{Decision, translated, verdict_within, verdict_of, number_of}
 use Rattle.translator.specs.Larger.{Larger, NotForSize}
 use Rattle.translator.specs.Contract.{reply, reply_of, Translates}
@@ -75,7 +76,7 @@ old_program_kept text f g room rs ls e lent =
     ∙ e
 
 -- FROM THE ENTRY: the answer of `translate`, and both buffers, are those of the verdict of before
-pub old_texts_for : (text g p : List ℕ) (f : ℕ) (r : Verdict) (g' p' : List ℕ)
+pub old_texts_for : (text g p : List ℕ) (f : ℕ) (r : Result ℕ Refusal) (g' p' : List ℕ)
     → NotForSize (verdict_within sizes_before text f (length p))
     → fault_room ≤ length g
     → Translates text g p r g' p'

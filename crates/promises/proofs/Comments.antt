@@ -5,6 +5,7 @@ use mathlib.Core.Path.{◌≡◌, refl, sym, ap, ap₂, ◌∙◌, ◌≡⟨◌�
 use mathlib.Core.List.{List, [], ◌∷◌, ◌++◌, map, append-nil}
 use native.Mathlib.Omega.{arith}
 use lib.ListN.{length, length-map}
+use Rattle.std.specs.Prelude.{Result}
 use Rattle.laws.specs.Every.{Every}
 use Rattle.deck.specs.Lines.{Line, lines_of}
 use Rattle.deck.specs.Later.{line_moved}
@@ -24,13 +25,14 @@ use Rattle.model.proofs.Renumbering.{order_kept, faults_in_renumbered}
 use Rattle.records.specs.Record.{Rec, renumber_rec}
 use Rattle.program.specs.Program.{program}
 use Rattle.program.proofs.Renumbering.{program_renumbered}
-use Rattle.translator.specs.declared.Verdict.{Verdict}
-use Rattle.translator.specs.declared.Verdict.TheVariants.{Refused, Faulty, Translated}
+use Rattle.translator.specs.declared.Refusal.{Refusal}
 use Rattle.translator.specs.Verdict.{Decision, refused, faulty, translated, verdict_of, number_of, count_of}
 use Rattle.translator.specs.Refusals.{Admitted}
 use Rattle.translator.specs.Rules.{records_of}
 use Rattle.translator.specs.Renumbered.{renumber_decision}
-use Rattle.translator.specs.Contract.{Reply, reply, reply_of, lines_in, Translates}
+use Rattle.translator.specs.Contract.{Refused, Faulty, Translated, verdict_in, Reply, reply, reply_of, lines_in}
+use Rattle.translator.specs.Contract.{Translates}
+use Rattle.translator.proofs.Verdicts.{verdict_whole}
 use Rattle.translator.proofs.Renumbering.{verdict_renumbered, number_kept, count_kept, lines_moved}
 use Rattle.promises.specs.Comments.{Commented, Unchanged, UnchangedFor}
 
@@ -65,7 +67,7 @@ unchanged pre c post a b w f p ok_a ok_b =
 pub unchanged_for : (pre : List Line) (c : Line) (post : List Line) (a b : List ℕ) → Commented pre c post a b
     → (f p g s : List ℕ) → length g ≡ length f → length s ≡ length p
     → Admitted (verdict_of a (length f) (length p)) → Admitted (verdict_of b (length f) (length p))
-    → (r t : Verdict) (f' p' g' s' : List ℕ) → Translates a f p r f' p' → Translates b g s t g' s'
+    → (r t : Result ℕ Refusal) (f' p' g' s' : List ℕ) → Translates a f p r f' p' → Translates b g s t g' s'
     → UnchangedFor (length pre) r f p f' p' t g s g' s'
 unchanged_for pre c post a b w f p g s even_f even_p ok_a ok_b r t f' p' g' s' m n =
     let sheet = sheet_commented pre c post a b w.without w.with w.comment in
@@ -81,9 +83,9 @@ unchanged_for pre c post a b w f p g s even_f even_p ok_a ok_b r t f' p' g' s' m
     go : (v : Decision) → reply r f' p' ≡ reply_of v f p → reply t g' s' ≡ reply_of (renumber_decision move v) g s
         → UnchangedFor (length pre) r f p f' p' t g s g' s'
     go (refused k) q w =
-        let old : r ≡ Refused k = ap (λ (x : Reply). x.answer) q in
+        let old : verdict_in r ≡ Refused k = ap (λ (x : Reply). x.answer) q in
         record {
-          answer = ap (λ (x : Reply). x.answer) w ∙ sym old;
+          answer = verdict_whole (ap (λ (x : Reply). x.answer) w ∙ sym old);
           written =
               rw old (
                 ap (λ (x : Reply). x.faults) q,
@@ -93,9 +95,11 @@ unchanged_for pre c post a b w f p g s even_f even_p ok_a ok_b r t f' p' g' s' m
               );
         }
     go (faulty k fs) q w =
-        let old : r ≡ Faulty k (length fs) = ap (λ (x : Reply). x.answer) q in
+        let old : verdict_in r ≡ Faulty k (length fs) = ap (λ (x : Reply). x.answer) q in
         record {
-          answer = ap (λ (x : Reply). x.answer) w ∙ ap (Faulty k) (length-map fs (renumber_fault move)) ∙ sym old;
+          answer =
+              verdict_whole
+              (ap (λ (x : Reply). x.answer) w ∙ ap (Faulty k) (length-map fs (renumber_fault move)) ∙ sym old);
           written =
               rw old (
                 fs,
@@ -107,9 +111,11 @@ unchanged_for pre c post a b w f p g s even_f even_p ok_a ok_b r t f' p' g' s' m
               );
         }
     go (translated rs ls) q w =
-        let old : r ≡ Translated (length rs) = ap (λ (x : Reply). x.answer) q in
+        let old : verdict_in r ≡ Translated (length rs) = ap (λ (x : Reply). x.answer) q in
         record {
-          answer = ap (λ (x : Reply). x.answer) w ∙ ap Translated (length-map rs (renumber_rec move)) ∙ sym old;
+          answer =
+              verdict_whole
+              (ap (λ (x : Reply). x.answer) w ∙ ap Translated (length-map rs (renumber_rec move)) ∙ sym old);
           written =
               rw old (
                 rs,

@@ -6,6 +6,7 @@ use mathlib.Core.Logic.{inl, inr}
 use mathlib.Core.List.{List, map}
 use native.Mathlib.Omega.{arith}
 use lib.ListN.{length}
+use Rattle.std.specs.Prelude.{Result, Err}
 use Rattle.laws.specs.Text.{bytes}
 use Rattle.limits.specs.Limits.{fault_room, program_room}
 use Rattle.sheet.specs.Sheet.{Fault}
@@ -14,12 +15,13 @@ use Rattle.model.specs.Text.{text_units, line_at}
 use Rattle.model.specs.Orders.{NoOrder, NamesLoops}
 use Rattle.model.proofs.Orders.{names_loops, one_order, text_first}
 use Rattle.program.specs.Program.{program}
-use Rattle.translator.specs.declared.Verdict.{Verdict}
+use Rattle.translator.specs.declared.Refusal.{Refusal}
+use Rattle.translator.specs.declared.Refusal.TheVariants.{ModelFaults}
 use Rattle.translator.specs.Verdict.{number_of, Translation, translation}
 use Rattle.translator.specs.Contract.{number_in, Translates}
 use Rattle.translator.specs.Refusals.{Unrefused}
 use Rattle.translator.specs.Replies.{Answered}
-use Rattle.translator.proofs.Verdicts.{by_number}
+use Rattle.translator.proofs.Verdicts.{by_number, verdict_whole}
 use Rattle.translator.proofs.Given.{fitted_number, unordered, in_order_holds, unrefused}
 use Rattle.translator.proofs.Replies.{faults_answered, records_written}
 use Rattle.promises.specs.Table.{tank, loop}
@@ -47,7 +49,7 @@ module _ (text : List ℕ) (f p : ℕ) (w : Unrefused text f p) where
       }
 
 -- DEMAND 2, FROM THE ENTRY
-pub decided_for : (text f p f' p' : List ℕ) (r : Verdict) → Translates text f p r f' p'
+pub decided_for : (text f p f' p' : List ℕ) (r : Result ℕ Refusal) → Translates text f p r f' p'
     → Unrefused text (length f) (length p) → DecidedFor (text_units text) r f' p p'
 unfolding translation
 decided_for text f p f' p' r t w =
@@ -59,8 +61,8 @@ decided_for text f p f' p' r t w =
     (l.0, l.2, faults_answered text f p f' p' r t 7 l.0 w.room l.1) in
     record {
       exactly = (
-        λ e. d.exactly.0 (sym (ap (λ (z : Translation). z.number) (by_number text f p t)) ∙ ap number_in e.1),
-        λ none. let l = named none in (length l.0, l.2.answer),
+        λ e. d.exactly.0 (sym (ap (λ (z : Translation). z.number) (by_number text f p r t)) ∙ ap number_in e.1),
+        λ none. let l = named none in (length l.0, verdict_whole {s = Err (ModelFaults (length l.0))} l.2.answer),
       );
       loops_named = named;
       ordered = λ q g.

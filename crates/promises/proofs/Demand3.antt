@@ -4,6 +4,7 @@ use mathlib.Core.Path.{◌≡◌, refl, sym, ap, ap₂, ◌∙◌}
 use mathlib.Core.List.{List, [], ◌∷◌, ◌++◌, map, append_assoc, append-nil}
 use native.Mathlib.Omega.{arith}
 use lib.ListN.{length, take, length-append, length-map}
+use Rattle.std.specs.Prelude.{Result}
 use Rattle.limits.specs.Limits.{fault_bytes, fault_room}
 use Rattle.laws.specs.Text.{bytes}
 use Rattle.laws.proofs.Concats.{none_left}
@@ -16,7 +17,7 @@ use Rattle.sheet.specs.Numbers.{statements_in, faults_from, closed_of, fault_lin
 use Rattle.sheet.proofs.Entries.{list_front, list_tail}
 use Rattle.sheet.proofs.Changes.{front_statements, front_sheets, front_faults, tail_statements, tail_sheets}
 use Rattle.sheet.proofs.Changes.{tail_faults, fresh_there}
-use Rattle.translator.specs.declared.Verdict.{Verdict}
+use Rattle.translator.specs.declared.Refusal.{Refusal}
 use Rattle.translator.specs.Contract.{Translates}
 use Rattle.translator.specs.Verdict.{verdict_of, Translation, translation}
 use Rattle.translator.specs.Refusals.{Admitted}
@@ -66,7 +67,7 @@ pub local_for : (pre old new post : List Line) (a b : List ℕ) → Change pre o
     → (f p g s : List ℕ) → fault_room ≤ length f → fault_room ≤ length g
     → Admitted (verdict_of a (length f) (length p)) → Admitted (verdict_of b (length g) (length s))
     → Faulted a → Faulted b
-    → (r t : Verdict) (f' p' g' s' : List ℕ) → Translates a f p r f' p' → Translates b g s t g' s'
+    → (r t : Result ℕ Refusal) (f' p' g' s' : List ℕ) → Translates a f p r f' p' → Translates b g s t g' s'
     → LocalFor pre old new post a b r f' p p' t g' s s'
 local_for pre old new post a b c f p g s room_old room_new ok_old ok_new w_old w_new r t f' p' g' s' m n =
     let both = local pre old new post a b c in

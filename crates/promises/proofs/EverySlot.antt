@@ -5,10 +5,10 @@ use mathlib.Core.Logic.{⊎_elim}
 use mathlib.Core.List.{List}
 use native.Mathlib.Omega.{arith}
 use lib.ListN.{length}
+use Rattle.std.specs.Prelude.{Ok}
 use Rattle.limits.specs.Limits.{program_room, roster_bytes}
 use Rattle.laws.proofs.Tests.{lt_or_ge}
 use Rattle.records.specs.Record.{Rec}
-use Rattle.translator.specs.declared.Named.TheVariants.{Entries}
 use Rattle.translator.specs.Verdict.{translated, verdict_of, number_of}
 use Rattle.translator.specs.Rules.{records_of, definitions_of, NamesRule}
 use Rattle.translator.specs.Names.{NamesGiven, names_given}
@@ -70,10 +70,10 @@ by_answer text f o g e z =
             )
 
 -- FROM THE ENTRY: where `names` gives k entries
-pub named_slots : (text f o : List ℕ) (k : ℕ) (f' o' : List ℕ) → NamesSlots text f o (Entries k) f' o'
+pub named_slots : (text f o : List ℕ) (k : ℕ) (f' o' : List ℕ) → NamesSlots text f o (Ok k) f' o'
     → RosterOf text k o' × EverySlot text (records_of text)
 named_slots text f o k f' o' e =
-    by_answer text f o (named_in_numbers (Entries k) f' o') (names_by_number text f o e) refl
+    by_answer text f o (named_in_numbers (Ok k) f' o') (names_by_number text f o (Ok k) e) refl
 
 -- the same at the boundary to other languages
 pub linked_names : (text f o : List ℕ) (r : CVerdict) (f' o' : List ℕ) → NamesFixed text f o r f' o' → r.number ≡ 0

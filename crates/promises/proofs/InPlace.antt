@@ -6,6 +6,7 @@ use mathlib.Core.List.{List, [], ◌∷◌, map, Memᴰ}
 use native.Mathlib.Omega.{arith}
 use lib.Dec.{ltb}
 use lib.ListN.{length}
+use Rattle.std.specs.Prelude.{Result}
 use Rattle.limits.specs.Limits.{fault_room, text_bytes, text_lines, most_statements, most_definitions, most_records}
 use Rattle.limits.specs.Limits.{record_bytes}
 use Rattle.laws.specs.Every.{Every}
@@ -28,11 +29,11 @@ use Rattle.model.specs.Definitions.{unit_at}
 use Rattle.model.specs.Faults.{order_of}
 use Rattle.records.specs.Record.{Rec}
 use Rattle.program.specs.Program.{program}
-use Rattle.translator.specs.declared.Verdict.{Verdict}
+use Rattle.translator.specs.declared.Refusal.{Refusal}
 use Rattle.translator.specs.Verdict.{Decision, refused, faulty as faults, translated, if_faults, fitted, programmed}
 use Rattle.translator.specs.Verdict.{modelled, decided, decided_within, verdict_of, verdict_within}
 use Rattle.translator.specs.Rules.{model_faults_of}
-use Rattle.translator.specs.Contract.{Reply, reply, reply_of, Translates}
+use Rattle.translator.specs.Contract.{Reply, reply, reply_of, verdict_in, Translates}
 use Rattle.meaning.proofs.Rows.{every_of, every_member}
 use Rattle.promises.specs.InPlace.{InStatement, InPlace, PlacedBy}
 
@@ -121,9 +122,9 @@ module _ (text : List ℕ) where
   if_in n (f ∷ fs) v h w = h
 
   -- that of the text
-  verdict_in : (f p : ℕ) → DecidedIn (verdict_of text f p)
+  verdict_placed : (f p : ℕ) → DecidedIn (verdict_of text f p)
   unfolding verdict_within decided_within
-  verdict_in f p =
+  verdict_placed f p =
       let us = units_of (said (sheet_of text)) in
       let rs = program us (order_of us) in
       let fits = fitted_in p rs (map (λ (i : ℕ). (unit_at us i).line) (order_of us)) in
@@ -146,11 +147,12 @@ module _ (text : List ℕ) where
           (translated rs ls) (λ _. tt) (λ _. tt)
 
   -- THE PLACE IS IN THE STATEMENT, FROM THE ENTRY
-  pub in_place_for : (f p f' p' : List ℕ) (r : Verdict) → Translates text f p r f' p' → PlacedBy text r f f'
+  pub in_place_for : (f p f' p' : List ℕ) (r : Result ℕ Refusal) → Translates text f p r f' p'
+      → PlacedBy text (verdict_in r) f f'
   in_place_for f p f' p' r m =
-      go (verdict_of text (length f) (length p)) (verdict_in (length f) (length p)) m
+      go (verdict_of text (length f) (length p)) (verdict_placed (length f) (length p)) m
     where
-      go : (v : Decision) → DecidedIn v → reply r f' p' ≡ reply_of v f p → PlacedBy text r f f'
+      go : (v : Decision) → DecidedIn v → reply r f' p' ≡ reply_of v f p → PlacedBy text (verdict_in r) f f'
       go (refused n) h q = rw (ap (λ (x : Reply). x.answer) q) tt
       go (faults n fs) h q = rw (ap (λ (x : Reply). x.answer) q) (fs, refl, ap (λ (x : Reply). x.faults) q, h)
       go (translated rs ls) h q = rw (ap (λ (x : Reply). x.answer) q) tt

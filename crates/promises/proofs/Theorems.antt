@@ -7,6 +7,7 @@ use mathlib.Core.Logic.{◌↔◌}
 use mathlib.Core.List.{List, [], ◌∷◌, ◌++◌, map, Memᴰ}
 use lib.ListN.{length}
 use lib.Ieee.{Float, nan, lt, le}
+use Rattle.std.specs.Prelude.{Result, Ok}
 use Rattle.limits.specs.Limits.{levels, stack_places, fault_room, program_room, name_bytes, slots as slot_count}
 use Rattle.limits.specs.Before.{sizes_before, slots_before}
 use Rattle.laws.specs.Every.{Every}
@@ -32,14 +33,12 @@ use Rattle.model.specs.Faults.{GoodOrder}
 use Rattle.model.specs.Text.{text_units}
 use Rattle.records.specs.Record.{Rec, program_bytes, decoded}
 use Rattle.program.specs.Program.{instr_item}
-use Rattle.translator.specs.declared.Verdict.{Verdict}
-use Rattle.translator.specs.declared.Verdict.TheVariants.{Translated}
-use Rattle.translator.specs.declared.Named.TheVariants.{Entries}
+use Rattle.translator.specs.declared.Refusal.{Refusal}
 use Rattle.translator.specs.Verdict.{translated, verdict_within, verdict_of, number_of, translation}
 use Rattle.translator.specs.Larger.{NotForSize}
 use Rattle.translator.specs.Refusals.{Admitted, Unrefused}
 use Rattle.translator.specs.Rules.{records_of, Exactly, Writes, NamesRule}
-use Rattle.translator.specs.Contract.{reply, reply_of, Translates, NamesSlots}
+use Rattle.translator.specs.Contract.{reply, reply_of, verdict_in, Translates, NamesSlots}
 use Rattle.translator.specs.Replies.{Answered, Unprogrammed, NoProgram, Convicts}
 use Rattle.translator.proofs.Given as goal
 use Rattle.translator.proofs.Replies as replies
@@ -117,7 +116,7 @@ unwritten = demand_one.unwritten
 pub decided : (text : List ℕ) (f p : ℕ) → Unrefused text f p → Decided text f p
 decided = demand_two.decided
 
-pub decided_for : (text f p f' p' : List ℕ) (r : Verdict) → Translates text f p r f' p'
+pub decided_for : (text f p f' p' : List ℕ) (r : Result ℕ Refusal) → Translates text f p r f' p'
     → Unrefused text (length f) (length p) → DecidedFor (text_units text) r f' p p'
 decided_for = demand_two.decided_for
 
@@ -136,7 +135,7 @@ pub local_for : (pre old new post : List Line) (a b : List ℕ) → Change pre o
     → (f p g s : List ℕ) → fault_room ≤ length f → fault_room ≤ length g
     → Admitted (verdict_of a (length f) (length p)) → Admitted (verdict_of b (length g) (length s))
     → Faulted a → Faulted b
-    → (r t : Verdict) (f' p' g' s' : List ℕ) → Translates a f p r f' p' → Translates b g s t g' s'
+    → (r t : Result ℕ Refusal) (f' p' g' s' : List ℕ) → Translates a f p r f' p' → Translates b g s t g' s'
     → LocalFor pre old new post a b r f' p p' t g' s s'
 local_for = demand_three.local_for
 
@@ -150,11 +149,11 @@ pub five_exactly : (text : List ℕ) (f p : ℕ) → fault_room ≤ f → Admitt
     → (number_of (verdict_of text f p) ≡ 5) ↔ Faulted text
 five_exactly = goal.five_exactly
 
-pub unprogrammed : (text f p f' p' : List ℕ) (r : Verdict) → Faulted text → Translates text f p r f' p'
+pub unprogrammed : (text f p f' p' : List ℕ) (r : Result ℕ Refusal) → Faulted text → Translates text f p r f' p'
     → Unprogrammed r p p'
 unprogrammed = replies.unprogrammed
 
-pub answered : (text f p f' p' : List ℕ) (r : Verdict) → fault_room ≤ length f
+pub answered : (text f p f' p' : List ℕ) (r : Result ℕ Refusal) → fault_room ≤ length f
     → Admitted (verdict_of text (length f) (length p)) → Faulted text → Translates text f p r f' p'
     → Answered 5 (faults_of text) r f' p p'
 answered = replies.answered
@@ -193,7 +192,7 @@ unchanged = comments.unchanged
 pub unchanged_for : (pre : List Line) (c : Line) (post : List Line) (a b : List ℕ) → Commented pre c post a b
     → (f p g s : List ℕ) → length g ≡ length f → length s ≡ length p
     → Admitted (verdict_of a (length f) (length p)) → Admitted (verdict_of b (length f) (length p))
-    → (r t : Verdict) (f' p' g' s' : List ℕ) → Translates a f p r f' p' → Translates b g s t g' s'
+    → (r t : Result ℕ Refusal) (f' p' g' s' : List ℕ) → Translates a f p r f' p' → Translates b g s t g' s'
     → UnchangedFor (length pre) r f p f' p' t g s g' s'
 unchanged_for = comments.unchanged_for
 
@@ -216,7 +215,8 @@ comment_last = comments.comment_last
 pub in_place : (text : List ℕ) → InPlace text
 in_place = places.in_place
 
-pub in_place_for : (text f p f' p' : List ℕ) (r : Verdict) → Translates text f p r f' p' → PlacedBy text r f f'
+pub in_place_for : (text f p f' p' : List ℕ) (r : Result ℕ Refusal) → Translates text f p r f' p'
+    → PlacedBy text (verdict_in r) f f'
 in_place_for = places.in_place_for
 
 -- ---- the grammar
@@ -255,7 +255,7 @@ pub wall_loss : (text : List ℕ) (faults room : ℕ) (rs : List Rec) (ls : List
     → verdict_of text faults room ≡ translated rs ls → Faithful text (program_bytes rs)
 wall_loss = wall.wall_loss
 
-pub translated_text : (text f p : List ℕ) (k : ℕ) (f' p' : List ℕ) → Translates text f p (Translated k) f' p'
+pub translated_text : (text f p : List ℕ) (k : ℕ) (f' p' : List ℕ) → Translates text f p (Ok k) f' p'
     → Faithful text (handed_on k p')
 translated_text = wall.translated_text
 
@@ -293,7 +293,7 @@ pub every_slot : (text : List ℕ) (faults room : ℕ) (rs : List Rec) (ls : Lis
     → verdict_of text faults room ≡ translated rs ls → EverySlot text rs
 every_slot = named.every_slot
 
-pub named_slots : (text f o : List ℕ) (k : ℕ) (f' o' : List ℕ) → NamesSlots text f o (Entries k) f' o'
+pub named_slots : (text f o : List ℕ) (k : ℕ) (f' o' : List ℕ) → NamesSlots text f o (Ok k) f' o'
     → RosterOf text k o' × EverySlot text (records_of text)
 named_slots = named.named_slots
 
@@ -308,7 +308,7 @@ pub any_order : (text : List ℕ) (faults room : ℕ) (rs : List Rec) (ls : List
     → AnyOrder text (program_bytes rs) q
 any_order = any.any_order
 
-pub any_order_for : (text f p : List ℕ) (k : ℕ) (f' p' : List ℕ) → Translates text f p (Translated k) f' p'
+pub any_order_for : (text f p : List ℕ) (k : ℕ) (f' p' : List ℕ) → Translates text f p (Ok k) f' p'
     → (q : List ℕ) → GoodOrder (text_units text) q → AnyOrder text (handed_on k p') q
 any_order_for = any.any_order_for
 
@@ -348,7 +348,7 @@ pub old_program_kept : (text : List ℕ) (f g room : ℕ) (rs : List Rec) (ls : 
     → verdict_of text g room ≡ translated rs ls
 old_program_kept = before.old_program_kept
 
-pub old_texts_for : (text g p : List ℕ) (f : ℕ) (r : Verdict) (g' p' : List ℕ)
+pub old_texts_for : (text g p : List ℕ) (f : ℕ) (r : Result ℕ Refusal) (g' p' : List ℕ)
     → NotForSize (verdict_within sizes_before text f (length p)) → fault_room ≤ length g → Translates text g p r g' p'
     → reply r g' p' ≡ reply_of (verdict_within sizes_before text f (length p)) g p
 old_texts_for = before.old_texts_for

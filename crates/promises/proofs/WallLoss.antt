@@ -3,13 +3,14 @@ use Prim.Native.Nat.{ℕ}
 use mathlib.Core.Path.{◌≡◌, refl}
 use mathlib.Core.List.{List, Memᴰ}
 use lib.Ieee.{Float}
+use Rattle.std.specs.Prelude.{Ok}
 use Rattle.records.specs.Record.{Rec, program_bytes}
-use Rattle.translator.specs.declared.Verdict.TheVariants.{Translated}
 use Rattle.translator.specs.Verdict.{translated, verdict_of}
 use Rattle.translator.specs.Contract.{Translates, in_numbers}
 use Rattle.translator.proofs.Verdicts.{by_number}
 use Rattle.evaluator.specs.Judge.{answer}
-use Rattle.evaluator.specs.Evaluate.{run_outcome}
+use Rattle.evaluator.specs.Contract.{answer_in}
+use Rattle.evaluator.specs.Evaluate.{refusal, evaluated, evaluated_within, run_outcome}
 use Rattle.floesedge.specs.declared.CVerdict.{CVerdict}
 use Rattle.floesedge.specs.Contract.{TranslatesFixed}
 use Rattle.meaning.specs.Statements.{slot_of, Solution}
@@ -39,10 +40,10 @@ pub wall_loss : (text : List ℕ) (faults room : ℕ) (rs : List Rec) (ls : List
 wall_loss text faults room rs ls e = faithful (clear text faults room rs ls e)
 
 -- FROM ENTRY TO ENTRY: of a text that `translate` translated, the lent program buffer cut to the count of records
-pub translated_text : (text f p : List ℕ) (k : ℕ) (f' p' : List ℕ) → Translates text f p (Translated k) f' p'
+pub translated_text : (text f p : List ℕ) (k : ℕ) (f' p' : List ℕ) → Translates text f p (Ok k) f' p'
     → Faithful text (handed_on k p')
 translated_text text f p k f' p' t =
-    by_answer text f p (in_numbers (Translated k) f' p') (by_number text f p t) refl
+    by_answer text f p (in_numbers (Ok k) f' p') (by_number text f p (Ok k) t) refl
 
 -- the same at the boundary to other languages
 pub linked_text : (text f p : List ℕ) (r : CVerdict) (f' p' : List ℕ) → TranslatesFixed text f p r f' p' → r.number ≡ 0
@@ -67,6 +68,12 @@ pub block_is_function : (text : List ℕ) (faults room : ℕ) (rs : List Rec) (l
     → BlockFunction (slot_of (text_units text)) (free_names (text_units text)) is ns
 block_is_function = block_functions
 
+-- what evaluating an accepted program leaves is without refusal
+accepted_run : (p : List ℕ) (v d : List Float) → refusal p v d ≡ answer 0 0
+    → run_outcome (answer_in (Ok tt)) (evaluated p v d).values (evaluated p v d).derivs ≡ evaluated p v d
+unfolding evaluated_within
+accepted_run p v d e = rw e
+
 -- A SOLUTION HANGS ON TIME AND THE STATES ALONE: evaluating leaves a solution, there is no other from the same start,
 -- and what evaluating leaves hangs on no more of the start than that (`reads_states`). So solutions from two starts
 -- that agree there agree in each constant, each assigned slot and each derivative of a state
@@ -75,8 +82,8 @@ pub solutions_alike : (text program : List ℕ) → Faithful text program
     → (v₁ d₁ w₁ e₁ : List Float) → Solution (text_units text) v d v₁ d₁ → Solution (text_units text) w e w₁ e₁
     → SameWritten (shapes program) (run_outcome (answer 0 0) v₁ d₁) (run_outcome (answer 0 0) w₁ e₁)
 solutions_alike text program t v d w e hv hw r v₁ d₁ w₁ e₁ y z =
-    let a = t.evaluates v d hv _ _ _ (record { meets = refl }) in
-    let b = t.evaluates w e hw _ _ _ (record { meets = refl }) in
+    let a = t.evaluates v d hv (Ok tt) _ _ (record { meets = accepted_run program v d (t.accepted v d hv) }) in
+    let b = t.evaluates w e hw (Ok tt) _ _ (record { meets = accepted_run program w e (t.accepted w e hw) }) in
     let first = t.one_solution v d v₁ d₁ _ _ y a.solved in
     let second = t.one_solution w e w₁ e₁ _ _ z b.solved in
     let both = slots.reads_states program v d w e (t.accepted v d hv) (t.accepted w e hw) r in

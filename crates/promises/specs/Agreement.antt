@@ -1,33 +1,36 @@
 -- Agreement: any two outcomes that a contract allows are equal, answer and each lent buffer. A row for each open entry
 -- cites its contract by the name that the code cites too.
-use Rattle.std.specs.Prelude.{ℕ, Bool, List, Float}
+use Rattle.std.specs.Prelude.{ℕ, Bool, List, Float, Option}
 use Rattle.laws.specs.Agree.{Agree, Agree2, Agree3, Agree4, Agree5}
 use Rattle.bits.specs.Contract.{Widens, Indexes, ReadsByte, ReadsShort, ReadsWord, TakesLeast, LeavesRoom, GetsLow}
-use Rattle.bits.specs.Contract.{PutsBytes, PutsLow, PutsEight, GivesFloat, GivesBits}
+use Rattle.bits.specs.Contract.{PutsBytes, PutsLow, PutsEight, PutsAt, GivesFloat, GivesBits}
 use Rattle.deck.specs.declared.Cursor.{Cursor}
 use Rattle.deck.specs.declared.Place.{Place}
-use Rattle.deck.specs.Contract.{FindsNext, CountsLines, CodesSize, Joins, FindsSpot}
+use Rattle.deck.specs.Contract.{FindsNext, CountsLines, FaultsSize, Joins, FindsSpot}
 use Rattle.tokens.specs.Contract.{TakesCut, WritesRow, PlacesToken}
 use Rattle.drafts.specs.Contract.{WhetherDefining, WhetherUse, WhetherAsking, WhetherNamed, WhetherClosing}
-use Rattle.drafts.specs.Contract.{CountsDraft, FindsHome}
+use Rattle.drafts.specs.Contract.{CountsDraft, FindsHome, FindsLast}
 use Rattle.grammar.specs.Contract.{ParsesRow}
 use Rattle.order.specs.Contract.{Sorts}
 use Rattle.records.specs.Contract.{ReadsRecord, Decodes}
 use Rattle.sheet.specs.Contract.{PutsFault}
 use Rattle.blocks.specs.Grouped.{UnitArrays}
-use Rattle.blocks.specs.Contract.{Groups}
+use Rattle.faults.specs.declared.Fault.{Fault}
+use Rattle.blocks.specs.Contract.{Groups, AddsFault, WhetherInTurn}
 use Rattle.model.specs.Plan.{Lent}
 use Rattle.model.specs.Contract.{Plans}
 use Rattle.program.specs.Contract.{CountsRecords, PutsProgram, PutsRoster}
-use Rattle.evaluator.specs.Contract.{Evaluated, Started, Stepped}
-use Rattle.translator.specs.Contract.{Translates, TranslatesInOrder, NamesSlots}
+use Rattle.evaluator.specs.declared.Refusal.{Refusal as Refused}
+use Rattle.evaluator.specs.Contract.{AnswersNumber, AnswersPlace, Evaluated, Started, Stepped}
+use Rattle.translator.specs.declared.Refusal.{Refusal}
+use Rattle.translator.specs.Contract.{TellsNumber, TellsCount, Translates, TranslatesInOrder, NamesSlots}
 use Rattle.listing_text.specs.Contract.{Lists}
 use Rattle.floesedge.specs.Contract.{TranslatesFixed, NamesFixed, EvaluatesFixed, StartsFixed, StepsFixed}
 use Rattle.tally.specs.declared.Tally.{Tally}
 use Rattle.tally.specs.Contract.{CountsNone, CountsOne, CountsNumber, Finishes}
 
 -- numbers as bytes, and reads
-pub record Bits : Type 0 where
+pub record Bits : Type 1 where
   pub wide : (byte : ℕ) → Agree (Widens byte)
   pub index : (x : ℕ) → Agree (Indexes x)
   pub byte_at : (s : List ℕ) (i : ℕ) → Agree (ReadsByte s i)
@@ -38,6 +41,7 @@ pub record Bits : Type 0 where
   pub get_low : (part : List ℕ) (n : ℕ) → Agree (GetsLow part n)
   pub put_bytes : (buf : List ℕ) (at : ℕ) (from : List ℕ) → Agree (PutsBytes buf at from)
   pub put_low : (buf : List ℕ) (at n v : ℕ) → Agree (PutsLow buf at n v)
+  pub put : {A : Type 0} (s : List A) (i : ℕ) (v : A) → Agree (PutsAt s i v)
   pub put_eight : (buf : List ℕ) (at v : ℕ) → Agree (PutsEight buf at v)
   pub float_of : (bits : ℕ) → Agree (GivesFloat bits)
   pub bits_of : (x : Float) → Agree (GivesBits x)
@@ -46,7 +50,7 @@ pub record Bits : Type 0 where
 pub record Deck : Type 0 where
   pub next_statement : (text : List ℕ) (c : Cursor) → Agree (FindsNext text c)
   pub line_count : (text : List ℕ) → Agree (CountsLines text)
-  pub size_code : (cards : ℕ) (closed long : Bool) → Agree (CodesSize cards closed long)
+  pub size_fault : (cards : ℕ) (closed long : Bool) → Agree (FaultsSize cards closed long)
   pub join : (text : List ℕ) (start cards : ℕ) (out : List ℕ) → Agree2 (Joins text start cards out)
   pub find_spot : (text : List ℕ) (start lines : ℕ) (place : Place) → Agree (FindsSpot text start lines place)
 
@@ -64,6 +68,7 @@ pub record Drafts : Type 0 where
   pub is_named : (kind : ℕ) → Agree (WhetherNamed kind)
   pub is_closing : (kind : ℕ) → Agree (WhetherClosing kind)
   pub records_of : (kind : ℕ) → Agree (CountsDraft kind)
+  pub last_of : (bounds : List ℕ) (j : ℕ) → Agree (FindsLast bounds j)
   pub home_of : (places : List ℕ) (slot : ℕ) → Agree (FindsHome places slot)
 
 -- a row of tokens parsed
@@ -89,6 +94,8 @@ pub record Sheets : Type 0 where
 pub record Blocks : Type 0 where
   pub group : (lines bounds kinds args faults : List ℕ) (a : UnitArrays)
       → Agree4 (Groups lines bounds kinds args faults a)
+  pub is_in_turn : (bounds : List ℕ) (n size : ℕ) → Agree (WhetherInTurn bounds n size)
+  pub add_fault : (fault : Option Fault) (line : ℕ) (list : List ℕ) (c : ℕ) → Agree2 (AddsFault fault line list c)
 
 -- units planned
 pub record Model : Type 0 where
@@ -104,12 +111,16 @@ pub record Program : Type 0 where
 
 -- a program run
 pub record Evaluator : Type 0 where
+  pub number : (a : Refused) → Agree (AnswersNumber a)
+  pub place : (a : Refused) → Agree (AnswersPlace a)
   pub evaluate : (p : List ℕ) (v d : List Float) → Agree3 (Evaluated p v d)
   pub start : (p : List ℕ) (v d : List Float) → Agree3 (Started p v d)
   pub step : (p : List ℕ) (h : Float) (v d : List Float) → Agree3 (Stepped p h v d)
 
 -- a text translated
 pub record Translator : Type 0 where
+  pub number : (a : Refusal) → Agree (TellsNumber a)
+  pub count : (a : Refusal) → Agree (TellsCount a)
   pub translate : (text f p : List ℕ) → Agree3 (Translates text f p)
   pub translate_in_order : (text f p o : List ℕ) → Agree4 (TranslatesInOrder text f p o)
   pub names : (text f o : List ℕ) → Agree3 (NamesSlots text f o)

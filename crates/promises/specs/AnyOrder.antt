@@ -9,7 +9,7 @@ use Rattle.records.specs.declared.Instr.TheVariants.{Constant, Slot, Add, Store,
 use Rattle.records.specs.Record.{rec, program_bytes, instrs, decoded}
 use Rattle.records.specs.Shape.{zero64, one64}
 use Rattle.program.specs.Program.{program}
-use Rattle.evaluator.specs.declared.Answer.{Answer}
+use Rattle.evaluator.specs.Judge.{Answer}
 use Rattle.evaluator.specs.Judge.{answer, judge}
 use Rattle.evaluator.specs.Evaluate.{ran}
 use Rattle.meaning.specs.ReSorted.{re_sorted}

@@ -1,5 +1,5 @@
 -- Comments change nothing: a comment line is put into a text, anywhere, also between continued cards; or taken out.
-use Rattle.std.specs.Prelude.{ℕ, ◌≡◌, true, List, ◌∷◌, ◌++◌, map, length}
+use Rattle.std.specs.Prelude.{ℕ, ◌≡◌, true, List, ◌∷◌, ◌++◌, Result, map, length}
 use Rattle.std.proofs.lemmas.List.Edits.{sets}
 use Rattle.deck.specs.Lines.{Line, lines_of, starred}
 use Rattle.deck.specs.Later.{line_moved}
@@ -7,11 +7,10 @@ use Rattle.sheet.specs.Sheet.{Fault, fault_list}
 use Rattle.sheet.specs.Reader.{faults_of}
 use Rattle.sheet.specs.Numbers.{renumber_fault}
 use Rattle.records.specs.Record.{Rec, renumber_rec, program_bytes}
-use Rattle.translator.specs.declared.Verdict.{Verdict}
-use Rattle.translator.specs.declared.Verdict.TheVariants.{Refused, Faulty, Translated}
+use Rattle.translator.specs.declared.Refusal.{Refusal}
 use Rattle.translator.specs.Verdict.{verdict_of, number_of, count_of}
 use Rattle.translator.specs.Rules.{records_of, model_faults_of}
-use Rattle.translator.specs.Contract.{lines_in}
+use Rattle.translator.specs.Contract.{Verdict, Refused, Faulty, Translated, verdict_in, lines_in}
 
 -- the two texts: the line c, a comment, stands in b behind the lines pre, and not in a
 pub record Commented (pre : List Line) (c : Line) (post : List Line) (a b : List ℕ) : Type 0 where
@@ -46,6 +45,7 @@ AnswerSame n (Translated m) f p f' p' g s g' s' = (rs : List Rec) × (length rs 
     × (f' ≡ f) × (g' ≡ g)
 
 -- COMMENTS CHANGE NOTHING, FROM THE ENTRY: both answers are the same
-pub record UnchangedFor (n : ℕ) (r : Verdict) (f p f' p' : List ℕ) (t : Verdict) (g s g' s' : List ℕ) : Type 0 where
+pub record UnchangedFor (n : ℕ) (r : Result ℕ Refusal) (f p f' p' : List ℕ) (t : Result ℕ Refusal)
+    (g s g' s' : List ℕ) : Type 0 where
   pub answer : t ≡ r
-  pub written : AnswerSame n r f p f' p' g s g' s'
+  pub written : AnswerSame n (verdict_in r) f p f' p' g s g' s'

@@ -1,6 +1,6 @@
 -- Demand 3: of a text's lines one run is changed. What the reading, the sheet and the statement faults keep, and what a
 -- statement fault means.
-use Rattle.std.specs.Prelude.{ℕ, ◌+◌, ◌*◌, ◌≡◌, false, List, [], ◌∷◌, ◌++◌, map, length, take, drop}
+use Rattle.std.specs.Prelude.{ℕ, ◌+◌, ◌*◌, ◌≡◌, false, List, [], ◌∷◌, ◌++◌, Result, map, length, take, drop}
 use Rattle.limits.specs.Limits.{fault_bytes}
 use Rattle.deck.specs.Lines.{Line, lines_of, dotted, starred}
 use Rattle.deck.specs.Later.{later, later_report, Begin, Share}
@@ -8,7 +8,7 @@ use Rattle.sheet.specs.Sheet.{Fault, fault_list}
 use Rattle.sheet.specs.Reader.{sheet_of, faults_of, Faulted}
 use Rattle.sheet.specs.Numbers.{statements_in, sheet_from, faults_from, closed_of, statements_of, FreshBehind}
 use Rattle.sheet.specs.Numbers.{statement_line, report_line, fault_line, later_fault}
-use Rattle.translator.specs.declared.Verdict.{Verdict}
+use Rattle.translator.specs.declared.Refusal.{Refusal}
 use Rattle.translator.specs.Replies.{Answered, NoProgram, Convicts}
 
 -- ---- the two texts
@@ -74,8 +74,8 @@ pub record ListEnds (fs tail : List Fault) (n : ℕ) (f' : List ℕ) : Type 0 wh
       ≡ fault_list (map (later_fault n) tail)
 
 -- DEMAND 3, FROM THE ENTRY: both texts have a statement fault; p and s were lent for their programs
-pub record LocalFor (pre old new post : List Line) (a b : List ℕ) (r : Verdict) (f' p p' : List ℕ) (t : Verdict)
-    (g' s s' : List ℕ) : Type 0 where
+pub record LocalFor (pre old new post : List Line) (a b : List ℕ) (r : Result ℕ Refusal) (f' p p' : List ℕ)
+    (t : Result ℕ Refusal) (g' s s' : List ℕ) : Type 0 where
   -- both answers are 5 with the count, the list in full, the program as lent
   pub answer_old : Answered 5 (faults_of a) r f' p p'
   pub answer_new : Answered 5 (faults_of b) t g' s s'

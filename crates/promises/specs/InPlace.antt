@@ -10,8 +10,7 @@ use Rattle.sheet.specs.Sheet.{Fault, fault_list}
 use Rattle.sheet.specs.Reader.{faults_of}
 use Rattle.sheet.specs.Numbers.{statements_of}
 use Rattle.sheet.specs.PlaceMeans.{PlaceMeans}
-use Rattle.translator.specs.declared.Verdict.{Verdict}
-use Rattle.translator.specs.declared.Verdict.TheVariants.{Refused, Faulty, Translated}
+use Rattle.translator.specs.Contract.{Verdict, Refused, Faulty, Translated}
 use Rattle.translator.specs.Rules.{model_faults_of}
 
 -- a fault is one of a statement of the text: its line is the statement's first, and its place, so many lines below

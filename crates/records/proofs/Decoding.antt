@@ -1,12 +1,12 @@
 -- Decoding: what is known of a record that is not refused.
 use Prim.Native.Nat.{ℕ, zero-le, ◌+◌, ◌*◌, ◌/◌, ◌≤◌, ◌<◌}
 use mathlib.Core.Path.{◌≡◌, refl, sym, ◌∙◌}
-use mathlib.Core.Bool.{Bool, true, false, not, ◌||◌}
+use mathlib.Core.Bool.{true, ◌||◌}
 use mathlib.Core.List.{List}
 use mathlib.Core.Logic.{◌⊎◌, inr, ⊎_elim}
 use native.Mathlib.Nat.{le_refl}
 use native.Mathlib.Omega.{arith}
-use borrow.Author.Tests.{ne_eqb, lt-ltb, le-ltb, eqb-true, ltb-true, not-true, not-false}
+use borrow.Author.Tests.{ne_eqb, lt-ltb, eqb-true, ltb-true}
 use lib.Dec.{eqb, ltb}
 use lib.ListN.{length, get_or, get_or-eq_default}
 use lib.Ieee.{Float, binary64, of_bits}
@@ -15,10 +15,11 @@ use Rattle.laws.proofs.Tests.{eq_or_ne, cond_ind, and_true}
 use Rattle.laws.proofs.Every.{every_anywhere}
 use Rattle.records.specs.declared.Instr.{Instr}
 use Rattle.records.specs.declared.Instr.TheVariants.{Bad}
+use Rattle.records.specs.declared.Fields.{Fields}
 use Rattle.records.specs.Fields.{operand_of, has_slot, has_value, kinds, by_kind, in_order, instr_of, instr_within}
 use Rattle.records.specs.Record.{field, decode_at, decode_at_within}
-use Rattle.records.specs.Decode.{decoded_at, read_at, with_fields}
-use Rattle.records.proofs.FieldParts.{field_two}
+use Rattle.records.specs.Decode.{HoldsFields, decoded_at, read_at}
+use Rattle.records.proofs.FieldBytes.{field_two}
 
 -- no kind but 1 to 15 is known
 pub unknown : (k s : ℕ) (x : Float) → (k ≡ 0) ⊎ (16 ≤ k) → by_kind k s x ≡ Bad
@@ -31,34 +32,6 @@ unfolding instr_within
 unknown_refused k s b h =
     rw (unknown k s (of_bits binary64 b) h)
     (cond_ind (λ (i : Instr). Bad ≡ i) (in_order slots k 0 s b) Bad Bad (λ _. refl) (λ _. refl))
-
--- ---- a kind that uses these fields, or not
-
-module _ (slotted valued : Bool) (k s b : ℕ) where
-  module _ {o : Bool} (e : o ≡ (slotted || eqb s 0)) where
-    -- the operand is not 0, though unused
-    pub operand_unused : not o ≡ true → Bad ≡ with_fields slotted valued k s b
-    operand_unused n = rw (sym e ∙ not-true _ n)
-
-    module _ {q : Bool} (f : q ≡ (valued || eqb b 0)) (n : not o ≡ false) where
-      -- the bits are not 0, though unused
-      pub bits_unused : not q ≡ true → Bad ≡ with_fields slotted valued k s b
-      bits_unused m = rw (sym e ∙ not-false _ n, sym f ∙ not-true _ m)
-
-      -- the slot is none
-      pub no_slot : not q ≡ false → slots ≤ s → Bad ≡ with_fields slotted valued k s b
-      no_slot m h = rw (sym e ∙ not-false _ n, sym f ∙ not-false _ m, le-ltb s slots h)
-
-      -- all is in order
-      pub in_order_holds : {r : Instr} {x : Float} → not q ≡ false → s < slots → r ≡ by_kind k s x
-          → x ≡ of_bits binary64 b → r ≡ with_fields slotted valued k s b
-      in_order_holds m h i j = i ∙ rw (j, sym e ∙ not-false _ n, sym f ∙ not-false _ m, lt-ltb s slots h)
-
--- what a kind that uses these fields holds
-pub uses : (k s b : ℕ) (slotted valued : Bool) → has_slot k ≡ slotted → has_value k ≡ valued
-    → with_fields slotted valued k s b ≡ instr_of k 0 s b
-unfolding instr_within
-uses k s b slotted valued p q = rw (p, q)
 
 -- ---- the code reads kind k and byte 1 z as one number, w
 
@@ -136,20 +109,13 @@ module _ (p : List ℕ) where
   pub decoded_at_holds : (n : ℕ) → n < length p / record_bytes → decoded_at p n ≡ decode_at p (n * record_bytes)
   decoded_at_holds n h = rw (lt-ltb n (length p / record_bytes) h)
 
-  -- what is read of it, checked, is that record
-  pub checked_at : (n : ℕ) {w s b : ℕ} {r : Instr} → n < length p / record_bytes → w ≡ field p (n * record_bytes) 2
-      → s ≡ field p (n * record_bytes + 2) 2 → b ≡ field p (n * record_bytes + 8) 8 → r ≡ instr_of w 0 s b
-      → r ≡ decoded_at p n
+  -- what its fields are, checked, is that record
+  pub checked_at : (n : ℕ) {f : Fields} → n < length p / record_bytes → HoldsFields p (n * record_bytes) f
+      → instr_of f.kind 0 f.slot f.bits ≡ decoded_at p n
   unfolding decode_at_within
-  checked_at n h k i j e =
-      e ∙ rw (k, i, j) (joined _ _ _ _ _ (field_two p (n * record_bytes) (omega arith)) ∙ sym (decoded_at_holds n h))
-
-  -- past the last there is none
-  pub none_decoded : (n : ℕ) → length p / record_bytes ≤ n → Bad ≡ decoded_at p n
-  none_decoded n h = rw (le-ltb n (length p / record_bytes) h)
-
-  pub none_read : (n : ℕ) → length p / record_bytes ≤ n → Bad ≡ read_at p n
-  none_read n h = rw (le-ltb n (length p / record_bytes) h)
+  checked_at n h q =
+      rw (q.kind, q.slot, q.bits)
+      (joined _ _ _ _ _ (field_two p (n * record_bytes) (omega arith)) ∙ sym (decoded_at_holds n h))
 
   -- `read` answers the same, where that is no refusal
   pub read_at_holds : (n : ℕ) → n < length p / record_bytes → (decode_at p (n * record_bytes) ≡ Bad → ⊥)

@@ -1,4 +1,4 @@
-pub mod FieldParts
+pub mod FieldBytes
 pub mod Decoding
 pub mod ReadBack
 pub mod LeftRecords

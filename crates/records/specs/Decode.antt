@@ -1,12 +1,20 @@
 -- Decoding record n of a program.
-use Rattle.std.specs.Prelude.{ℕ, ◌+◌, ◌*◌, ◌/◌, Bool, cond, List, ltb, length}
+use Rattle.std.specs.Prelude.{ℕ, ◌≡◌, ◌+◌, ◌≤◌, ◌*◌, ◌/◌, Bool, cond, List, ltb, length}
 use Rattle.std.specs.Float.{binary64}
 use Rattle.std.specs.Float.Ieee.{of_bits}
 use Rattle.limits.specs.Limits.{slots, record_bytes}
 use Rattle.records.specs.declared.Instr.{Instr}
 use Rattle.records.specs.declared.Instr.TheVariants.{Bad}
+use Rattle.records.specs.declared.Fields.{Fields}
 use Rattle.records.specs.Fields.{by_kind, fields_fine}
 use Rattle.records.specs.Record.{field, decode_at}
+
+-- the fields of the record that begins at place o
+pub record HoldsFields (p : List ℕ) (o : ℕ) (f : Fields) : Type 0 where
+  pub whole : o + record_bytes ≤ length p
+  pub kind : f.kind ≡ field p o 2
+  pub slot : f.slot ≡ field p (o + 2) 2
+  pub bits : f.bits ≡ field p (o + 8) 8
 
 -- the instruction of record n; past the last whole record there is none
 abbrev pub decoded_at : List ℕ → ℕ → Instr

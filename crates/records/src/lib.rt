@@ -1,16 +1,13 @@
 // Records, each of so many bytes, and the instruction that one holds.
 #![tactic(auto)]
 
-ghost use Rattle.std.specs.Prelude.{◌≡◌, ◌||◌, ◌+◌, ◌*◌, ◌≤◌, ◌<◌, eqb, length};
+ghost use Rattle.std.specs.Prelude.{◌≡◌, ◌*◌, ◌/◌, ◌≤◌, MatchOption, length};
 ghost use Rattle.std.specs.Float.{binary64};
 ghost use Rattle.std.specs.Float.Ieee.{of_bits};
-ghost use Rattle.records.specs.Fields.{by_kind, instr_of};
-ghost use Rattle.records.specs.Record.{field};
-ghost use Rattle.records.specs.Decode.{with_fields};
+ghost use Rattle.limits.specs.Limits.{record_bytes};
 ghost use Rattle.records.specs.Contract.{ReadsRecord, Decodes};
 
 use bits::float_of;
-use bits::reads::wide;
 use limits::{RECORD_BYTES, SLOTS};
 
 // What a record does, with its slot or value; or the refusal, where it is none.
@@ -34,55 +31,86 @@ pub enum Instr {
     Bad,
 }
 
-// The number of two bytes.
-fn pair(p: &[u8], o: usize) -> u64
-    requires { o + 2 ≤ length p.now }
-    ensures value { result ≡ field p.now o 2 }
-    ensures fits { result < 65536 }
-{
-    wide(p[o]) + 256 * wide(p[o + 1])
+// What a record holds, but for its line: its kind, with byte 1 above it, its slot and the bits of its value.
+#[derive(Clone, Copy)]
+struct Fields {
+    kind: u16,
+    slot: u16,
+    bits: u64,
 }
 
-// The number of four bytes.
-fn half(p: &[u8], o: usize) -> u64
-    requires { o + 4 ≤ length p.now }
-    ensures value { result ≡ field p.now o 4 }
-    ensures fits { result < 4294967296 }
-{
-    pair(p, o) + 65536 * pair(p, o + 2)
-}
+impl Fields {
+    ghost use Rattle.records.specs.Fields.{by_kind, instr_of};
+    ghost use Rattle.records.specs.Decode.{HoldsFields, with_fields};
 
-// The number of eight bytes.
-fn word(p: &[u8], o: usize) -> u64
-    requires { o + 8 ≤ length p.now }
-    ensures value { result ≡ field p.now o 8 }
-    ensures fits { result ≤ 0xffff_ffff_ffff_ffff }
-{
-    half(p, o) + 4294967296 * half(p, o + 4)
-}
+    // The fields of record n, if there is one.
+    fn at(program: &[u8], n: usize) -> Option<Fields>
+        ensures { MatchOption result (length program.now / record_bytes ≤ n) (λ f. HoldsFields program.now (n * record_bytes) f) }
+    {
+        if program.len() / RECORD_BYTES <= n {
+            return None;
+        }
+        let record = &program[n * RECORD_BYTES..];
+        Some(Fields {
+            kind: u16::from_le_bytes([record[0], record[1]]),
+            slot: u16::from_le_bytes([record[2], record[3]]),
+            bits: u64::from_le_bytes([
+                record[8], record[9], record[10], record[11], record[12], record[13], record[14],
+                record[15],
+            ]),
+        })
+    }
 
-// The instruction of a kind, its slot and the bits of its value: kinds 1 to 15, and all others.
-#[tactic(auto, unfolding(crate::specs::Fields::by_kind))]
-fn by_kind(kind: u64, slot: u16, bits: u64) -> Instr
-    ensures { result ≡ by_kind kind slot (of_bits binary64 bits) }
-{
-    match kind {
-        1 => Instr::Constant(slot, float_of(bits)),
-        2 => Instr::Initial(slot, float_of(bits)),
-        3 => Instr::Value(float_of(bits)),
-        4 => Instr::Slot(slot),
-        5 => Instr::Add,
-        6 => Instr::Sub,
-        7 => Instr::Mul,
-        8 => Instr::Div,
-        9 => Instr::Neg,
-        10 => Instr::Insw,
-        11 => Instr::Limit,
-        12 => Instr::Compar,
-        13 => Instr::Store(slot),
-        14 => Instr::Deriv(slot),
-        15 => Instr::StoreAgain(slot),
-        0 | 16..=0xffff_ffff_ffff_ffff => Instr::Bad,
+    // The instruction of the kind: kinds 1 to 15, and all others.
+    #[tactic(auto, using(crate::proofs::Decoding::unknown), unfolding(crate::specs::Fields::by_kind))]
+    fn instr(&self) -> Instr
+        ensures { result ≡ by_kind self.now.kind self.now.slot (of_bits binary64 self.now.bits) }
+    {
+        match self.kind {
+            1 => Instr::Constant(self.slot, float_of(self.bits)),
+            2 => Instr::Initial(self.slot, float_of(self.bits)),
+            3 => Instr::Value(float_of(self.bits)),
+            4 => Instr::Slot(self.slot),
+            5 => Instr::Add,
+            6 => Instr::Sub,
+            7 => Instr::Mul,
+            8 => Instr::Div,
+            9 => Instr::Neg,
+            10 => Instr::Insw,
+            11 => Instr::Limit,
+            12 => Instr::Compar,
+            13 => Instr::Store(self.slot),
+            14 => Instr::Deriv(self.slot),
+            15 => Instr::StoreAgain(self.slot),
+            0 | 16..=0xffff => Instr::Bad,
+        }
+    }
+
+    // The same of a kind that uses slot and value, or not; or the refusal, where one that it does not use is not 0, or
+    // the slot is none.
+    fn using(&self, slotted: bool, valued: bool) -> Instr
+        ensures { result ≡ with_fields slotted valued self.now.kind self.now.slot self.now.bits }
+    {
+        if !slotted && self.slot != 0 || !valued && self.bits != 0 || SLOTS <= self.slot as usize {
+            return Instr::Bad;
+        }
+        self.instr()
+    }
+
+    // The same, where the kind decides what it uses: kinds 1 and 2 slot and value, 3 the value, 4 and 13 to 15 the
+    // slot, 5 to 12 neither. No other kind is known.
+    #[tactic(auto, using(crate::proofs::Decoding::unknown_refused), unfolding(crate::specs::Fields::instr_within))]
+    fn checked(&self) -> Instr
+        ensures { result ≡ instr_of self.now.kind 0 self.now.slot self.now.bits }
+    {
+        match self.kind {
+            1..=2 => self.using(true, true),
+            3 => self.using(false, true),
+            4 => self.using(true, false),
+            5..=12 => self.using(false, false),
+            13..=15 => self.using(true, false),
+            _ => Instr::Bad,
+        }
     }
 }
 
@@ -91,51 +119,9 @@ fn by_kind(kind: u64, slot: u16, bits: u64) -> Instr
 pub fn read(program: &[u8], n: usize) -> Instr
     ensures { ReadsRecord program.now n result }
 {
-    if program.len() / RECORD_BYTES <= n {
-        return Instr::Bad;
-    }
-    let o = n * RECORD_BYTES;
-    let kind = pair(program, o);
-    let slot = pair(program, o + 2);
-    let bits = word(program, o + 8);
-    by_kind(kind, slot as u16, bits)
-}
-
-// Whether a field is used, or else 0.
-fn allowed(used: bool, field: u64) -> bool
-    ensures { result ≡ (used || eqb field 0) }
-{
-    if used { true } else { field == 0 }
-}
-
-// The instruction of a kind with its operand and bits, of which it uses these, or the refusal.
-fn with_fields(slotted: bool, valued: bool, kind: u64, slot: u64, bits: u64) -> Instr
-    ensures { result ≡ with_fields slotted valued kind slot bits }
-{
-    if !allowed(slotted, slot) {
-        return Instr::Bad;
-    }
-    if !allowed(valued, bits) {
-        return Instr::Bad;
-    }
-    if SLOTS as u64 <= slot {
-        return Instr::Bad;
-    }
-    by_kind(kind, slot as u16, bits)
-}
-
-// The same, where the kind decides what it uses: kinds 1 and 2 slot and value, 3 the value, 4 and 13 to 15 the slot, 5
-// to 12 neither. No other kind is known.
-fn checked(kind: u64, slot: u64, bits: u64) -> Instr
-    ensures { result ≡ instr_of kind 0 slot bits }
-{
-    match kind {
-        1..=2 => with_fields(true, true, kind, slot, bits),
-        3 => with_fields(false, true, kind, slot, bits),
-        4 => with_fields(true, false, kind, slot, bits),
-        5..=12 => with_fields(false, false, kind, slot, bits),
-        13..=15 => with_fields(true, false, kind, slot, bits),
-        _ => Instr::Bad,
+    match Fields::at(program, n) {
+        Some(f) => f.instr(),
+        None => Instr::Bad,
     }
 }
 
@@ -143,12 +129,8 @@ fn checked(kind: u64, slot: u64, bits: u64) -> Instr
 pub fn decode(program: &[u8], n: usize) -> Instr
     ensures { Decodes program.now n result }
 {
-    if program.len() / RECORD_BYTES <= n {
-        return Instr::Bad;
+    match Fields::at(program, n) {
+        Some(f) => f.checked(),
+        None => Instr::Bad,
     }
-    let o = n * RECORD_BYTES;
-    let kind = pair(program, o);
-    let slot = pair(program, o + 2);
-    let bits = word(program, o + 8);
-    checked(kind, slot, bits)
 }

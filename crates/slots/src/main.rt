@@ -8,7 +8,6 @@ use bits::reads::{byte_at, wide};
 use limits::{DEFINITIONS, FAULT_ROOM, ROSTER_BYTES, TEXT_BYTES};
 use std::io;
 use std::io::Read;
-use translator::Named;
 
 // A byte more than a text may have: what is longer is refused by its size, whatever follows.
 const READ: usize = TEXT_BYTES + 1;
@@ -114,15 +113,6 @@ fn put_lines(out: &mut [u8; LINES], roster: &[u8; ROSTER], count: usize) -> usiz
 
 // ---- the program
 
-// How many entries an answer counts: none where the text is refused.
-fn entries(answer: Named) -> usize {
-    match answer {
-        Named::Refused(_) => 0,
-        Named::Faulty(_, _) => 0,
-        Named::Entries(count) => count,
-    }
-}
-
 // Prints the first m bytes, or says that there are not so many.
 fn write_front(rt: &(impl Print + Eprint), out: &[u8; LINES], m: usize) -> io::Result<()> {
     let lines: &[u8] = out;
@@ -132,13 +122,13 @@ fn write_front(rt: &(impl Print + Eprint), out: &[u8; LINES], m: usize) -> io::R
     rt.write_all(&lines[..m])
 }
 
-// Prints the lines of a text.
+// Prints the lines of a text, none where it is refused.
 fn print_slots(rt: &(impl Print + Eprint), text: &[u8]) -> io::Result<()> {
     let mut faults = [0u8; FAULT_ROOM];
     let mut roster = [0u8; ROSTER];
     let mut out = [0u8; LINES];
-    let answer = translator::names(text, &mut faults, &mut roster);
-    let m = put_lines(&mut out, &roster, entries(answer));
+    let count = translator::names(text, &mut faults, &mut roster).unwrap_or(0);
+    let m = put_lines(&mut out, &roster, count);
     write_front(rt, &out, m)
 }
 

@@ -5,59 +5,51 @@
 ghost use Rattle.tally.specs.Contract.{CountsNone, CountsOne, CountsNumber, Finishes};
 
 // How many comparisons were tried, and how many of them differ.
-#[derive(Drop)]
+#[derive(Clone, Copy)]
 pub struct Tally {
     pub tried: usize,
     pub differ: usize,
 }
 
-// None so far.
-pub fn none() -> Tally
-    ensures { CountsNone result }
-{
-    Tally {
-        tried: 0,
-        differ: 0,
+impl Tally {
+    // None so far.
+    pub fn none() -> Tally
+        ensures { CountsNone result }
+    {
+        Tally {
+            tried: 0,
+            differ: 0,
+        }
     }
-}
 
-// One comparison more. If it differs its number is printed.
-pub fn right(rt: &impl Print, t: Tally, same: bool) -> Tally
-    ensures { CountsOne t same result }
-{
-    let tried = t.tried;
-    let differ = t.differ;
-    if 10000 < tried {
-        return t;
+    // One comparison more. If it differs its number is printed.
+    pub fn right(&mut self, rt: &impl Print, same: bool)
+        ensures { CountsOne self.old same self.new }
+    {
+        if 10000 < self.tried {
+            return;
+        }
+        if 10000 < self.differ {
+            return;
+        }
+        if !same {
+            let _ = println!(rt; "comparison {} differs", self.tried);
+            self.differ += 1;
+        }
+        self.tried += 1;
     }
-    if 10000 < differ {
-        return t;
-    }
-    if same {
-        return Tally {
-            tried: tried + 1,
-            differ,
-        };
-    }
-    let _ = println!(rt; "comparison {tried} differs");
-    Tally {
-        tried: tried + 1,
-        differ: differ + 1,
-    }
-}
 
-// A number is as wanted.
-pub fn number(rt: &impl Print, t: Tally, got: usize, wanted: usize) -> Tally
-    ensures { CountsNumber t got wanted result }
-{
-    right(rt, t, got == wanted)
-}
+    // A number is as wanted.
+    pub fn number(&mut self, rt: &impl Print, got: usize, wanted: usize)
+        ensures { CountsNumber self.old got wanted self.new }
+    {
+        self.right(rt, got == wanted);
+    }
 
-// Prints the summary.
-pub fn finish(rt: &impl Print, t: Tally)
-    ensures { Finishes t result }
-{
-    let tried = t.tried;
-    let differ = t.differ;
-    let _ = println!(rt; "{tried} tried, {differ} differ");
+    // Prints the summary.
+    pub fn finish(&self, rt: &impl Print)
+        ensures { Finishes self.now result }
+    {
+        let _ = println!(rt; "{} tried, {} differ", self.tried, self.differ);
+    }
 }

@@ -44,8 +44,8 @@ pub fn mixture(k: usize) -> [f64; SLOTS]
     requires { k ≤ 256 }
 {
     let mut values = [float_of(MARK); SLOTS];
-    for i in 0..PLACES {
-        values[i] = mixed(k + i);
+    for (i, value) in values[..PLACES].iter_mut().enumerate() {
+        *value = mixed(k + i);
     }
     values
 }
@@ -68,10 +68,8 @@ fn wanted(left: &[u8], from: usize, i: usize) -> u64
 pub fn same_bits(values: &[f64; SLOTS], left: &[u8], from: usize) -> bool
     requires { from < 65536 }
 {
-    for i in 0..SLOTS {
-        if bits_of(values[i]) != wanted(left, from, i) {
-            return false;
-        }
-    }
-    true
+    values
+        .iter()
+        .enumerate()
+        .all(|(i, value)| bits_of(*value) == wanted(left, from, i))
 }

@@ -7,13 +7,13 @@ mod lent;
 
 ghost use Rattle.std.specs.Prelude.{◌≤◌, length};
 
+use evaluator::Refusal;
 use lent::{PLACES, mixture, same_bits};
 use limits::{FAULT_ROOM, PROGRAM_ROOM, RECORD_BYTES, SLOTS, TEXT_BYTES};
 use std::fs;
 use std::io::Read;
 use std::rt::Files;
-use tally::{Tally, number, right};
-use translator::Verdict;
+use tally::Tally;
 
 // A byte more than a text may have.
 const READ: usize = TEXT_BYTES + 1;
@@ -51,51 +51,49 @@ fn read_file(rt: &impl Files, path: &str, buf: &mut [u8]) -> usize
 
 // ---- the deck
 
-// How many records a text has, 0 where it is refused.
-fn records(v: Verdict) -> usize {
-    match v {
-        Verdict::Refused(_) => 0,
-        Verdict::Faulty(_, _) => 0,
-        Verdict::Translated(count) => count,
-    }
-}
-
-// A deck is translated into a program of so many bytes, and nothing else is written.
+// A deck is translated into a program of so many bytes, and nothing else is written. One that is refused has no record.
 fn translated(
     rt: &(impl Print + Files),
-    t0: Tally,
+    t: &mut Tally,
     deck: &str,
     program: &[u8; ROOM],
     size: usize,
-) -> Tally {
+) {
     let mut text = [0u8; READ];
     let mut faults = [170u8; FAULT_ROOM];
     let mut out = [170u8; ROOM];
     let n = read_file(rt, deck, &mut text);
-    let v = translator::translate(&text[..n], &mut faults, &mut out);
-    let mut t = number(rt, t0, records(v), size / RECORD_BYTES);
-    t = right(rt, t, out == *program);
-    right(rt, t, faults == [170u8; FAULT_ROOM])
+    let count = translator::translate(&text[..n], &mut faults, &mut out).unwrap_or(0);
+    t.number(rt, count, size / RECORD_BYTES);
+    t.right(rt, out == *program);
+    t.right(rt, faults == [170u8; FAULT_ROOM]);
 }
 
 // ---- the program
 
+// The number and the record number of an answer.
+fn told(answer: Result<(), Refusal>) -> (usize, usize) {
+    match answer {
+        Ok(()) => (0, 0),
+        Err(refusal) => (refusal.number(), refusal.place()),
+    }
+}
+
 // It is evaluated from the mixture.
-fn evaluated(rt: &impl Print, t0: Tally, program: &[u8], left: &[u8]) -> Tally {
+fn evaluated(rt: &impl Print, t: &mut Tally, program: &[u8], left: &[u8]) {
     let mut v = mixture(0);
     let mut d = mixture(PLACES);
-    let a = evaluator::evaluate(program, &mut v, &mut d);
-    let mut t = number(rt, t0, a.number, 0);
-    t = number(rt, t, a.place, 0);
-    t = right(rt, t, same_bits(&v, left, 0));
-    right(rt, t, same_bits(&d, left, FLOATS))
+    let said = told(evaluator::evaluate(program, &mut v, &mut d));
+    t.number(rt, said.0, 0);
+    t.number(rt, said.1, 0);
+    t.right(rt, same_bits(&v, left, 0));
+    t.right(rt, same_bits(&d, left, FLOATS));
 }
 
 // Steps of h; how many are no refusal.
 fn step_all(program: &[u8], h: f64, v: &mut [f64; SLOTS], d: &mut [f64; SLOTS]) -> usize {
     for n in 0..STEPS {
-        let a = evaluator::step(program, h, &mut *v, &mut *d);
-        if a.number != 0 {
+        if evaluator::step(program, h, v, d).is_err() {
             return n;
         }
     }
@@ -103,24 +101,24 @@ fn step_all(program: &[u8], h: f64, v: &mut [f64; SLOTS], d: &mut [f64; SLOTS]) 
 }
 
 // It is started from the mixture, and then stepped.
-fn stepped(rt: &impl Print, t0: Tally, program: &[u8], h: f64, left: &[u8]) -> Tally {
+fn stepped(rt: &impl Print, t: &mut Tally, program: &[u8], h: f64, left: &[u8]) {
     let mut v = mixture(0);
     let mut d = mixture(PLACES);
-    let a = evaluator::start(program, &mut v, &mut d);
-    let mut t = number(rt, t0, a.number, 0);
-    t = right(rt, t, same_bits(&v, left, 2 * FLOATS));
-    t = right(rt, t, same_bits(&d, left, 3 * FLOATS));
-    t = number(rt, t, step_all(program, h, &mut v, &mut d), STEPS);
-    t = right(rt, t, same_bits(&v, left, 4 * FLOATS));
-    right(rt, t, same_bits(&d, left, 5 * FLOATS))
+    let said = told(evaluator::start(program, &mut v, &mut d));
+    t.number(rt, said.0, 0);
+    t.right(rt, same_bits(&v, left, 2 * FLOATS));
+    t.right(rt, same_bits(&d, left, 3 * FLOATS));
+    t.number(rt, step_all(program, h, &mut v, &mut d), STEPS);
+    t.right(rt, same_bits(&v, left, 4 * FLOATS));
+    t.right(rt, same_bits(&d, left, 5 * FLOATS));
 }
 
 // It leaves what the file has.
-fn run(rt: &(impl Print + Files), t0: Tally, program: &[u8], values: &str, h: f64) -> Tally {
+fn run(rt: &(impl Print + Files), t: &mut Tally, program: &[u8], values: &str, h: f64) {
     let mut left = [0u8; LEFT + 1];
-    let mut t = number(rt, t0, read_file(rt, values, &mut left), LEFT);
-    t = evaluated(rt, t, program, &left);
-    stepped(rt, t, program, h, &left)
+    t.number(rt, read_file(rt, values, &mut left), LEFT);
+    evaluated(rt, t, program, &left);
+    stepped(rt, t, program, h, &left);
 }
 
 // ---- both
@@ -128,26 +126,26 @@ fn run(rt: &(impl Print + Files), t0: Tally, program: &[u8], values: &str, h: f6
 // A deck gives its program, whose file is not empty, and that leaves what it left with steps of h.
 fn as_before(
     rt: &(impl Print + Files),
-    t0: Tally,
+    t: &mut Tally,
     deck: &str,
     program: &str,
     values: &str,
     h: f64,
-) -> Tally {
+) {
     let mut bytes = [170u8; ROOM];
     let size = read_file(rt, program, &mut bytes);
-    let mut t = right(rt, t0, 0 < size);
-    t = translated(rt, t, deck, &bytes, size);
-    run(rt, t, &bytes[..size], values, h)
+    t.right(rt, 0 < size);
+    translated(rt, t, deck, &bytes, size);
+    run(rt, t, &bytes[..size], values, h);
 }
 
 // Those of the paper, the manual and the examples, and one of all functions, with what is no number.
-fn ordinary(rt: &(impl Print + Files), t0: Tally) -> Tally {
-    let mut t = as_before(rt, t0, "tank.deck", "tank.program", "tank.values", 0.1);
-    t = as_before(rt, t, "relay.deck", "relay.program", "relay.values", 2.5);
-    t = as_before(rt, t, "wall.deck", "wall.program", "wall.values", 30.0);
-    t = as_before(rt, t, "valve.deck", "valve.program", "valve.values", 2.5);
-    t = as_before(
+fn ordinary(rt: &(impl Print + Files), t: &mut Tally) {
+    as_before(rt, t, "tank.deck", "tank.program", "tank.values", 0.1);
+    as_before(rt, t, "relay.deck", "relay.program", "relay.values", 2.5);
+    as_before(rt, t, "wall.deck", "wall.program", "wall.values", 30.0);
+    as_before(rt, t, "valve.deck", "valve.program", "valve.values", 2.5);
+    as_before(
         rt,
         t,
         "checker.deck",
@@ -155,7 +153,7 @@ fn ordinary(rt: &(impl Print + Files), t0: Tally) -> Tally {
         "checker.values",
         60.0,
     );
-    t = as_before(
+    as_before(
         rt,
         t,
         "furnace.deck",
@@ -170,22 +168,23 @@ fn ordinary(rt: &(impl Print + Files), t0: Tally) -> Tally {
         "switches.program",
         "switches.values",
         0.1,
-    )
+    );
 }
 
 // Those at the limits of before: 255 statements with 255 definitions; 256 with 255, and 30 blocks; 512 lines; 16,384
 // bytes; and one with all of these and 4,096 records.
-fn largest(rt: &(impl Print + Files), t0: Tally) -> Tally {
-    let mut t = as_before(rt, t0, "names.deck", "names.program", "names.values", 0.1);
-    t = as_before(rt, t, "blocks.deck", "blocks.program", "blocks.values", 0.1);
-    t = as_before(rt, t, "lines.deck", "lines.program", "lines.values", 0.1);
-    t = as_before(rt, t, "bytes.deck", "bytes.program", "bytes.values", 0.1);
-    as_before(rt, t, "full.deck", "full.program", "full.values", 0.1)
+fn largest(rt: &(impl Print + Files), t: &mut Tally) {
+    as_before(rt, t, "names.deck", "names.program", "names.values", 0.1);
+    as_before(rt, t, "blocks.deck", "blocks.program", "blocks.values", 0.1);
+    as_before(rt, t, "lines.deck", "lines.program", "lines.values", 0.1);
+    as_before(rt, t, "bytes.deck", "bytes.program", "bytes.values", 0.1);
+    as_before(rt, t, "full.deck", "full.program", "full.values", 0.1);
 }
 
 // All of these, and the summary.
 fn main(rt: HostRuntime) {
-    let mut t = ordinary(&rt, tally::none());
-    t = largest(&rt, t);
-    tally::finish(&rt, t);
+    let mut t = Tally::none();
+    ordinary(&rt, &mut t);
+    largest(&rt, &mut t);
+    t.finish(&rt);
 }

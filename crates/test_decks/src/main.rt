@@ -35,29 +35,29 @@ fn read_file(rt: &impl Files, path: &str, buf: &mut [u8]) -> usize
 }
 
 // A deck has this listing.
-fn listed(rt: &(impl Print + Files), t0: Tally, deck: &str, listing: &str) -> Tally {
+fn listed(rt: &(impl Print + Files), t: &mut Tally, deck: &str, listing: &str) {
     let mut text = [0u8; READ];
     let mut wanted = [0u8; LISTED];
     let mut out = [0u8; LISTED];
     let n = read_file(rt, deck, &mut text);
     let k = read_file(rt, listing, &mut wanted);
     let m = listing_text::list(&text[..n], &mut out);
-    let mut t = tally::right(rt, t0, 0 < n);
-    t = tally::number(rt, t, m, k);
-    tally::right(rt, t, out == wanted)
+    t.right(rt, 0 < n);
+    t.number(rt, m, k);
+    t.right(rt, out == wanted);
 }
 
 // All decks, and the summary.
 fn main(rt: HostRuntime) {
-    let mut t = tally::none();
-    t = listed(&rt, t, "tank.deck", "tank.listing");
-    t = listed(&rt, t, "furnace.deck", "furnace.listing");
-    t = listed(&rt, t, "full_tank.deck", "full_tank.listing");
-    t = listed(&rt, t, "grammar.deck", "grammar.listing");
-    t = listed(&rt, t, "long-name.deck", "long-name.listing");
-    t = listed(&rt, t, "long-run.deck", "long-run.listing");
-    t = listed(&rt, t, "loop.deck", "loop.listing");
-    t = listed(&rt, t, "star.deck", "star.listing");
-    t = listed(&rt, t, "undefined.deck", "undefined.listing");
-    tally::finish(&rt, t);
+    let mut t = Tally::none();
+    listed(&rt, &mut t, "tank.deck", "tank.listing");
+    listed(&rt, &mut t, "furnace.deck", "furnace.listing");
+    listed(&rt, &mut t, "full_tank.deck", "full_tank.listing");
+    listed(&rt, &mut t, "grammar.deck", "grammar.listing");
+    listed(&rt, &mut t, "long-name.deck", "long-name.listing");
+    listed(&rt, &mut t, "long-run.deck", "long-run.listing");
+    listed(&rt, &mut t, "loop.deck", "loop.listing");
+    listed(&rt, &mut t, "star.deck", "star.listing");
+    listed(&rt, &mut t, "undefined.deck", "undefined.listing");
+    t.finish(&rt);
 }

@@ -73,19 +73,20 @@ fn pairs_roster() -> [u8; ROSTER_BYTES * DEFINITIONS] {
 }
 
 // The first n bytes of a text have these entries; a text that is shorter counts as one that differs.
-fn named_front(rt: &impl Print, t: Tally, text: &[u8], n: usize, entries: &[u8]) -> Tally {
+fn named_front(rt: &impl Print, t: &mut Tally, text: &[u8], n: usize, entries: &[u8]) {
     if text.len() < n {
-        return tally::right(rt, t, false);
+        t.right(rt, false);
+        return;
     }
-    named(rt, t, &text[..n], entries)
+    named(rt, t, &text[..n], entries);
 }
 
 // 1,023 definitions have their entries in 16,368 bytes, and in 16,367 none has: 10. With the last, of eight bytes, they
 // are too many: 6.
-fn definitions(rt: &impl Print, t0: Tally) -> Tally {
+fn definitions(rt: &impl Print, t: &mut Tally) {
     let text = pairs();
-    let t = named_front(rt, t0, &text, PAIR * PAIRS - 8, &pairs_roster());
-    silent(rt, t, &text, 6)
+    named_front(rt, t, &text, PAIR * PAIRS - 8, &pairs_roster());
+    silent(rt, t, &text, 6);
 }
 
 // ---- records
@@ -116,8 +117,8 @@ fn sum_byte(r: usize) -> u8 {
 // 14, the last at 4190 with 35 bytes.
 fn sums(last: &[u8; 4]) -> [u8; SUMS] {
     let mut text = [0u8; SUMS];
-    for i in 0..SUMS {
-        text[i] = sum_byte((i + 58) % SUM);
+    for (i, byte) in text.iter_mut().enumerate() {
+        *byte = sum_byte((i + 58) % SUM);
     }
     bits::put_bytes(&mut text, 0, b"PROCED A=P(T)\n");
     bits::put_bytes(&mut text, 4225, b"\nENDPRO\n");
@@ -127,15 +128,15 @@ fn sums(last: &[u8; 4]) -> [u8; SUMS] {
 
 // A sum of r ones has 2 r records, so these have 58 * 70 + 34 = 4094. With two more they are as many as there may be.
 // One more is too many, 8, whatever room there is for names.
-fn records(rt: &impl Print, t0: Tally) -> Tally {
-    let t = named(
+fn records(rt: &impl Print, t: &mut Tally) {
+    named(
         rt,
-        t0,
+        t,
         &sums(b"T=+1"),
         b"A\0\0\0\0\0\0\0\x03\0\x01\0\x02\0\0\0\
           T\0\0\0\0\0\0\0\x03\0\x02\0\x3e\0\0\0",
     );
-    silent(rt, t, &sums(b"T=-1"), 8)
+    silent(rt, t, &sums(b"T=-1"), 8);
 }
 
 // ---- drafts
@@ -186,8 +187,8 @@ fn input_byte(i: usize) -> u8 {
 // As many of them as the text has bytes.
 fn inputs() -> [u8; HEADERS] {
     let mut text = [0u8; HEADERS];
-    for i in 0..HEADERS {
-        text[i] = input_byte(i);
+    for (i, byte) in text.iter_mut().enumerate() {
+        *byte = input_byte(i);
     }
     text
 }
@@ -213,13 +214,13 @@ fn headers_roster() -> [u8; ROSTER_BYTES * BLOCKS + ROSTER_BYTES] {
 }
 
 // A text that is read in the largest room.
-fn drafts(rt: &impl Print, t: Tally) -> Tally {
-    named(rt, t, &headers(), &headers_roster())
+fn drafts(rt: &impl Print, t: &mut Tally) {
+    named(rt, t, &headers(), &headers_roster());
 }
 
 // All of these.
-pub fn all(rt: &impl Print, t0: Tally) -> Tally {
-    let mut t = definitions(rt, t0);
-    t = records(rt, t);
-    drafts(rt, t)
+pub fn all(rt: &impl Print, t: &mut Tally) {
+    definitions(rt, t);
+    records(rt, t);
+    drafts(rt, t);
 }

@@ -7,11 +7,13 @@ mod named_texts;
 mod refused_texts;
 mod wanted;
 
+use tally::Tally;
+
 // All groups, and the summary.
 fn main(rt: HostRuntime) {
-    let mut t = tally::none();
-    t = named_texts::all(&rt, t);
-    t = refused_texts::all(&rt, t);
-    t = large_texts::all(&rt, t);
-    tally::finish(&rt, t);
+    let mut t = Tally::none();
+    named_texts::all(&rt, &mut t);
+    refused_texts::all(&rt, &mut t);
+    large_texts::all(&rt, &mut t);
+    t.finish(&rt);
 }

@@ -4,7 +4,7 @@ use crate::wanted::{named, nameless};
 use tally::Tally;
 
 // The tank: a constant, two assignments and a state. Slots follow the text and not the order, which is 3, 5, 4.
-fn tank(rt: &impl Print, t: Tally) -> Tally {
+fn tank(rt: &impl Print, t: &mut Tally) {
     named(
         rt,
         t,
@@ -13,11 +13,11 @@ fn tank(rt: &impl Print, t: Tally) -> Tally {
           Q\0\0\0\0\0\0\0\x03\0\x02\0\x03\0\0\0\
           H\0\0\0\0\0\0\0\x02\0\x03\0\x04\0\0\0\
           F\0\0\0\0\0\0\0\x03\0\x04\0\x05\0\0\0",
-    )
+    );
 }
 
 // Each constant of a statement has its entry, with the line of that.
-fn constants(rt: &impl Print, t: Tally) -> Tally {
+fn constants(rt: &impl Print, t: &mut Tally) {
     named(
         rt,
         t,
@@ -28,11 +28,11 @@ fn constants(rt: &impl Print, t: Tally) -> Tally {
           C\0\0\0\0\0\0\0\x01\0\x04\0\x03\0\0\0\
           D\0\0\0\0\0\0\0\x01\0\x05\0\x03\0\0\0\
           E\0\0\0\0\0\0\0\x01\0\x06\0\x04\0\0\0",
-    )
+    );
 }
 
 // Names of one to six characters, each the front of others, with digits and without.
-fn lengths(rt: &impl Print, t: Tally) -> Tally {
+fn lengths(rt: &impl Print, t: &mut Tally) {
     named(
         rt,
         t,
@@ -44,11 +44,11 @@ fn lengths(rt: &impl Print, t: Tally) -> Tally {
           TIMES\0\0\0\x03\0\x05\0\x05\0\0\0\
           ABCDEF\0\0\x03\0\x06\0\x06\0\0\0\
           A12345\0\0\x03\0\x07\0\x07\0\0\0",
-    )
+    );
 }
 
 // States of one and of six letters, and an initial that is a constant's name.
-fn states(rt: &impl Print, t: Tally) -> Tally {
+fn states(rt: &impl Print, t: &mut Tally) {
     named(
         rt,
         t,
@@ -56,13 +56,13 @@ fn states(rt: &impl Print, t: Tally) -> Tally {
         b"X\0\0\0\0\0\0\0\x02\0\x01\0\x01\0\0\0\
           MASSES\0\0\x02\0\x02\0\x02\0\0\0\
           HEIGHT\0\0\x01\0\x03\0\x03\0\0\0",
-    )
+    );
 }
 
 // ---- blocks
 
 // A name of the block's own, and an output, each with the line on which it is set.
-fn block(rt: &impl Print, t: Tally) -> Tally {
+fn block(rt: &impl Print, t: &mut Tally) {
     named(
         rt,
         t,
@@ -71,11 +71,11 @@ fn block(rt: &impl Print, t: Tally) -> Tally {
           A\0\0\0\0\0\0\0\x03\0\x02\0\x03\0\0\0\
           T\0\0\0\0\0\0\0\x03\0\x03\0\x05\0\0\0\
           B\0\0\0\0\0\0\0\x03\0\x04\0\x06\0\0\0",
-    )
+    );
 }
 
 // An output and a name of the block's own that are set again have one entry each, with the line of the first setting.
-fn set_again(rt: &impl Print, t: Tally) -> Tally {
+fn set_again(rt: &impl Print, t: &mut Tally) {
     named(
         rt,
         t,
@@ -83,11 +83,11 @@ fn set_again(rt: &impl Print, t: Tally) -> Tally {
         b"RESULT\0\0\x03\0\x01\0\x02\0\0\0\
           HELPER\0\0\x04\0\x02\0\x03\0\0\0\
           B\0\0\0\0\0\0\0\x01\0\x03\0\x07\0\0\0",
-    )
+    );
 }
 
 // Outputs have slots as they are set, not as the header names them.
-fn outputs(rt: &impl Print, t: Tally) -> Tally {
+fn outputs(rt: &impl Print, t: &mut Tally) {
     named(
         rt,
         t,
@@ -95,11 +95,11 @@ fn outputs(rt: &impl Print, t: Tally) -> Tally {
         b"B\0\0\0\0\0\0\0\x03\0\x01\0\x02\0\0\0\
           A\0\0\0\0\0\0\0\x03\0\x02\0\x03\0\0\0\
           C\0\0\0\0\0\0\0\x03\0\x03\0\x05\0\0\0",
-    )
+    );
 }
 
 // The name of a block has no entry: here another statement defines it, and two blocks have it.
-fn block_names(rt: &impl Print, t: Tally) -> Tally {
+fn block_names(rt: &impl Print, t: &mut Tally) {
     named(
         rt,
         t,
@@ -110,13 +110,13 @@ fn block_names(rt: &impl Print, t: Tally) -> Tally {
           B\0\0\0\0\0\0\0\x03\0\x04\0\x07\0\0\0\
           T\0\0\0\0\0\0\0\x03\0\x05\0\x09\0\0\0\
           P\0\0\0\0\0\0\0\x03\0\x06\0\x0a\0\0\0",
-    )
+    );
 }
 
 // ---- lines
 
 // A statement over several lines with a comment inside has its first line.
-fn over_lines(rt: &impl Print, t: Tally) -> Tally {
+fn over_lines(rt: &impl Print, t: &mut Tally) {
     named(
         rt,
         t,
@@ -126,51 +126,51 @@ fn over_lines(rt: &impl Print, t: Tally) -> Tally {
           L\0\0\0\0\0\0\0\x01\0\x03\0\x06\0\0\0\
           X\0\0\0\0\0\0\0\x02\0\x04\0\x09\0\0\0\
           Y\0\0\0\0\0\0\0\x03\0\x05\0\x0c\0\0\0",
-    )
+    );
 }
 
 // So do a block's header, its end and a setting in it.
-fn block_over_lines(rt: &impl Print, t: Tally) -> Tally {
+fn block_over_lines(rt: &impl Print, t: &mut Tally) {
     named(
         rt,
         t,
         b"PROCED A...\n* OUT\n=F(C)\nA=C...\n* TWICE\n+C\nENDPRO...\n*\n\nC=1",
         b"A\0\0\0\0\0\0\0\x03\0\x01\0\x04\0\0\0\
           C\0\0\0\0\0\0\0\x03\0\x02\0\x0a\0\0\0",
-    )
+    );
 }
 
 // A definition on line 1,024, which has two bytes.
-fn last_line(rt: &impl Print, t: Tally) -> Tally {
+fn last_line(rt: &impl Print, t: &mut Tally) {
     let mut text = [b'\n'; 1026];
     bits::put_bytes(&mut text, 1023, b"A=1");
-    named(rt, t, &text, b"A\0\0\0\0\0\0\0\x03\0\x01\0\0\x04\0\0")
+    named(rt, t, &text, b"A\0\0\0\0\0\0\0\x03\0\x01\0\0\x04\0\0");
 }
 
 // ---- none
 
 // Nothing; a comment and blanks; as many lines and as many bytes as there may be.
-fn without(rt: &impl Print, t0: Tally) -> Tally {
+fn without(rt: &impl Print, t: &mut Tally) {
     let lines = [b'\n'; 1024];
     let comment = [b'*'; 32768];
-    let mut t = nameless(rt, t0, b"");
-    t = nameless(rt, t, b"* A=1\n\n   \n");
-    t = nameless(rt, t, &lines);
-    nameless(rt, t, &comment)
+    nameless(rt, t, b"");
+    nameless(rt, t, b"* A=1\n\n   \n");
+    nameless(rt, t, &lines);
+    nameless(rt, t, &comment);
 }
 
 // All of these.
-pub fn all(rt: &impl Print, t0: Tally) -> Tally {
-    let mut t = tank(rt, t0);
-    t = constants(rt, t);
-    t = lengths(rt, t);
-    t = states(rt, t);
-    t = block(rt, t);
-    t = set_again(rt, t);
-    t = outputs(rt, t);
-    t = block_names(rt, t);
-    t = over_lines(rt, t);
-    t = block_over_lines(rt, t);
-    t = last_line(rt, t);
-    without(rt, t)
+pub fn all(rt: &impl Print, t: &mut Tally) {
+    tank(rt, t);
+    constants(rt, t);
+    lengths(rt, t);
+    states(rt, t);
+    block(rt, t);
+    set_again(rt, t);
+    outputs(rt, t);
+    block_names(rt, t);
+    over_lines(rt, t);
+    block_over_lines(rt, t);
+    last_line(rt, t);
+    without(rt, t);
 }

@@ -1,7 +1,7 @@
 // What asking for names must give, in lent buffers that hold 7 at each place before.
 use limits::{DEFINITIONS, FAULT_BYTES, FAULT_ROOM, ROSTER_BYTES};
 use tally::Tally;
-use translator::Named;
+use translator::Refusal;
 
 // Room for the entries of all definitions and one more.
 pub const ROOM: usize = ROSTER_BYTES * DEFINITIONS + ROSTER_BYTES;
@@ -11,46 +11,32 @@ const PAST: usize = 16;
 
 // ---- answers
 
-// An answer in numbers: its case, its number and its count.
-#[derive(Drop)]
-struct Said {
-    case: usize,
-    number: usize,
-    count: usize,
+// An answer in numbers: its number and its count, of faults or of entries.
+#[derive(Clone, Copy, PartialEq)]
+pub struct Said {
+    pub number: u8,
+    pub count: usize,
+}
+
+// So many entries.
+fn so_many(count: usize) -> Said {
+    Said { number: 0, count }
+}
+
+// A refusal without faults.
+pub fn refused(number: u8) -> Said {
+    Said { number, count: 0 }
 }
 
 // Those of an answer.
-fn told(answer: Named) -> Said {
+fn told(answer: Result<usize, Refusal>) -> Said {
     match answer {
-        Named::Refused(number) => Said {
-            case: 1,
-            number: number as usize,
-            count: 0,
-        },
-        Named::Faulty(number, count) => Said {
-            case: 2,
-            number: number as usize,
-            count,
-        },
-        Named::Entries(count) => Said {
-            case: 3,
-            number: 0,
-            count,
+        Ok(count) => so_many(count),
+        Err(refusal) => Said {
+            number: refusal.number(),
+            count: refusal.count(),
         },
     }
-}
-
-// Whether two answers are the same.
-fn same_answer(a: Named, b: Named) -> bool {
-    let p = told(a);
-    let q = told(b);
-    if p.case != q.case {
-        return false;
-    }
-    if p.number != q.number {
-        return false;
-    }
-    p.count == q.count
 }
 
 // ---- lent buffers
@@ -63,35 +49,30 @@ fn same(a: &[u8], b: &[u8]) -> bool {
 // With these buffers lent the text has this answer, and they then hold what is wanted.
 pub fn lent(
     rt: &impl Print,
-    t0: Tally,
+    t: &mut Tally,
     text: &[u8],
     faults: &mut [u8],
     out: &mut [u8],
-    answer: Named,
+    answer: Said,
     list: &[u8],
     roster: &[u8],
-) -> Tally {
-    let got = translator::names(text, &mut *faults, &mut *out);
-    let mut t = tally::right(rt, t0, same_answer(got, answer));
-    t = tally::right(rt, t, same(faults, list));
-    tally::right(rt, t, same(out, roster))
+) {
+    let got = told(translator::names(text, &mut *faults, &mut *out));
+    t.right(rt, got == answer);
+    t.right(rt, same(faults, list));
+    t.right(rt, same(out, roster));
 }
 
 // With the first n of ROOM bytes lent for names the text has this answer, they then hold the first n of what is wanted,
 // and no fault is written. Where there are fewer than n, that counts as a text that differs.
-fn with_room(
-    rt: &impl Print,
-    t: Tally,
-    text: &[u8],
-    n: usize,
-    answer: Named,
-    wanted: &[u8],
-) -> Tally {
+fn with_room(rt: &impl Print, t: &mut Tally, text: &[u8], n: usize, answer: Said, wanted: &[u8]) {
     if ROOM < n {
-        return tally::right(rt, t, false);
+        t.right(rt, false);
+        return;
     }
     if wanted.len() < n {
-        return tally::right(rt, t, false);
+        t.right(rt, false);
+        return;
     }
     let mut faults = [7u8; FAULT_ROOM];
     let mut out = [7u8; ROOM];
@@ -105,13 +86,13 @@ fn with_room(
         answer,
         &list,
         &wanted[..n],
-    )
+    );
 }
 
 // With n bytes lent the text has this answer, and nothing is written.
-fn unwritten(rt: &impl Print, t: Tally, text: &[u8], n: usize, answer: Named) -> Tally {
+fn unwritten(rt: &impl Print, t: &mut Tally, text: &[u8], n: usize, answer: Said) {
     let kept = [7u8; ROOM];
-    with_room(rt, t, text, n, answer, &kept)
+    with_room(rt, t, text, n, answer, &kept);
 }
 
 // ---- names, none, faults, and nothing
@@ -125,52 +106,56 @@ fn in_front(entries: &[u8]) -> [u8; ROOM] {
 
 // The text has these entries, at least one: with more room than they need, with as much, and with a byte less, which is
 // 10.
-pub fn named(rt: &impl Print, t0: Tally, text: &[u8], entries: &[u8]) -> Tally {
+pub fn named(rt: &impl Print, t: &mut Tally, text: &[u8], entries: &[u8]) {
     let n = entries.len();
     if n == 0 {
-        return tally::right(rt, t0, false);
+        t.right(rt, false);
+        return;
     }
     let wanted = in_front(entries);
     let count = n / ROSTER_BYTES;
-    let mut t = with_room(rt, t0, text, ROOM, Named::Entries(count), &wanted);
-    t = with_room(rt, t, text, n, Named::Entries(count), &wanted);
-    unwritten(rt, t, text, n - 1, Named::Refused(10))
+    with_room(rt, t, text, ROOM, so_many(count), &wanted);
+    with_room(rt, t, text, n, so_many(count), &wanted);
+    unwritten(rt, t, text, n - 1, refused(10));
 }
 
 // The text has no definition: with room, and without.
-pub fn nameless(rt: &impl Print, t0: Tally, text: &[u8]) -> Tally {
-    let t = unwritten(rt, t0, text, ROOM, Named::Entries(0));
-    unwritten(rt, t, text, 0, Named::Entries(0))
+pub fn nameless(rt: &impl Print, t: &mut Tally, text: &[u8]) {
+    unwritten(rt, t, text, ROOM, so_many(0));
+    unwritten(rt, t, text, 0, so_many(0));
 }
 
 // The text is refused with this number, and nothing is written: with room, and without.
-pub fn silent(rt: &impl Print, t0: Tally, text: &[u8], number: u8) -> Tally {
-    let t = unwritten(rt, t0, text, ROOM, Named::Refused(number));
-    unwritten(rt, t, text, 0, Named::Refused(number))
+pub fn silent(rt: &impl Print, t: &mut Tally, text: &[u8], number: u8) {
+    unwritten(rt, t, text, ROOM, refused(number));
+    unwritten(rt, t, text, 0, refused(number));
 }
 
 // With these bytes lent for names the text is refused with this number and these faults, and the bytes are kept.
 fn listed(
     rt: &impl Print,
-    t: Tally,
+    t: &mut Tally,
     text: &[u8],
     out: &mut [u8],
     number: u8,
     faults: &[u8],
     kept: &[u8],
-) -> Tally {
+) {
     let mut list = [7u8; FAULT_ROOM + PAST];
     let mut wanted = [7u8; FAULT_ROOM + PAST];
     bits::put_bytes(&mut wanted, 0, faults);
-    let answer = Named::Faulty(number, faults.len() / FAULT_BYTES);
-    lent(rt, t, text, &mut list, out, answer, &wanted, kept)
+    let answer = Said {
+        number,
+        count: faults.len() / FAULT_BYTES,
+    };
+    lent(rt, t, text, &mut list, out, answer, &wanted, kept);
 }
 
 // So it is with room for four names, and without.
-pub fn faulty(rt: &impl Print, t0: Tally, text: &[u8], number: u8, faults: &[u8]) -> Tally {
+pub fn faulty(rt: &impl Print, t: &mut Tally, text: &[u8], number: u8, faults: &[u8]) {
     let mut out = [7u8; 4 * ROSTER_BYTES];
     let kept = [7u8; 4 * ROSTER_BYTES];
     let mut none = [7u8; 0];
-    let t = listed(rt, t0, text, &mut out, number, faults, &kept);
-    listed(rt, t, text, &mut none, number, faults, b"")
+    listed(rt, t, text, &mut out, number, faults, &kept);
+    listed(rt, t, text, &mut none, number, faults, b"");
 }

@@ -1,12 +1,12 @@
 // A program and the same in another order, side by side.
 ghost use Rattle.std.specs.Prelude.{◌<◌};
 
-use crate::lent::{both_accepted, same_bits, sevens};
+use crate::lent::{same_bits, sevens};
 use crate::orders::PROGRAM;
 use bits::float_of;
-use evaluator::Answer;
+use evaluator::Refusal;
 use limits::SLOTS;
-use tally::{Tally, right};
+use tally::Tally;
 
 // How many steps a run has.
 const STEPS: usize = 200;
@@ -33,9 +33,9 @@ fn mixed(every: usize) -> [f64; SLOTS]
     requires { 0 < every }
 {
     let mut values = sevens();
-    for i in 0..SLOTS {
+    for (i, value) in values.iter_mut().enumerate() {
         if i % every == 0 {
-            values[i] = odd(i);
+            *value = odd(i);
         }
     }
     values
@@ -46,23 +46,23 @@ fn mixed(every: usize) -> [f64; SLOTS]
 // Neither answer is a refusal, and all places of values v and w, and of derivatives d and e, have the same bits.
 fn alike(
     rt: &impl Print,
-    t0: Tally,
-    a: Answer,
-    b: Answer,
+    t: &mut Tally,
+    a: Result<(), Refusal>,
+    b: Result<(), Refusal>,
     v: &[f64; SLOTS],
     w: &[f64; SLOTS],
     d: &[f64; SLOTS],
     e: &[f64; SLOTS],
-) -> Tally {
-    let mut t = right(rt, t0, both_accepted(a, b));
-    t = right(rt, t, same_bits(v, w));
-    right(rt, t, same_bits(d, e))
+) {
+    t.right(rt, a.is_ok() && b.is_ok());
+    t.right(rt, same_bits(v, w));
+    t.right(rt, same_bits(d, e));
 }
 
 // Both are stepped by h.
 fn step_both(
     rt: &impl Print,
-    t0: Tally,
+    t: &mut Tally,
     p: &[u8; PROGRAM],
     q: &[u8; PROGRAM],
     h: f64,
@@ -70,53 +70,52 @@ fn step_both(
     w: &mut [f64; SLOTS],
     d: &mut [f64; SLOTS],
     e: &mut [f64; SLOTS],
-) -> Tally {
+) {
     let a = evaluator::step(p, h, &mut *v, &mut *d);
     let b = evaluator::step(q, h, &mut *w, &mut *e);
-    alike(rt, t0, a, b, v, w, d, e)
+    alike(rt, t, a, b, v, w, d, e);
 }
 
 // Both are evaluated from the same values, and then stepped from what that leaves.
 fn evaluate_both(
     rt: &impl Print,
-    t0: Tally,
+    t: &mut Tally,
     p: &[u8; PROGRAM],
     q: &[u8; PROGRAM],
     from: [f64; SLOTS],
-) -> Tally {
+) {
     let mut v = from;
     let mut w = from;
     let mut d = sevens();
     let mut e = sevens();
     let a = evaluator::evaluate(p, &mut v, &mut d);
     let b = evaluator::evaluate(q, &mut w, &mut e);
-    let t = alike(rt, t0, a, b, &v, &w, &d, &e);
-    step_both(rt, t, p, q, 30.0, &mut v, &mut w, &mut d, &mut e)
+    alike(rt, t, a, b, &v, &w, &d, &e);
+    step_both(rt, t, p, q, 30.0, &mut v, &mut w, &mut d, &mut e);
 }
 
 // Both are started, and then stepped many times. They are compared after the start and after each step.
-fn run_both(rt: &impl Print, t0: Tally, p: &[u8; PROGRAM], q: &[u8; PROGRAM], h: f64) -> Tally {
+fn run_both(rt: &impl Print, t: &mut Tally, p: &[u8; PROGRAM], q: &[u8; PROGRAM], h: f64) {
     let mut v = sevens();
     let mut w = sevens();
     let mut d = sevens();
     let mut e = sevens();
     let a = evaluator::start(p, &mut v, &mut d);
     let b = evaluator::start(q, &mut w, &mut e);
-    let mut t = alike(rt, t0, a, b, &v, &w, &d, &e);
+    alike(rt, t, a, b, &v, &w, &d, &e);
     for _ in 0..STEPS {
-        t = step_both(rt, t, p, q, h, &mut v, &mut w, &mut d, &mut e);
+        step_both(rt, t, p, q, h, &mut v, &mut w, &mut d, &mut e);
     }
-    t
 }
 
 // From 7 and from 0 at all places, and from mixed values; then a run past a reversal of the fire, and one of steps so
 // long that the flow of fuel swings ever wider.
-pub fn all(rt: &impl Print, t0: Tally, p: &[u8; PROGRAM], q: &[u8; PROGRAM]) -> Tally {
-    let mut t = evaluate_both(rt, t0, p, q, sevens());
-    t = evaluate_both(rt, t, p, q, [0.0; SLOTS]);
-    t = evaluate_both(rt, t, p, q, mixed(1));
-    t = evaluate_both(rt, t, p, q, mixed(3));
-    t = evaluate_both(rt, t, p, q, mixed(7));
-    t = run_both(rt, t, p, q, 8.0);
-    run_both(rt, t, p, q, 30.0)
+pub fn all(rt: &impl Print, t: &mut Tally, p: &[u8; PROGRAM], q: &[u8; PROGRAM]) {
+    evaluate_both(rt, t, p, q, sevens());
+    evaluate_both(rt, t, p, q, [0.0; SLOTS]);
+    evaluate_both(rt, t, p, q, mixed(1));
+    evaluate_both(rt, t, p, q, mixed(3));
+    evaluate_both(rt, t, p, q, mixed(7));
+    run_both(rt, t, p, q, 8.0);
+    run_both(rt, t, p, q, 30.0);
 }

@@ -8,14 +8,14 @@ mod orders;
 
 ghost use Rattle.std.specs.Prelude.{◌≤◌, length};
 
+use evaluator::Refusal;
 use lent::{same_bits, sevens};
 use limits::{FAULT_ROOM, TEXT_BYTES};
 use orders::{COUNT, PROGRAM, UNITS, read_line, sort};
 use std::fs;
 use std::io::Read;
 use std::rt::Files;
-use tally::{Tally, number, right};
-use translator::Verdict;
+use tally::Tally;
 
 // A byte more than a text may have.
 const READ: usize = TEXT_BYTES + 1;
@@ -50,12 +50,7 @@ fn translate(rt: &impl Files, program: &mut [u8]) -> usize {
     let mut text = [0u8; READ];
     let mut faults = [0u8; FAULT_ROOM];
     let n = read_file(rt, "furnace.deck", &mut text);
-    let verdict = translator::translate(&text[..n], &mut faults, program);
-    match verdict {
-        Verdict::Refused(_) => 0,
-        Verdict::Faulty(_, _) => 0,
-        Verdict::Translated(count) => count,
-    }
+    translator::translate(&text[..n], &mut faults, program).unwrap_or(0)
 }
 
 // Reads the order on the first line of a file; how many numbers it has.
@@ -72,77 +67,88 @@ fn same(p: &[u8; PROGRAM], q: &[u8; PROGRAM]) -> bool {
 }
 
 // The first order gives the program itself.
-fn first_order(rt: &impl Print, t0: Tally, program: &[u8; PROGRAM], first: &[u16; UNITS]) -> Tally {
+fn first_order(rt: &impl Print, t: &mut Tally, program: &[u8; PROGRAM], first: &[u16; UNITS]) {
     let mut sorted = [0u8; PROGRAM];
     let n = sort(program, first, first, &mut sorted);
-    let t = number(rt, t0, n, PROGRAM);
-    right(rt, t, same(&sorted, program))
+    t.number(rt, n, PROGRAM);
+    t.right(rt, same(&sorted, program));
 }
 
 // Another good order gives a program of other bytes and as many records, which does the same.
 fn good_order(
     rt: &impl Print,
-    t0: Tally,
+    t: &mut Tally,
     program: &[u8; PROGRAM],
     first: &[u16; UNITS],
     order: &[u16; UNITS],
-) -> Tally {
+) {
     let mut sorted = [0u8; PROGRAM];
     let n = sort(program, first, order, &mut sorted);
-    let mut t = number(rt, t0, n, PROGRAM);
-    t = right(rt, t, !same(&sorted, program));
-    beside::all(rt, t, program, &sorted)
+    t.number(rt, n, PROGRAM);
+    t.right(rt, !same(&sorted, program));
+    beside::all(rt, t, program, &sorted);
 }
 
 // All orders of a text but the first: each has so many numbers, and nothing stands behind the last.
 fn each_order(
     rt: &impl Print,
-    t0: Tally,
+    t: &mut Tally,
     program: &[u8; PROGRAM],
     first: &[u16; UNITS],
     text: &[u8],
-) -> Tally {
+) {
     let mut order = [0u16; UNITS];
     let head = read_line(text, 0, &mut order);
-    let mut t = t0;
     let mut at = head.next;
     for _ in 1..ORDERS {
         let line = read_line(text, at, &mut order);
-        t = number(rt, t, line.count, UNITS);
-        t = good_order(rt, t, program, first, &order);
+        t.number(rt, line.count, UNITS);
+        good_order(rt, t, program, first, &order);
         at = line.next;
     }
-    number(rt, t, at, text.len())
+    t.number(rt, at, text.len());
 }
 
 // All orders of the file but the first.
 fn good_orders(
     rt: &(impl Print + Files),
-    t0: Tally,
+    t: &mut Tally,
     program: &[u8; PROGRAM],
     first: &[u16; UNITS],
-) -> Tally {
+) {
     let mut text = [0u8; LINES];
     let n = read_file(rt, "furnace.orders", &mut text);
-    each_order(rt, t0, program, first, &text[..n])
+    each_order(rt, t, program, first, &text[..n]);
+}
+
+// The number and the record number of an answer.
+fn told(answer: Result<(), Refusal>) -> (usize, usize) {
+    match answer {
+        Ok(()) => (0, 0),
+        Err(refusal) => (refusal.number(), refusal.place()),
+    }
+}
+
+// An answer is the refusal for this record.
+fn refused_for(rt: &impl Print, t: &mut Tally, answer: Result<(), Refusal>, place: usize) {
+    let said = told(answer);
+    t.number(rt, said.0, 3);
+    t.number(rt, said.1, place);
 }
 
 // Evaluating, starting and stepping refuse a program for this record, and write nothing.
-fn refused(rt: &impl Print, t0: Tally, p: &[u8; PROGRAM], place: usize) -> Tally {
+fn refused(rt: &impl Print, t: &mut Tally, p: &[u8; PROGRAM], place: usize) {
     let mut v = sevens();
     let mut d = sevens();
     let lent = sevens();
     let a = evaluator::evaluate(p, &mut v, &mut d);
     let b = evaluator::start(p, &mut v, &mut d);
     let c = evaluator::step(p, 30.0, &mut v, &mut d);
-    let mut t = number(rt, t0, a.number, 3);
-    t = number(rt, t, a.place, place);
-    t = number(rt, t, b.number, 3);
-    t = number(rt, t, b.place, place);
-    t = number(rt, t, c.number, 3);
-    t = number(rt, t, c.place, place);
-    t = right(rt, t, same_bits(&v, &lent));
-    right(rt, t, same_bits(&d, &lent))
+    refused_for(rt, t, a, place);
+    refused_for(rt, t, b, place);
+    refused_for(rt, t, c, place);
+    t.right(rt, same_bits(&v, &lent));
+    t.right(rt, same_bits(&d, &lent));
 }
 
 // The bad order has the valve, the block of line 104, behind the derivative of TRIM, line 100, which uses its output
@@ -150,17 +156,17 @@ fn refused(rt: &impl Print, t0: Tally, p: &[u8; PROGRAM], place: usize) -> Tally
 // stand before them. There KI, ERR and their product come now, and at 541 FREE, which is not set yet.
 fn bad_order(
     rt: &(impl Print + Files),
-    t0: Tally,
+    t: &mut Tally,
     program: &[u8; PROGRAM],
     first: &[u16; UNITS],
-) -> Tally {
+) {
     let mut order = [0u16; UNITS];
     let mut sorted = [0u8; PROGRAM];
     let count = read_order(rt, "furnace.bad", &mut order);
     let n = sort(program, first, &order, &mut sorted);
-    let mut t = number(rt, t0, count, UNITS);
-    t = number(rt, t, n, PROGRAM);
-    refused(rt, t, &sorted, 541)
+    t.number(rt, count, UNITS);
+    t.number(rt, n, PROGRAM);
+    refused(rt, t, &sorted, 541);
 }
 
 // The program, the first order, the other good ones, the bad one, and the summary.
@@ -169,10 +175,11 @@ fn main(rt: HostRuntime) {
     let mut first = [0u16; UNITS];
     let count = translate(&rt, &mut program);
     let units = read_order(&rt, "furnace.orders", &mut first);
-    let mut t = number(&rt, tally::none(), count, COUNT);
-    t = number(&rt, t, units, UNITS);
-    t = first_order(&rt, t, &program, &first);
-    t = good_orders(&rt, t, &program, &first);
-    t = bad_order(&rt, t, &program, &first);
-    tally::finish(&rt, t);
+    let mut t = Tally::none();
+    t.number(&rt, count, COUNT);
+    t.number(&rt, units, UNITS);
+    first_order(&rt, &mut t, &program, &first);
+    good_orders(&rt, &mut t, &program, &first);
+    bad_order(&rt, &mut t, &program, &first);
+    t.finish(&rt);
 }

@@ -22,33 +22,17 @@ pub struct Line {
 
 // ---- reading
 
-// Whether a byte is a digit.
-fn is_digit(b: u8) -> bool {
-    if b < b'0' {
-        return false;
-    }
-    b <= b'9'
-}
-
 // Whether a number begins at place i: a digit behind none.
 fn begins(text: &[u8], i: usize) -> bool {
-    if 0 < i {
-        if is_digit(byte_at(text, i - 1)) {
-            return false;
-        }
+    if 0 < i && byte_at(text, i - 1).is_ascii_digit() {
+        return false;
     }
-    is_digit(byte_at(text, i))
+    byte_at(text, i).is_ascii_digit()
 }
 
 // A number with one digit more. It stays as it is if that is no digit, or if no record has so large a number.
 fn longer(number: u16, digit: u8) -> u16 {
-    if digit < b'0' {
-        return number;
-    }
-    if b'9' < digit {
-        return number;
-    }
-    if 6000 < number {
+    if !digit.is_ascii_digit() || 6000 < number {
         return number;
     }
     number * 10 + (digit - b'0') as u16
@@ -58,7 +42,7 @@ fn longer(number: u16, digit: u8) -> u16 {
 fn number_at(text: &[u8], from: usize) -> u16 {
     let mut number: u16 = 0;
     for i in from..text.len() {
-        if !is_digit(text[i]) {
+        if !text[i].is_ascii_digit() {
             return number;
         }
         number = longer(number, text[i]);
@@ -123,13 +107,11 @@ fn put_records(
 fn unit_end(first: &[u16; UNITS], a: usize) -> usize
     ensures { result < 65536 }
 {
-    for k in 0..UNITS {
-        let begin = index(first[k]);
-        if a < begin {
-            return begin;
-        }
-    }
-    COUNT
+    first
+        .iter()
+        .map(|&begin| index(begin))
+        .find(|&begin| a < begin)
+        .unwrap_or(COUNT)
 }
 
 // The program in another order: constants and initials as they stand, then unit by unit. How many bytes it has.
@@ -140,8 +122,8 @@ pub fn sort(
     out: &mut [u8; PROGRAM],
 ) -> usize {
     let mut n = put_records(program, 0, index(first[0]), &mut *out, 0);
-    for k in 0..UNITS {
-        let a = index(order[k]);
+    for &unit in order {
+        let a = index(unit);
         n = put_records(program, a, unit_end(first, a), &mut *out, n);
     }
     n

@@ -2,19 +2,36 @@
 ghost use Rattle.std.specs.Prelude.{◌≤◌, ◌<◌, length};
 ghost use Rattle.limits.specs.Limits.{slots, most_records};
 
+use evaluator::Refusal;
 use limits::{RECORD_BYTES, SLOTS};
-use tally::{Tally, right};
+use tally::Tally;
 
 // A float has the wanted bits. A NaN has those of the one NaN.
-pub fn float(rt: &impl Print, t: Tally, got: f64, wanted: u64) -> Tally {
-    right(rt, t, bits::bits_of(got) == wanted)
+pub fn float(rt: &impl Print, t: &mut Tally, got: f64, wanted: u64) {
+    t.right(rt, bits::bits_of(got) == wanted);
 }
 
 // A place of a lent buffer has the wanted bits.
-pub fn at(rt: &impl Print, t: Tally, values: &[f64; SLOTS], i: usize, wanted: u64) -> Tally
+pub fn at(rt: &impl Print, t: &mut Tally, values: &[f64; SLOTS], i: usize, wanted: u64)
     requires { i < slots }
 {
-    float(rt, t, values[i], wanted)
+    float(rt, t, values[i], wanted);
+}
+
+// The number of an answer: that of the refusal, or 0.
+pub fn number_in(a: &Result<(), Refusal>) -> usize {
+    match a {
+        Ok(()) => 0,
+        Err(refusal) => refusal.number(),
+    }
+}
+
+// The record that it names, or 0.
+pub fn place_in(a: &Result<(), Refusal>) -> usize {
+    match a {
+        Ok(()) => 0,
+        Err(refusal) => refusal.place(),
+    }
 }
 
 // What lent buffers hold: 7 at each place.

@@ -7,11 +7,13 @@ mod lent;
 mod refused;
 mod tank;
 
+use tally::Tally;
+
 // All groups, and the summary.
 fn main(rt: HostRuntime) {
-    let mut t = tally::none();
-    t = tank::all(&rt, t);
-    t = accepted::all(&rt, t);
-    t = refused::all(&rt, t);
-    tally::finish(&rt, t);
+    let mut t = Tally::none();
+    tank::all(&rt, &mut t);
+    accepted::all(&rt, &mut t);
+    refused::all(&rt, &mut t);
+    t.finish(&rt);
 }

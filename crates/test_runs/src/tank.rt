@@ -1,7 +1,7 @@
 // The tank of the paper: PARAM K=2 / Q=K*H / H=INTGRL(1,F-Q) / F=LIMIT(0,3,TIME). The slots are 1 K, 2 Q, 3 H, 4 F.
-use crate::lent::{at, kept, of_slots, record, sevens};
+use crate::lent::{at, kept, number_in, of_slots, place_in, record, sevens};
 use limits::SLOTS;
-use tally::{Tally, number};
+use tally::Tally;
 
 // F=LIMIT(0,3,TIME), in five records.
 fn flow(p: &mut [u8]) {
@@ -32,95 +32,95 @@ fn program() -> [u8; 240] {
 }
 
 // A start writes TIME = 0 and H = 1, and nothing else.
-fn starts(rt: &impl Print, t0: Tally) -> Tally {
+fn starts(rt: &impl Print, t: &mut Tally) {
     let p = program();
     let mut v = sevens();
     let mut d = sevens();
     let a = evaluator::start(&p, &mut v, &mut d);
-    let mut t = number(rt, t0, a.number, 0);
-    t = number(rt, t, a.place, 0);
-    t = at(rt, t, &v, 0, 0);
-    t = at(rt, t, &v, 3, 0x3ff0_0000_0000_0000);
-    t = number(rt, t, kept(&v), SLOTS - 2);
-    number(rt, t, kept(&d), SLOTS)
+    t.number(rt, number_in(&a), 0);
+    t.number(rt, place_in(&a), 0);
+    at(rt, t, &v, 0, 0);
+    at(rt, t, &v, 3, 0x3ff0_0000_0000_0000);
+    t.number(rt, kept(&v), SLOTS - 2);
+    t.number(rt, kept(&d), SLOTS);
 }
 
 // At TIME = 0 and H = 1: K = 2, Q = 2 * 1 = 2, F = 0, which is neither below 0 nor above 3, and the derivative is
 // 0 - 2 = -2.
-fn evaluates(rt: &impl Print, t0: Tally) -> Tally {
+fn evaluates(rt: &impl Print, t: &mut Tally) {
     let p = program();
     let mut v = sevens();
     let mut d = sevens();
     v[0] = 0.0;
     v[3] = 1.0;
     let a = evaluator::evaluate(&p, &mut v, &mut d);
-    let mut t = number(rt, t0, a.number, 0);
-    t = at(rt, t, &v, 0, 0);
-    t = at(rt, t, &v, 1, 0x4000_0000_0000_0000);
-    t = at(rt, t, &v, 2, 0x4000_0000_0000_0000);
-    t = at(rt, t, &v, 3, 0x3ff0_0000_0000_0000);
-    t = at(rt, t, &v, 4, 0);
-    t = at(rt, t, &d, 3, 0xc000_0000_0000_0000);
-    t = number(rt, t, kept(&v), SLOTS - 5);
-    number(rt, t, kept(&d), SLOTS - 1)
+    t.number(rt, number_in(&a), 0);
+    at(rt, t, &v, 0, 0);
+    at(rt, t, &v, 1, 0x4000_0000_0000_0000);
+    at(rt, t, &v, 2, 0x4000_0000_0000_0000);
+    at(rt, t, &v, 3, 0x3ff0_0000_0000_0000);
+    at(rt, t, &v, 4, 0);
+    at(rt, t, &d, 3, 0xc000_0000_0000_0000);
+    t.number(rt, kept(&v), SLOTS - 5);
+    t.number(rt, kept(&d), SLOTS - 1);
 }
 
 // A first step of 0.5, from TIME = 0 and H = 1: the derivative is -2, H = 1 + 0.5 * -2 = 0, and TIME = 0.5.
-fn steps(rt: &impl Print, t0: Tally) -> Tally {
+fn steps(rt: &impl Print, t: &mut Tally) {
     let p = program();
     let mut v = sevens();
     let mut d = sevens();
     let a = evaluator::start(&p, &mut v, &mut d);
     let b = evaluator::step(&p, 0.5, &mut v, &mut d);
-    let mut t = number(rt, t0, a.number, 0);
-    t = number(rt, t, b.number, 0);
-    t = at(rt, t, &v, 3, 0);
-    t = at(rt, t, &v, 0, 0x3fe0_0000_0000_0000);
-    t = at(rt, t, &d, 3, 0xc000_0000_0000_0000);
-    t = number(rt, t, kept(&v), SLOTS - 5);
-    number(rt, t, kept(&d), SLOTS - 1)
+    t.number(rt, number_in(&a), 0);
+    t.number(rt, number_in(&b), 0);
+    at(rt, t, &v, 3, 0);
+    at(rt, t, &v, 0, 0x3fe0_0000_0000_0000);
+    at(rt, t, &d, 3, 0xc000_0000_0000_0000);
+    t.number(rt, kept(&v), SLOTS - 5);
+    t.number(rt, kept(&d), SLOTS - 1);
 }
 
 // A second: Q = 2 * 0 = 0, F = 0.5, the derivative is 0.5, H = 0 + 0.5 * 0.5 = 0.25, and TIME = 1.
-fn steps_again(rt: &impl Print, t0: Tally) -> Tally {
+fn steps_again(rt: &impl Print, t: &mut Tally) {
     let p = program();
     let mut v = sevens();
     let mut d = sevens();
     v[0] = 0.5;
     v[3] = 0.0;
     let a = evaluator::step(&p, 0.5, &mut v, &mut d);
-    let mut t = number(rt, t0, a.number, 0);
-    t = at(rt, t, &v, 2, 0);
-    t = at(rt, t, &v, 4, 0x3fe0_0000_0000_0000);
-    t = at(rt, t, &d, 3, 0x3fe0_0000_0000_0000);
-    t = at(rt, t, &v, 3, 0x3fd0_0000_0000_0000);
-    at(rt, t, &v, 0, 0x3ff0_0000_0000_0000)
+    t.number(rt, number_in(&a), 0);
+    at(rt, t, &v, 2, 0);
+    at(rt, t, &v, 4, 0x3fe0_0000_0000_0000);
+    at(rt, t, &d, 3, 0x3fe0_0000_0000_0000);
+    at(rt, t, &v, 3, 0x3fd0_0000_0000_0000);
+    at(rt, t, &v, 0, 0x3ff0_0000_0000_0000);
 }
 
 // What F is at a TIME.
-fn limited(rt: &impl Print, t0: Tally, time: f64, wanted: u64) -> Tally {
+fn limited(rt: &impl Print, t: &mut Tally, time: f64, wanted: u64) {
     let p = program();
     let mut v = sevens();
     let mut d = sevens();
     v[0] = time;
     let a = evaluator::evaluate(&p, &mut v, &mut d);
-    let t = number(rt, t0, a.number, 0);
-    at(rt, t, &v, 4, wanted)
+    t.number(rt, number_in(&a), 0);
+    at(rt, t, &v, 4, wanted);
 }
 
 // F is 3 above 3, 0 below 0, TIME at 3, and follows a TIME that is NaN, which neither end stops.
-fn limits(rt: &impl Print, t0: Tally) -> Tally {
-    let mut t = limited(rt, t0, 7.0, 0x4008_0000_0000_0000);
-    t = limited(rt, t, 3.0, 0x4008_0000_0000_0000);
-    t = limited(rt, t, -7.0, 0);
-    limited(rt, t, 0.0 / 0.0, 0x7ff8_0000_0000_0000)
+fn limits(rt: &impl Print, t: &mut Tally) {
+    limited(rt, t, 7.0, 0x4008_0000_0000_0000);
+    limited(rt, t, 3.0, 0x4008_0000_0000_0000);
+    limited(rt, t, -7.0, 0);
+    limited(rt, t, 0.0 / 0.0, 0x7ff8_0000_0000_0000);
 }
 
 // All of these.
-pub fn all(rt: &impl Print, t0: Tally) -> Tally {
-    let mut t = starts(rt, t0);
-    t = evaluates(rt, t);
-    t = steps(rt, t);
-    t = steps_again(rt, t);
-    limits(rt, t)
+pub fn all(rt: &impl Print, t: &mut Tally) {
+    starts(rt, t);
+    evaluates(rt, t);
+    steps(rt, t);
+    steps_again(rt, t);
+    limits(rt, t);
 }

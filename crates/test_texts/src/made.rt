@@ -101,8 +101,8 @@ fn byte_by(rule: Rule, k: usize, r: usize, w: usize) -> u8 {
 pub fn fill(out: &mut [u8], rule: Rule, from: usize, w: usize)
     requires { (from ≤ 1024) × (w ≤ 72) }
 {
-    for i in 0..out.len() {
-        out[i] = byte_by(rule, from + i / (w + 1) % 1024, i % (w + 1), w);
+    for (i, byte) in out.iter_mut().enumerate() {
+        *byte = byte_by(rule, from + i / (w + 1) % 1024, i % (w + 1), w);
     }
 }
 

@@ -15,16 +15,18 @@ mod slips;
 mod table;
 mod wanted;
 
+use tally::Tally;
+
 // All groups, and the summary.
 fn main(rt: HostRuntime) {
-    let mut t = tally::none();
-    t = table::all(&rt, t);
-    t = power_texts::all(&rt, t);
-    t = slips::all(&rt, t);
-    t = block_texts::all(&rt, t);
-    t = comment_texts::all(&rt, t);
-    t = place_texts::all(&rt, t);
-    t = limits_met::all(&rt, t);
-    t = arrays::all(&rt, t);
-    tally::finish(&rt, t);
+    let mut t = Tally::none();
+    table::all(&rt, &mut t);
+    power_texts::all(&rt, &mut t);
+    slips::all(&rt, &mut t);
+    block_texts::all(&rt, &mut t);
+    comment_texts::all(&rt, &mut t);
+    place_texts::all(&rt, &mut t);
+    limits_met::all(&rt, &mut t);
+    arrays::all(&rt, &mut t);
+    t.finish(&rt);
 }

@@ -9,7 +9,7 @@ use tally::Tally;
 
 // 14: the byte itself, at both ends of a card, behind spaces, names and numbers, on later cards, behind comments, which
 // may have such bytes.
-fn bad_bytes(rt: &impl Print, t: Tally) -> Tally {
+fn bad_bytes(rt: &impl Print, t: &mut Tally) {
     refused(
         rt,
         t,
@@ -24,12 +24,12 @@ fn bad_bytes(rt: &impl Print, t: Tally) -> Tally {
           1 14 2 1|A=1+...\n#|\
           1 14 3 3|A=1+...\n2+...\n  a|\
           1 14 4 2|A=1+...\n* #\n*\n #|",
-    )
+    );
 }
 
 // 15: the name's first byte. A name does not go on behind a card's end: there the next card's first token is one too
 // many.
-fn long_names(rt: &impl Print, t: Tally) -> Tally {
+fn long_names(rt: &impl Print, t: &mut Tally) {
     refused(
         rt,
         t,
@@ -41,11 +41,11 @@ fn long_names(rt: &impl Print, t: Tally) -> Tally {
           1 15 3 5|B=(...\n* BRACKET\n  2*ABCDEFG)|\
           1 15 1 1|ABCDEFG=2X|\
           1 18 2 1|B=A+ABCDEF...\nG|",
-    )
+    );
 }
 
 // 16 and 17: the number's first byte, a point too. Of the dots at a card's end three close it.
-fn numbers(rt: &impl Print, t: Tally) -> Tally {
+fn numbers(rt: &impl Print, t: &mut Tally) {
     refused(
         rt,
         t,
@@ -59,11 +59,11 @@ fn numbers(rt: &impl Print, t: Tally) -> Tally {
           1 17 1 5|A=1+1E23|\
           1 17 3 2|A=1+...\n* C\n 1E23|\
           1 17 3 1|A=1+...\n2+...\n1000000000000000|",
-    )
+    );
 }
 
 // 16 comes before 17 in one token; of two tokens the left one is at fault.
-fn either_number(rt: &impl Print, t: Tally) -> Tally {
+fn either_number(rt: &impl Print, t: &mut Tally) {
     refused(
         rt,
         t,
@@ -74,11 +74,11 @@ fn either_number(rt: &impl Print, t: Tally) -> Tally {
           1 17 1 3|A=1E23...\n+2X|\
           1 16 2 1|A=2+...\n2X+1E23|\
           1 14 1 3|A=#+2X|",
-    )
+    );
 }
 
 // 18: the first token at which no statement can go on.
-fn stops(rt: &impl Print, t: Tally) -> Tally {
+fn stops(rt: &impl Print, t: &mut Tally) {
     refused(
         rt,
         t,
@@ -92,11 +92,11 @@ fn stops(rt: &impl Print, t: Tally) -> Tally {
           1 18 1 11|A=INSW(1,2)|\
           1 18 1 13|A=COMPAR(1,2,3)|\
           1 18 1 11|CONST A=1 B=2|",
-    )
+    );
 }
 
 // The same on later cards: at both ends of them, behind comments, and behind a card of dots alone.
-fn later_stops(rt: &impl Print, t: Tally) -> Tally {
+fn later_stops(rt: &impl Print, t: &mut Tally) {
     refused(
         rt,
         t,
@@ -107,11 +107,11 @@ fn later_stops(rt: &impl Print, t: Tally) -> Tally {
           1 18 3 3|A=1...\n...\n+2=3|\
           1 18 3 6|CONST A=1,...\n* C\n   B=C|\
           1 18 2 1|PROCED A=P(...\nTIME)|",
-    )
+    );
 }
 
 // 19: the parenthesis, of a function too. A function's name opens nothing, and what is closed again does not count.
-fn openings(rt: &impl Print, t: Tally) -> Tally {
+fn openings(rt: &impl Print, t: &mut Tally) {
     refused(
         rt,
         t,
@@ -124,14 +124,14 @@ fn openings(rt: &impl Print, t: Tally) -> Tally {
           1 19 3 3|A=((((((((((((((((...\n* DEEP\n  (1)|\
           1 19 2 9|A=((((((((((((((((...\n COMPAR (1,2)|\
           1 19 3 1|A=((((((((((((((((INSW...\n* C\n(1|",
-    )
+    );
 }
 
 // ---- the statement's end
 
 // 18 at an early end: the last byte of the last card, spaces included; column 1 if that card is empty. Comments behind
 // it are no cards.
-fn early_ends(rt: &impl Print, t: Tally) -> Tally {
+fn early_ends(rt: &impl Print, t: &mut Tally) {
     refused(
         rt,
         t,
@@ -146,11 +146,11 @@ fn early_ends(rt: &impl Print, t: Tally) -> Tally {
           1 18 3 5|A=(2...\n* C\n  *3 \n* D\n|\
           1 18 3 1|A=1+...\n* C\n\n* D|\
           1 18 3 2|A=1+...\n...\n  |",
-    )
+    );
 }
 
 // A statement without tokens, of cards with dots or spaces alone, ends early too.
-fn tokenless(rt: &impl Print, t: Tally) -> Tally {
+fn tokenless(rt: &impl Print, t: &mut Tally) {
     refused(
         rt,
         t,
@@ -160,12 +160,12 @@ fn tokenless(rt: &impl Print, t: Tally) -> Tally {
           2 18 3 1|\n...\n\nB=1|\
           1 18 4 4|  ...\n* C\n ...  \n    |\
           1 18 4 1| ... \n...\n...\n\n|",
-    )
+    );
 }
 
 // 11: the last byte of the last card, dots and spaces included. That card has dots, so it is never empty. Bytes are
 // counted, and not letters; bad ones come behind 11.
-fn unfinished(rt: &impl Print, t: Tally) -> Tally {
+fn unfinished(rt: &impl Print, t: &mut Tally) {
     refused(
         rt,
         t,
@@ -180,24 +180,24 @@ fn unfinished(rt: &impl Print, t: Tally) -> Tally {
           1 11 2 4|A=1...\n ...\n* C|\
           1 11 1 4|#...|\
           1 11 1 7|A=\xc3\x84...|",
-    )
+    );
 }
 
 // ---- the statement's first byte
 
 // 12: on the first card, space or not.
-fn many_cards(rt: &impl Print, t: Tally) -> Tally {
+fn many_cards(rt: &impl Print, t: &mut Tally) {
     refused(
         rt,
         t,
         5,
         b"1 12 1 1|  A=1...\n+1...\n+1...\n+1...\n+1|\
           3 12 3 1|* C\n\n A=1...\n* C\n+1...\n+1...\n#...\n+1|",
-    )
+    );
 }
 
 // The model's faults, on statements of two cards that begin with a space.
-fn models(rt: &impl Print, t: Tally) -> Tally {
+fn models(rt: &impl Print, t: &mut Tally) {
     refused(
         rt,
         t,
@@ -210,13 +210,13 @@ fn models(rt: &impl Print, t: Tally) -> Tally {
           2 26 2 1|PROCED A=P(B)\n  A=B+...\n* C\n Q\nENDPRO\nB=1|\
           1 26 1 1| PROCED A=...\n P(B)\nENDPRO\nB=1|\
           1 24 1 1, 3 24 3 1|  A=...\nB\n B=A|",
-    )
+    );
 }
 
 // ---- many faults, lines and bytes
 
 // Each fault has its own place.
-fn several(rt: &impl Print, t: Tally) -> Tally {
+fn several(rt: &impl Print, t: &mut Tally) {
     refused(
         rt,
         t,
@@ -224,7 +224,7 @@ fn several(rt: &impl Print, t: Tally) -> Tally {
         b"2 14 3 1, 6 18 8 1|* C\nA=...\n#\n\nB=1\n  C=(2...\n* D\n=3|\
           1 16 2 2, 6 15 6 3, 7 18 7 4|A=1...\n 2X\nB=1...\n* C\n\nD=ABCDEFG\nE=1+|\
           1 18 2 1, 3 18 3 1|A=1*...\n\n+2|",
-    )
+    );
 }
 
 // A text behind so many blank lines, with blank lines behind it.
@@ -239,52 +239,55 @@ fn amid_blanks(blanks: usize, text: &[u8]) -> [u8; 1088]
 // A text behind so many blank lines is refused with this number and these faults.
 fn behind(
     rt: &impl Print,
-    t: Tally,
+    t: &mut Tally,
     blanks: usize,
     text: &[u8],
     number: usize,
     wanted: &[u8],
-) -> Tally {
+) {
     if 1024 < blanks {
-        return tally::right(rt, t, false);
+        t.right(rt, false);
+        return;
     }
     if 64 < text.len() {
-        return tally::right(rt, t, false);
+        t.right(rt, false);
+        return;
     }
     let whole = amid_blanks(blanks, text);
-    faulty_front(rt, t, &whole, blanks + text.len(), number, wanted)
+    faulty_front(rt, t, &whole, blanks + text.len(), number, wanted);
 }
 
 // Lines from 255 on: both bytes of a line.
-fn far_lines(rt: &impl Print, t0: Tally) -> Tally {
-    let mut t = behind(rt, t0, 254, b"A=1+...\n#", 5, b"255 14 256 1");
-    t = behind(rt, t, 255, b"A=1+...\n* C\n  ", 5, b"256 18 258 2");
-    t = behind(rt, t, 299, b" A=B", 7, b"300 22 300 1");
-    t = behind(rt, t, 509, b" A=1...\n* C\n+2...", 5, b"510 11 512 5");
-    t = behind(rt, t, 511, b"A=1+...\n#", 5, b"512 14 513 1");
-    t = behind(rt, t, 767, b"A=#\nB=#", 5, b"768 14 768 3, 769 14 769 3");
-    t = behind(rt, t, 1021, b" A=1...\n* C\n+2...", 5, b"1022 11 1024 5");
-    t = behind(rt, t, 1022, b"A=1\nA=2", 7, b"1024 21 1024 1");
-    behind(rt, t, 1023, b"A=#", 5, b"1024 14 1024 3")
+fn far_lines(rt: &impl Print, t: &mut Tally) {
+    behind(rt, t, 254, b"A=1+...\n#", 5, b"255 14 256 1");
+    behind(rt, t, 255, b"A=1+...\n* C\n  ", 5, b"256 18 258 2");
+    behind(rt, t, 299, b" A=B", 7, b"300 22 300 1");
+    behind(rt, t, 509, b" A=1...\n* C\n+2...", 5, b"510 11 512 5");
+    behind(rt, t, 511, b"A=1+...\n#", 5, b"512 14 513 1");
+    behind(rt, t, 767, b"A=#\nB=#", 5, b"768 14 768 3, 769 14 769 3");
+    behind(rt, t, 1021, b" A=1...\n* C\n+2...", 5, b"1022 11 1024 5");
+    behind(rt, t, 1022, b"A=1\nA=2", 7, b"1024 21 1024 1");
+    behind(rt, t, 1023, b"A=#", 5, b"1024 14 1024 3");
 }
 
 // A text with spaces behind it, n bytes in all, has this statement fault.
-fn padded(rt: &impl Print, t: Tally, text: &[u8], n: usize, wanted: &[u8]) -> Tally {
+fn padded(rt: &impl Print, t: &mut Tally, text: &[u8], n: usize, wanted: &[u8]) {
     let mut whole = [32u8; TEXT_BYTES];
     if TEXT_BYTES < text.len() {
-        return tally::right(rt, t, false);
+        t.right(rt, false);
+        return;
     }
     bits::put_bytes(&mut whole, 0, text);
-    faulty_front(rt, t, &whole, n, 5, wanted)
+    faulty_front(rt, t, &whole, n, 5, wanted);
 }
 
 // 11 on cards of 255 bytes and more, which comes before 13: both bytes of a column.
-fn far_columns(rt: &impl Print, t0: Tally) -> Tally {
-    let mut t = padded(rt, t0, b"A=1...", 255, b"1 11 1 255");
-    t = padded(rt, t, b"A=1...", 256, b"1 11 1 256");
-    t = padded(rt, t, b"A=1...\n* C\n+2...", 311, b"1 11 3 300");
-    t = padded(rt, t, b"A=1...", 16385, b"1 11 1 16385");
-    padded(rt, t, b"A=1...", 32768, b"1 11 1 32768")
+fn far_columns(rt: &impl Print, t: &mut Tally) {
+    padded(rt, t, b"A=1...", 255, b"1 11 1 255");
+    padded(rt, t, b"A=1...", 256, b"1 11 1 256");
+    padded(rt, t, b"A=1...\n* C\n+2...", 311, b"1 11 3 300");
+    padded(rt, t, b"A=1...", 16385, b"1 11 1 16385");
+    padded(rt, t, b"A=1...", 32768, b"1 11 1 32768");
 }
 
 // Such a card behind 1,023 blank lines.
@@ -295,36 +298,36 @@ fn late() -> [u8; 1029] {
 }
 
 // Its last column in the largest text is 32,768 - 1,023 = 31,745.
-fn far_corner(rt: &impl Print, t: Tally) -> Tally {
-    padded(rt, t, &late(), 32768, b"1024 11 1024 31745")
+fn far_corner(rt: &impl Print, t: &mut Tally) {
+    padded(rt, t, &late(), 32768, b"1024 11 1024 31745");
 }
 
 // An early end on a card of 72 bytes; and 13 on one of 73, which is told at the statement's first byte, space or not.
-fn widest(rt: &impl Print, t0: Tally) -> Tally {
-    let mut t = padded(rt, t0, b" A=1+", 72, b"1 18 1 72");
-    t = padded(rt, t, b" A=1+...\n* C\n", 85, b"1 18 3 72");
-    t = padded(rt, t, b" A=1", 73, b"1 13 1 1");
-    t = padded(rt, t, b"* C\n\n A=#", 78, b"3 13 3 1");
-    padded(rt, t, b" A=1+...\n* C\n2", 86, b"1 13 1 1")
+fn widest(rt: &impl Print, t: &mut Tally) {
+    padded(rt, t, b" A=1+", 72, b"1 18 1 72");
+    padded(rt, t, b" A=1+...\n* C\n", 85, b"1 18 3 72");
+    padded(rt, t, b" A=1", 73, b"1 13 1 1");
+    padded(rt, t, b"* C\n\n A=#", 78, b"3 13 3 1");
+    padded(rt, t, b" A=1+...\n* C\n2", 86, b"1 13 1 1");
 }
 
 // All of these.
-pub fn all(rt: &impl Print, t0: Tally) -> Tally {
-    let mut t = bad_bytes(rt, t0);
-    t = long_names(rt, t);
-    t = numbers(rt, t);
-    t = either_number(rt, t);
-    t = stops(rt, t);
-    t = later_stops(rt, t);
-    t = openings(rt, t);
-    t = early_ends(rt, t);
-    t = tokenless(rt, t);
-    t = unfinished(rt, t);
-    t = many_cards(rt, t);
-    t = models(rt, t);
-    t = several(rt, t);
-    t = far_lines(rt, t);
-    t = far_columns(rt, t);
-    t = far_corner(rt, t);
-    widest(rt, t)
+pub fn all(rt: &impl Print, t: &mut Tally) {
+    bad_bytes(rt, t);
+    long_names(rt, t);
+    numbers(rt, t);
+    either_number(rt, t);
+    stops(rt, t);
+    later_stops(rt, t);
+    openings(rt, t);
+    early_ends(rt, t);
+    tokenless(rt, t);
+    unfinished(rt, t);
+    many_cards(rt, t);
+    models(rt, t);
+    several(rt, t);
+    far_lines(rt, t);
+    far_columns(rt, t);
+    far_corner(rt, t);
+    widest(rt, t);
 }

@@ -9,22 +9,22 @@ use tally::Tally;
 fn put_numbers(program: &mut [u8], numbers: &[u64])
     requires { length numbers.now ≤ 255 }
 {
-    for i in 0..numbers.len() {
+    for (i, &bits) in numbers.iter().enumerate() {
         let line = i as u64 + 1;
-        record(&mut *program, 2 * i, 3, 0, line, numbers[i]);
-        record(&mut *program, 2 * i + 1, 13, line, line, 0);
+        record(program, 2 * i, 3, 0, line, bits);
+        record(program, 2 * i + 1, 13, line, line, 0);
     }
 }
 
 // The numbers that a text assigns, 23 lines with one each, have these bits.
-fn assigned(rt: &impl Print, t: Tally, text: &[u8], numbers: &[u64; 23]) -> Tally {
+fn assigned(rt: &impl Print, t: &mut Tally, text: &[u8], numbers: &[u64; 23]) {
     let mut w = blank();
     put_numbers(&mut w, numbers);
-    translated(rt, t, text, 46, &w)
+    translated(rt, t, text, 46, &w);
 }
 
 // 10 to the k, k from 0 to 22: each is exact.
-fn powers(rt: &impl Print, t: Tally) -> Tally {
+fn powers(rt: &impl Print, t: &mut Tally) {
     assigned(
         rt,
         t,
@@ -55,11 +55,11 @@ fn powers(rt: &impl Print, t: Tally) -> Tally {
             0x444b_1ae4_d6e2_ef50,
             0x4480_f0cf_064d_d592,
         ],
-    )
+    );
 }
 
 // 1 over 10 to the k.
-fn quotients(rt: &impl Print, t: Tally) -> Tally {
+fn quotients(rt: &impl Print, t: &mut Tally) {
     assigned(
         rt,
         t,
@@ -91,10 +91,11 @@ fn quotients(rt: &impl Print, t: Tally) -> Tally {
             0x3b92_e3b4_0a0e_9b4f,
             0x3b5e_3920_1017_5ee6,
         ],
-    )
+    );
 }
 
 // All of these.
-pub fn all(rt: &impl Print, t: Tally) -> Tally {
-    quotients(rt, powers(rt, t))
+pub fn all(rt: &impl Print, t: &mut Tally) {
+    powers(rt, t);
+    quotients(rt, t);
 }

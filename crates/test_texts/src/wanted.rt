@@ -4,30 +4,16 @@ ghost use Rattle.std.specs.Prelude.{◌<◌, ◌≤◌, length};
 use bits::reads::wide;
 use limits::{FAULT_ROOM, PROGRAM_ROOM};
 use tally::Tally;
-use translator::Verdict;
+use translator::Refusal;
 
 // Lent places past the room that is asked for.
 const PAST: usize = 16;
 
-// A verdict's number and count.
-#[derive(Drop)]
-struct Said {
-    number: usize,
-    count: usize,
-}
-
 // The number and the count of a verdict.
-fn told(v: Verdict) -> Said {
-    match v {
-        Verdict::Refused(number) => Said {
-            number: number as usize,
-            count: 0,
-        },
-        Verdict::Faulty(number, count) => Said {
-            number: number as usize,
-            count,
-        },
-        Verdict::Translated(count) => Said { number: 0, count },
+fn told(verdict: Result<usize, Refusal>) -> (usize, usize) {
+    match verdict {
+        Ok(count) => (0, count),
+        Err(refusal) => (refusal.number() as usize, refusal.count()),
     }
 }
 
@@ -55,7 +41,7 @@ pub fn same(a: &[u8], b: &[u8]) -> bool {
 // The text has this number and count with these buffers lent, and they then hold what is wanted.
 pub fn lent(
     rt: &impl Print,
-    t0: Tally,
+    t: &mut Tally,
     text: &[u8],
     faults: &mut [u8],
     program: &mut [u8],
@@ -63,12 +49,12 @@ pub fn lent(
     count: usize,
     list: &[u8],
     records: &[u8],
-) -> Tally {
-    let r = told(translator::translate(text, &mut *faults, &mut *program));
-    let mut t = tally::number(rt, t0, r.number, number);
-    t = tally::number(rt, t, r.count, count);
-    t = tally::right(rt, t, same(faults, list));
-    tally::right(rt, t, same(program, records))
+) {
+    let said = told(translator::translate(text, &mut *faults, &mut *program));
+    t.number(rt, said.0, number);
+    t.number(rt, said.1, count);
+    t.right(rt, same(faults, list));
+    t.right(rt, same(program, records));
 }
 
 // ---- faults, as a listing has them: line, code, line of the place and column of each, spaces between; and a comma
@@ -116,7 +102,7 @@ pub fn put_faults(wanted: &[u8], list: &mut [u8]) -> usize {
 }
 
 // The text is refused with this number and these faults, and nothing else is written.
-pub fn faulty(rt: &impl Print, t: Tally, text: &[u8], number: usize, wanted: &[u8]) -> Tally {
+pub fn faulty(rt: &impl Print, t: &mut Tally, text: &[u8], number: usize, wanted: &[u8]) {
     let mut faults = [170u8; FAULT_ROOM + PAST];
     let mut program = [170u8; 4096];
     let mut list = [170u8; FAULT_ROOM + PAST];
@@ -131,22 +117,23 @@ pub fn faulty(rt: &impl Print, t: Tally, text: &[u8], number: usize, wanted: &[u
         count,
         &list,
         &blank(),
-    )
+    );
 }
 
 // The first n bytes of a text are refused so; a text that is shorter counts as one that differs.
 pub fn faulty_front(
     rt: &impl Print,
-    t: Tally,
+    t: &mut Tally,
     text: &[u8],
     n: usize,
     number: usize,
     wanted: &[u8],
-) -> Tally {
+) {
     if text.len() < n {
-        return tally::right(rt, t, false);
+        t.right(rt, false);
+        return;
     }
-    faulty(rt, t, &text[..n], number, wanted)
+    faulty(rt, t, &text[..n], number, wanted);
 }
 
 // The place of the next bar from a place on, or the end.
@@ -164,35 +151,29 @@ fn next_bar(table: &[u8], at: usize) -> usize
 
 // Each text of a table is refused with this number. A row has the faults, a bar, the text and a bar; what is no row
 // counts as a text that differs.
-pub fn refused(rt: &impl Print, t0: Tally, number: usize, table: &[u8]) -> Tally {
-    let mut t = t0;
+pub fn refused(rt: &impl Print, t: &mut Tally, number: usize, table: &[u8]) {
     let mut at: usize = 0;
     while at < table.len() {
         let bar = next_bar(table, at);
         if table.len() <= bar {
-            return tally::right(rt, t, false);
+            t.right(rt, false);
+            return;
         }
         let text = bar + 1;
         let end = next_bar(table, text);
         if table.len() <= end {
-            return tally::right(rt, t, false);
+            t.right(rt, false);
+            return;
         }
-        t = faulty(rt, t, &table[text..end], number, &table[at..bar]);
+        faulty(rt, t, &table[text..end], number, &table[at..bar]);
         at = end + 1;
     }
-    t
 }
 
 // ---- programs, and nothing
 
 // The text is translated into so many records, these, and nothing else is written.
-pub fn translated(
-    rt: &impl Print,
-    t: Tally,
-    text: &[u8],
-    count: usize,
-    wanted: &[u8; 4096],
-) -> Tally {
+pub fn translated(rt: &impl Print, t: &mut Tally, text: &[u8], count: usize, wanted: &[u8; 4096]) {
     let mut faults = [170u8; FAULT_ROOM];
     let mut program = [170u8; 4096];
     let kept = [170u8; FAULT_ROOM];
@@ -206,17 +187,17 @@ pub fn translated(
         count,
         &kept,
         wanted,
-    )
+    );
 }
 
 // The text is translated into so many records, those of the whole program room, and nothing else is written.
 pub fn exact(
     rt: &impl Print,
-    t: Tally,
+    t: &mut Tally,
     text: &[u8],
     count: usize,
     wanted: &[u8; PROGRAM_ROOM],
-) -> Tally {
+) {
     let mut faults = [170u8; FAULT_ROOM];
     let mut program = [170u8; PROGRAM_ROOM];
     let kept = [170u8; FAULT_ROOM];
@@ -230,11 +211,11 @@ pub fn exact(
         count,
         &kept,
         wanted,
-    )
+    );
 }
 
 // The text is refused with this number or has no records, and nothing is written.
-pub fn silent(rt: &impl Print, t: Tally, text: &[u8], number: usize) -> Tally {
+pub fn silent(rt: &impl Print, t: &mut Tally, text: &[u8], number: usize) {
     let mut faults = [170u8; FAULT_ROOM];
     let mut program = [170u8; PROGRAM_ROOM];
     let list = [170u8; FAULT_ROOM];
@@ -249,5 +230,5 @@ pub fn silent(rt: &impl Print, t: Tally, text: &[u8], number: usize) -> Tally {
         0,
         &list,
         &kept,
-    )
+    );
 }

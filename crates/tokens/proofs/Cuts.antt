@@ -8,25 +8,30 @@ use native.Mathlib.Omega.{arith}
 use borrow.Author.Tests.{lt-ltb, le-ltb, le-leb, lt-leb, leb-true, eqb-true, ne_eqb}
 use lib.Dec.{eqb, leb}
 use lib.ListN.{length, get_or}
-use Rattle.laws.proofs.Tests.{lt_or_ge, and_true, or_true}
+use Rattle.laws.proofs.Tests.{and_true, or_true}
 use Rattle.limits.specs.Limits.{name_bytes}
+use Rattle.faults.specs.declared.Fault.TheVariants.{StrayByte, LongName}
 use Rattle.tokens.specs.declared.Cut.{Cut}
-use Rattle.tokens.specs.declared.Token.TheVariants.{Mark, End}
+use Rattle.tokens.specs.declared.Token.TheVariants.{Name, Mark, End}
 use Rattle.tokens.specs.Bytes.{is_letter, is_digit, is_point, is_mark, word_at, spaces_at}
-use Rattle.tokens.specs.Names.{name_count, name_token, name_next}
+use Rattle.tokens.specs.Names.{name_count}
 use Rattle.tokens.specs.Token.{cut_of, bad_at, number_cut, name_at, token_at, cut_at}
 
 -- ---- the name, with the count of its letters and digits
-pub name_read : (s : List ℕ) (at n : ℕ) → n ≡ name_count s at
-    → cut_of (name_token at n) at (name_next at (at + n) n) ≡ name_at s at
-unfolding name_at
-name_read s at n read = ⊎_elim long fine (lt_or_ge name_bytes (length (word_at s at)))
-  where
-    long : name_bytes < length (word_at s at) → cut_of (name_token at n) at (name_next at (at + n) n) ≡ name_at s at
-    long h = rw (lt-ltb name_bytes n (omega arith), lt-ltb name_bytes (length (word_at s at)) h)
+module _ (s : List ℕ) (at n : ℕ) (read : n ≡ name_count s at) where
+  -- too many
+  pub name_long : name_bytes < n → bad_at LongName at ≡ name_at s at
+  unfolding name_at
+  name_long h =
+      let l : name_bytes < length (word_at s at) = omega arith in rw (lt-ltb name_bytes (length (word_at s at)) l)
 
-    fine : length (word_at s at) ≤ name_bytes → cut_of (name_token at n) at (name_next at (at + n) n) ≡ name_at s at
-    fine h = let e : n ≡ length (word_at s at) = omega arith in rw (e, le-ltb name_bytes (length (word_at s at)) h)
+  -- a name
+  pub name_fine : n ≤ name_bytes → cut_of (Name at n) at (at + n) ≡ name_at s at
+  unfolding name_at
+  name_fine h =
+      let e : n ≡ length (word_at s at) = omega arith in
+      let l : length (word_at s at) ≤ name_bytes = omega arith in
+      rw (e, le-ltb name_bytes (length (word_at s at)) l)
 
 -- ---- the token, by its first byte
 
@@ -59,25 +64,24 @@ module _ (s : List ℕ) (from at : ℕ) (read : at ≡ from + length (spaces_at 
   unfolding token_at
   at_end h = rw (← begins, le-leb (length s) at h)
 
-  module _ (more : at < length s) where
+  -- a byte is there
+  module _ (b : ℕ) (within : at < length s) (here : b ≡ get_or s at 0) where
     -- a letter begins a name
-    pub at_letter : is_letter (get_or s at 0) ≡ true → (c : Cut) → c ≡ name_at s at → c ≡ cut_at s from
+    pub at_letter : is_letter b ≡ true → (c : Cut) → c ≡ name_at s at → c ≡ cut_at s from
     unfolding token_at
-    at_letter l c e = rw (← begins, lt-leb (length s) at more, l) e
+    at_letter l c e = rw (← begins, lt-leb (length s) at within, ← here, l) e
 
-    module _ (no_letter : is_letter (get_or s at 0) ≡ false) where
-      pub at_figure : (is_digit (get_or s at 0) || is_point (get_or s at 0)) ≡ true → (c : Cut) → c ≡ number_cut s at
-          → c ≡ cut_at s from
+    module _ (no_letter : is_letter b ≡ false) where
+      pub at_figure : (is_digit b || is_point b) ≡ true → (c : Cut) → c ≡ number_cut s at → c ≡ cut_at s from
       unfolding token_at
-      at_figure f c e = rw (← begins, lt-leb (length s) at more, no_letter, f) e
+      at_figure f c e = rw (← begins, lt-leb (length s) at within, ← here, no_letter, f) e
 
       -- a mark is no figure
-      pub at_mark : is_mark (get_or s at 0) ≡ true → cut_of (Mark (get_or s at 0)) at (at + 1) ≡ cut_at s from
+      pub at_mark : is_mark b ≡ true → cut_of (Mark b) at (at + 1) ≡ cut_at s from
       unfolding token_at
-      at_mark m = rw (← begins, lt-leb (length s) at more, no_letter, mark_no_figure (get_or s at 0) m, m)
+      at_mark m = rw (← begins, lt-leb (length s) at within, ← here, no_letter, mark_no_figure b m, m)
 
-      pub at_other : is_mark (get_or s at 0) ≡ false → (is_digit (get_or s at 0) || is_point (get_or s at 0)) ≡ false
-          → (c : Cut) → c ≡ bad_at 14 at
+      pub at_other : is_mark b ≡ false → (is_digit b || is_point b) ≡ false → (c : Cut) → c ≡ bad_at StrayByte at
           → c ≡ cut_at s from
       unfolding token_at
-      at_other m f c e = rw (← begins, lt-leb (length s) at more, no_letter, f, m) e
+      at_other m f c e = rw (← begins, lt-leb (length s) at within, ← here, no_letter, f, m) e

@@ -1,3 +1,4 @@
+mod Prefixes
 mod Decimals
 mod Numbers
 mod Cuts

@@ -15,6 +15,7 @@ use Rattle.laws.specs.Runs.{front_run, EndOrSpace}
 use Rattle.laws.proofs.Tests.{bool_cases, not_both}
 use Rattle.laws.proofs.Runs.{run_end, run_short, run_take, run_apart, head_apart, inside}
 use Rattle.limits.specs.Limits.{name_bytes, exponent_digits}
+use Rattle.faults.specs.declared.Fault.TheVariants.{StrayByte, LongName, Malformed, OutOfRange}
 use Rattle.tokens.specs.declared.Token.TheVariants.{Name, Mark, Number, Bad}
 use Rattle.tokens.specs.declared.Cut.{Cut}
 use Rattle.tokens.specs.Bytes.{is_space, is_letter, is_digit, is_point, is_word, is_mark, digits_at, word_at}
@@ -34,7 +35,8 @@ front_head (b ∷ x) r h = refl
 abbrev by_first : List ℕ → ℕ → ℕ → Cut
 by_first s i b =
     cond (is_letter b) (name_at s i)
-    (cond (is_digit b || is_point b) (number_cut s i) (cond (is_mark b) (cut_of (Mark b) i (i + 1)) (bad_at 14 i)))
+    (cond (is_digit b || is_point b) (number_cut s i)
+    (cond (is_mark b) (cut_of (Mark b) i (i + 1)) (bad_at StrayByte i)))
 
 -- where that stands in the text and is no space
 seen_first : (s : List ℕ) (i : ℕ) → i < length s → is_space (get_or s i 0) ≡ false
@@ -221,8 +223,8 @@ module _ (s t : List ℕ) (i j : ℕ) (u r : List ℕ) (here : drop i s ≡ u ++
   unfolding ranged_number
   ranged_same m up down = go (in_range m up down)
     where
-      go : (b : Bool) → seen_of s (cond b (Number (scaled m up down)) (Bad 17))
-          ≡ seen_of t (cond b (Number (scaled m up down)) (Bad 17))
+      go : (b : Bool) → seen_of s (cond b (Number (scaled m up down)) (Bad OutOfRange))
+          ≡ seen_of t (cond b (Number (scaled m up down)) (Bad OutOfRange))
       go true = refl
       go false = refl
 
@@ -245,8 +247,8 @@ module _ (s t : List ℕ) (i j : ℕ) (u r : List ℕ) (here : drop i s ≡ u ++
       rw (q.0, q.1, read_same is_tail refl refl q.2) (go (is_tail (get_or t y 0)) (value_same m n d c f))
     where
       go : (z : Bool) → seen_of s (number_with m c f) ≡ seen_of t (number_with n c f)
-          → seen_of s (cond z (bad_at 16 i) (cut_of (number_with m c f) i x)).token
-          ≡ seen_of t (cond z (bad_at 16 j) (cut_of (number_with n c f) j y)).token
+          → seen_of s (cond z (bad_at Malformed i) (cut_of (number_with m c f) i x)).token
+          ≡ seen_of t (cond z (bad_at Malformed j) (cut_of (number_with n c f) j y)).token
       go true e = refl
       go false e = e
 
@@ -260,7 +262,7 @@ module _ (s t : List ℕ) (i j : ℕ) (u r : List ℕ) (here : drop i s ≡ u ++
       (exponent_from t (digits_from t j).end) (exponent_same d.end))
     where
       go : (y z : Bool) → y ≡ z → (v w : Cut) → seen_of s v.token ≡ seen_of t w.token
-          → seen_of s (cond y (bad_at 16 i) v).token ≡ seen_of t (cond z (bad_at 16 j) w).token
+          → seen_of s (cond y (bad_at Malformed i) v).token ≡ seen_of t (cond z (bad_at Malformed j) w).token
       go true true q v w e = refl
       go true false q v w e = absurd (not_both refl q)
       go false true q v w e = absurd (not_both refl (sym q))
@@ -276,8 +278,9 @@ module _ (s t : List ℕ) (i j : ℕ) (u r : List ℕ) (here : drop i s ≡ u ++
     where
       go : (z : Bool) → take (length (word_at t j)) (drop i s) ≡ take (length (word_at t j)) (drop j t)
           → seen_of s
-          (cond z (bad_at 15 i) (cut_of (Name i (length (word_at t j))) i (i + length (word_at t j)))).token
-          ≡ seen_of t (cond z (bad_at 15 j) (cut_of (Name j (length (word_at t j))) j (j + length (word_at t j)))).token
+          (cond z (bad_at LongName i) (cut_of (Name i (length (word_at t j))) i (i + length (word_at t j)))).token
+          ≡ seen_of t
+          (cond z (bad_at LongName j) (cut_of (Name j (length (word_at t j))) j (j + length (word_at t j)))).token
       go true e = refl
       go false e = ap (λ (w : List ℕ). token (symbol_named w)) e
 
@@ -301,9 +304,11 @@ module _ (s t : List ℕ) (i j : ℕ) (u r : List ℕ) (here : drop i s ≡ u ++
       where
         go : (l f m : Bool)
             → seen_of s
-            (cond l (name_at s i) (cond f (number_cut s i) (cond m (cut_of (Mark b) i (i + 1)) (bad_at 14 i)))).token
+            (cond l (name_at s i)
+            (cond f (number_cut s i) (cond m (cut_of (Mark b) i (i + 1)) (bad_at StrayByte i)))).token
             ≡ seen_of t
-            (cond l (name_at t j) (cond f (number_cut t j) (cond m (cut_of (Mark b) j (j + 1)) (bad_at 14 j)))).token
+            (cond l (name_at t j)
+            (cond f (number_cut t j) (cond m (cut_of (Mark b) j (j + 1)) (bad_at StrayByte j)))).token
         go true f m = name_same
         go false true m = number_same
         go false false true = refl

@@ -3,7 +3,7 @@ use Prim.Native.Nat.{ℕ, zero-le, ◌+◌, ◌-◌, ◌*◌, ◌^◌, ◌<◌, 
 use mathlib.Core.Path.{◌≡◌, refl, sym, ap, subst, ◌∙◌}
 use mathlib.Core.Bool.{true, false, ◌&&◌, ◌||◌, cond}
 use mathlib.Core.List.{List, [], ◌∷◌}
-use mathlib.Core.Logic.{⊎_elim}
+use mathlib.Core.Logic.{◌⊎◌, ⊎_elim}
 use native.Mathlib.Nat.{pow-suc, pow-le-pow_right, lt_of_lt_of_le, mul-le-mul_right, mul_assoc, mul_comm, one-mul}
 use native.Mathlib.Nat.{mul-one, zero-add}
 use native.Mathlib.Omega.{arith}
@@ -12,17 +12,18 @@ use lib.Dec.{eqb, leb, lit<}
 use lib.IntN.{pos}
 use lib.Ieee.{Float, binary64, mul, div, of_int}
 use lib.ListN.{length, get_or, drop, length-drop}
+use Rattle.std.specs.Prelude.{Option, Some, None}
 use Rattle.laws.proofs.Tests.{cond_ind, and_true, lt_or_ge}
 use Rattle.laws.proofs.Runs.{run_short, run_run, all_pass}
 use Rattle.laws.specs.Runs.{front_run}
 use Rattle.limits.specs.Limits.{most_digits, most_tens, exponent_digits}
+use Rattle.faults.specs.declared.Fault.TheVariants.{Malformed, OutOfRange}
 use Rattle.tokens.specs.declared.number.Decimal.{Decimal}
 use Rattle.tokens.specs.declared.number.Mantissa.{Mantissa}
 use Rattle.tokens.specs.declared.Cut.{Cut}
 use Rattle.tokens.specs.declared.Token.{Token}
 use Rattle.tokens.specs.declared.Token.TheVariants.{Number, Bad}
 use Rattle.tokens.specs.declared.number.Power.{Power}
-use Rattle.tokens.specs.declared.number.Power.TheVariants.{Of, Wrong}
 use Rattle.tokens.specs.Bytes.{digits_at, is_digit, is_word, is_point}
 use Rattle.tokens.specs.Number.{decimal, Digits, plain_digits, point_digits, digits_from}
 use Rattle.tokens.specs.Number.{Exponent, exponent, wrong, sign_end, exponent_of, exponent_from, ten_to, scaled}
@@ -38,16 +39,16 @@ less p n = omega arith
 -- ---- the value
 
 -- out of range is 17
-pub out_of_range : (m up down : ℕ) → in_range m up down ≡ false → Bad 17 ≡ ranged_number m up down
+pub out_of_range : (m up down : ℕ) → in_range m up down ≡ false → Bad OutOfRange ≡ ranged_number m up down
 unfolding ranged_number
 out_of_range m up down h = rw h
 
 -- m is over the most
-pub too_large : (m up down : ℕ) → most_digits < m → in_range m up down ≡ false
+too_large : (m up down : ℕ) → most_digits < m → in_range m up down ≡ false
 too_large m up down h = rw (lt-leb m most_digits h)
 
 -- k is too far from 0
-pub too_far : (m up down : ℕ) → m ≤ most_digits → most_tens < (up - down) + (down - up) → in_range m up down ≡ false
+too_far : (m up down : ℕ) → m ≤ most_digits → most_tens < (up - down) + (down - up) → in_range m up down ≡ false
 too_far m up down h k = ⊎_elim high low (lt_or_ge (down + most_tens) up)
   where
     high : down + most_tens < up → in_range m up down ≡ false
@@ -57,6 +58,12 @@ too_far m up down h k = ⊎_elim high low (lt_or_ge (down + most_tens) up)
     low l =
         let d : up + most_tens < down = omega arith in
         rw (le-leb m most_digits h, le-leb up (down + most_tens) l, lt-leb down (up + most_tens) d)
+
+-- one of them is
+pub far : (m up down k : ℕ) → k ≡ (up - down) + (down - up)
+    → ◌⊎◌ (most_digits < m) ((m ≤ most_digits) × (most_tens < k))
+    → in_range m up down ≡ false
+far m up down k e h = ⊎_elim (too_large m up down) (λ d. too_far m up down d.0 (omega (arith, d.1))) h
 
 -- neither is
 in_range_holds : (m up down : ℕ) → m ≤ most_digits → up ≤ down + most_tens → down ≤ up + most_tens
@@ -171,27 +178,35 @@ exponent_small s i h =
     (rw (one-mul (10 ^ length (digits_at s i))) at (decimal_small 0 (digits_at s i) (run_run is_digit (drop i s))))
     (pow-le-pow_right (lit< tt) h)
 
--- ---- the exponent: its letter stands at `at`, its digits from `from`
+-- ---- the exponent
+
+-- as code holds it
+abbrev pub power : ℕ → ℕ → ℕ → ℕ → Power
+power u d e b = record { up = u; down = d; end = e; behind = b }
+
+-- its letter stands at `at`, its digits from `from`
 module _ (s : List ℕ) (at from : ℕ) (d : Decimal) (letter : get_or s at 0 ≡ 69) (sign : from ≡ sign_end s (at + 1))
     (read : d ≡ decimal_at s from 0) where
   -- how many digits the exponent has
   count : d.end - from ≡ length (digits_at s (sign_end s (at + 1)))
   count = rw (read, ← sign) (less from (length (digits_at s from)))
 
-  -- none
-  pub no_digit : d.end - from ≡ 0 → Wrong ≡ power_of s (exponent_from s at)
+  -- none, or too many
+  pub no_exponent : ◌⊎◌ (d.end - from ≡ 0) ((d.end - from ≡ 0 → ⊥) × (exponent_digits < d.end - from))
+      → None ≡ power_of s (exponent_from s at)
   unfolding exponent_from
-  no_digit h =
-      let l : length (digits_at s (sign_end s (at + 1))) < 1 = omega (arith, count) in
-      rw (eq-eqb _ 69 letter, lt-leb 1 _ l)
+  no_exponent h = ⊎_elim no_digit too_many h
+    where
+      no_digit : d.end - from ≡ 0 → None ≡ power_of s (exponent_from s at)
+      no_digit z =
+          let l : length (digits_at s (sign_end s (at + 1))) < 1 = omega (arith, count) in
+          rw (eq-eqb _ 69 letter, lt-leb 1 _ l)
 
-  -- too many
-  pub too_many : exponent_digits < d.end - from → Wrong ≡ power_of s (exponent_from s at)
-  unfolding exponent_from
-  too_many h =
-      let n = length (digits_at s (sign_end s (at + 1))) in
-      let l : exponent_digits < n = omega (arith, count) in
-      rw (eq-eqb _ 69 letter, le-leb 1 n (omega arith), lt-leb n exponent_digits l)
+      too_many : (d.end - from ≡ 0 → ⊥) × (exponent_digits < d.end - from) → None ≡ power_of s (exponent_from s at)
+      too_many z =
+          let n = length (digits_at s (sign_end s (at + 1))) in
+          let l : exponent_digits < n = omega (arith, count, z.1) in
+          rw (eq-eqb _ 69 letter, le-leb 1 n (omega arith), lt-leb n exponent_digits l)
 
   -- one or two digits, by the byte behind the letter
   few_digits : (d.end - from ≡ 0 → ⊥) → d.end - from ≤ exponent_digits
@@ -212,25 +227,26 @@ module _ (s : List ℕ) (at from : ℕ) (d : Decimal) (letter : get_or s at 0 �
 
   -- behind a minus
   pub digits_minus : (d.end - from ≡ 0 → ⊥) → d.end - from ≤ exponent_digits → get_or s (at + 1) 0 ≡ 45
-      → Of 0 d.value d.end d.behind ≡ power_of s (exponent_from s at)
+      → Some (power 0 d.value d.end d.behind) ≡ power_of s (exponent_from s at)
   digits_minus z h e = rw (← (few_digits z h), eq-eqb _ 45 e, behinds s from 0 d read)
 
   -- behind a plus or no sign
   pub digits_plus : (d.end - from ≡ 0 → ⊥) → d.end - from ≤ exponent_digits → (get_or s (at + 1) 0 ≡ 45 → ⊥)
-      → Of d.value 0 d.end d.behind ≡ power_of s (exponent_from s at)
+      → Some (power d.value 0 d.end d.behind) ≡ power_of s (exponent_from s at)
   digits_plus z h e = rw (← (few_digits z h), ne_eqb _ 45 e, behinds s from 0 d read)
 
 -- no letter, no exponent
 pub no_letter : (s : List ℕ) (at b : ℕ) → b ≡ get_or s at 0 → (b ≡ 69 → ⊥)
-    → Of 0 0 at b ≡ power_of s (exponent_from s at)
+    → Some (power 0 0 at b) ≡ power_of s (exponent_from s at)
 unfolding exponent_from
 no_letter s at b e h = rw (ne_eqb _ 69 (λ f. h (e ∙ f)), e)
 
 -- ---- the number, by the exponent as it is held
-abbrev pub end_of : List ℕ → ℕ → Digits → Power → Cut
-end_of s at m (Of up down stop b) =
-    cond (is_word b || is_point b) (bad_at 16 at) (cut_of (ranged_number m.amount up (down + m.after)) at stop)
-end_of s at m Wrong = bad_at 16 at
+abbrev pub end_of : List ℕ → ℕ → Digits → Option Power → Cut
+end_of s at m (Some p) =
+    cond (is_word p.behind || is_point p.behind) (bad_at Malformed at)
+    (cut_of (ranged_number m.amount p.up (p.down + m.after)) at p.end)
+end_of s at m None = bad_at Malformed at
 
 -- it is the number that the definition gives
 end_held : (s : List ℕ) (at : ℕ) (m : Digits) (e : Exponent) → end_of s at m (power_of s e) ≡ number_end s at m e
@@ -241,31 +257,28 @@ end_held s at m wrong = refl
 -- m is its digits as they are held
 module _ (s : List ℕ) (at : ℕ) (m : Mantissa) (read : m ≡ capped s (digits_from s at)) where
   -- a number without digits is bad
-  pub empty : m.count ≡ 0 → bad_at 16 at ≡ number_cut s at
+  pub empty : m.count ≡ 0 → bad_at Malformed at ≡ number_cut s at
   unfolding number_cut
   empty h = rw (eq-eqb _ 0 (rw read at h))
 
   -- from what stands behind the digits to the number
-  pub through : (m.count ≡ 0 → ⊥) → (p : Power) → p ≡ power_of s (exponent_from s m.end)
+  pub through : (m.count ≡ 0 → ⊥) → (p : Option Power) → p ≡ power_of s (exponent_from s m.end)
       → end_of s at (digits_from s at) p ≡ number_cut s at
   unfolding number_cut
   through z p q =
       rw (ne_eqb _ 0 (rw read at z), q, read)
       (end_held s at (digits_from s at) (exponent_from s (digits_from s at).end))
 
-  -- the byte behind the digits
-  pub behind_digits : m.behind ≡ get_or s m.end 0
-  behind_digits = rw read refl
-
-  module _ (up down stop b : ℕ) where
+  module _ (p : Power) where
     -- a letter, digit or point behind it makes it bad
-    pub tail_after : (is_word b || is_point b) ≡ true
-        → bad_at 16 at ≡ end_of s at (digits_from s at) (Of up down stop b)
+    pub tail_after : (is_word p.behind || is_point p.behind) ≡ true
+        → bad_at Malformed at ≡ end_of s at (digits_from s at) (Some p)
     tail_after h = rw h
 
     -- otherwise its value decides
-    pub no_tail : (is_word b || is_point b) ≡ false → (t : Token) → t ≡ ranged_number m.value up (down + m.after)
-        → cut_of t at stop ≡ end_of s at (digits_from s at) (Of up down stop b)
+    pub no_tail : (is_word p.behind || is_point p.behind) ≡ false → (t : Token)
+        → t ≡ ranged_number m.value p.up (p.down + m.after)
+        → cut_of t at p.end ≡ end_of s at (digits_from s at) (Some p)
     no_tail h t q = rw (h, q, read, cap_unseen)
 
 -- ---- the counts are small
@@ -304,9 +317,9 @@ exponent_few s at =
     (λ _. lit< tt)
 
 -- and so it is where it is held
-abbrev SmallDown : Power → Type 0
-SmallDown (Of up down stop b) = down < 10 ^ exponent_digits
-SmallDown Wrong = Unit {0}
+abbrev SmallDown : Option Power → Type 0
+SmallDown (Some p) = p.down < 10 ^ exponent_digits
+SmallDown None = Unit {0}
 
 -- for it is the same value, or 0
 small_held : (s : List ℕ) (e : Exponent) → Small e → SmallDown (power_of s e)
@@ -315,6 +328,6 @@ small_held s (exponent false e stop) h = lit< tt
 small_held s wrong h = tt
 
 -- so the sum with the count behind the point fits
-pub down_small : (s : List ℕ) (at up down stop b : ℕ) → Of up down stop b ≡ power_of s (exponent_from s at)
-    → down < 10 ^ exponent_digits
-down_small s at up down stop b q = subst SmallDown (sym q) (small_held s (exponent_from s at) (exponent_few s at))
+pub down_small : (s : List ℕ) (at : ℕ) (p : Power) → Some p ≡ power_of s (exponent_from s at)
+    → p.down < 10 ^ exponent_digits
+down_small s at p q = subst SmallDown (sym q) (small_held s (exponent_from s at) (exponent_few s at))

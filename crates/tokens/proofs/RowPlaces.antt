@@ -14,6 +14,7 @@ use Rattle.laws.proofs.Tests.{bool_cases, lt_or_ge}
 use Rattle.laws.specs.Runs.{front_run}
 use Rattle.laws.proofs.Runs.{run_more, run_behind}
 use Rattle.limits.specs.Limits.{name_bytes}
+use Rattle.faults.specs.declared.Fault.TheVariants.{StrayByte, LongName, Malformed}
 use Rattle.tokens.specs.declared.Token.{Token}
 use Rattle.tokens.specs.declared.Token.TheVariants.{Name, Mark, Number, End, Bad}
 use Rattle.tokens.specs.declared.Cut.{Cut}
@@ -35,12 +36,12 @@ name_at_holds : (s : List ℕ) (at : ℕ) → (name_at s at).at ≡ at
 unfolding name_at
 name_at_holds s at =
     let n = length (word_at s at) in
-    either_at (ltb name_bytes n) (bad_at 15 at) (cut_of (Name at n) at (at + n)) refl refl
+    either_at (ltb name_bytes n) (bad_at LongName at) (cut_of (Name at n) at (at + n)) refl refl
 
 end_at : (s : List ℕ) (at : ℕ) (m : Digits) (x : Exponent) → (number_end s at m x).at ≡ at
 end_at s at m wrong = refl
 end_at s at m (exponent b e stop) =
-    either_at (is_word (get_or s stop 0) || is_point (get_or s stop 0)) (bad_at 16 at)
+    either_at (is_word (get_or s stop 0) || is_point (get_or s stop 0)) (bad_at Malformed at)
     (cut_of (number_with m b e) at stop) refl refl
 
 number_at : (s : List ℕ) (at : ℕ) → (number_cut s at).at ≡ at
@@ -48,19 +49,19 @@ unfolding number_cut
 number_at s at =
     let m = digits_from s at in
     let x = exponent_from s m.end in
-    either_at (eqb m.count 0) (bad_at 16 at) (number_end s at m x) refl (end_at s at m x)
+    either_at (eqb m.count 0) (bad_at Malformed at) (number_end s at m x) refl (end_at s at m x)
 
 token_at_holds : (s : List ℕ) (at : ℕ) → (token_at s at).at ≡ at
 unfolding token_at
 token_at_holds s at =
     let b = get_or s at 0 in
-    let marked = cond (is_mark b) (cut_of (Mark b) at (at + 1)) (bad_at 14 at) in
+    let marked = cond (is_mark b) (cut_of (Mark b) at (at + 1)) (bad_at StrayByte at) in
     let figure = cond (is_digit b || is_point b) (number_cut s at) marked in
     let named = cond (is_letter b) (name_at s at) figure in
     either_at (leb (length s) at) (cut_of End at at) named refl
     (either_at (is_letter b) (name_at s at) figure (name_at_holds s at)
     (either_at (is_digit b || is_point b) (number_cut s at) marked (number_at s at)
-    (either_at (is_mark b) (cut_of (Mark b) at (at + 1)) (bad_at 14 at) refl refl)))
+    (either_at (is_mark b) (cut_of (Mark b) at (at + 1)) (bad_at StrayByte at) refl refl)))
 
 module _ (s : List ℕ) (from : ℕ) where
   -- behind the spaces
@@ -150,7 +151,7 @@ ahead_there s from (Number v) at next r h w x f = (
   there_earlier s (suc at) next r.tokens r.close (omega (arith, x.0.onward)) (f x.0),
 )
 ahead_there s from End at next r h w x f = tt
-ahead_there s from (Bad code) at next r h w x f = (h, w (λ e. let z : ◌≡◌ {A = ℕ} 0 1 = cc in omega arith))
+ahead_there s from (Bad fault) at next r h w x f = (h, w (λ e. let z : ◌≡◌ {A = ℕ} 0 1 = cc in omega arith))
 
 from_there : (f : ℕ) (s : List ℕ) (from : ℕ) → RowThere s from (row_from f s from).tokens (row_from f s from).close
 unfolding row_from

@@ -31,7 +31,7 @@ ahead_same s lo (Name p n) at next r r' x f = ap (onto (symbol_named (take n (dr
 ahead_same s lo (Mark b) at next r r' x f = ap (onto (mark b) at) (f x.0)
 ahead_same s lo (Number v) at next r r' x f = ap (onto (number v) at) (f x.0)
 ahead_same s lo End at next r r' x f = refl
-ahead_same s lo (Bad code) at next r r' x f = refl
+ahead_same s lo (Bad fault) at next r r' x f = refl
 
 -- from the end on there is no token
 no_more : (f : ℕ) (s : List ℕ) (i : ℕ) → length s ≤ i → row_from f s i ≡ bare all_good
@@ -72,7 +72,7 @@ ahead_short s lo (Name p n) at next r x f = omega (arith, f x.0, x.0)
 ahead_short s lo (Mark b) at next r x f = omega (arith, f x.0, x.0)
 ahead_short s lo (Number v) at next r x f = omega (arith, f x.0, x.0)
 ahead_short s lo End at next r x f = zero-le
-ahead_short s lo (Bad code) at next r x f = zero-le
+ahead_short s lo (Bad fault) at next r x f = zero-le
 
 -- each token takes a byte or more
 from_short : (f : ℕ) (s : List ℕ) (i : ℕ) → length (row_from f s i).tokens ≤ length s - i
@@ -110,7 +110,7 @@ ahead_fine s lo (Name p n) at next r x f =
 ahead_fine s lo (Mark b) at next r x f = either (mark b) at r x.1 f
 ahead_fine s lo (Number v) at next r x f = either (number v) at r (x.1, x.2) f
 ahead_fine s lo End at next r x f = λ q m. absurd (Memᴰ.not-nil m)
-ahead_fine s lo (Bad code) at next r x f = λ q m. absurd (Memᴰ.not-nil m)
+ahead_fine s lo (Bad fault) at next r x f = λ q m. absurd (Memᴰ.not-nil m)
 
 -- from any place on
 from_fine : (f : ℕ) (s : List ℕ) (i : ℕ) (q : Placed) → Memᴰ q (row_from f s i).tokens → Fine q.symbol

@@ -1,5 +1,5 @@
 -- Skipping good tokens leads from one to the next.
-use Prim.Native.Nat.{ℕ, zero, suc, ◌+◌, ◌-◌, ◌<◌}
+use Prim.Native.Nat.{ℕ, zero, suc, ◌+◌, ◌<◌}
 use mathlib.Core.Path.{◌≡◌, refl, sym, ap, subst, ◌∙◌}
 use mathlib.Core.Bool.{Bool, true, false, cond, ◌||◌, ◌&&◌}
 use mathlib.Core.List.{List}
@@ -8,6 +8,8 @@ use borrow.Author.Tests.{lt-leb, lt-ltb}
 use lib.Dec.{eqb, leb, ltb}
 use lib.ListN.{length, get_or}
 use Rattle.limits.specs.Limits.{name_bytes, exponent_digits}
+use Rattle.faults.specs.declared.Fault.{Fault}
+use Rattle.faults.specs.declared.Fault.TheVariants.{StrayByte, LongName, Malformed}
 use Rattle.tokens.specs.declared.Token.{Token}
 use Rattle.tokens.specs.declared.Token.TheVariants.{Name, Mark, Number, End, Bad}
 use Rattle.tokens.specs.declared.Cut.{Cut}
@@ -28,22 +30,19 @@ unfolding place_behind
 behind_here s left from at z e = rw z e
 
 -- at one before it
-pub behind_next : (s : List ℕ) (left from at next : ℕ) → (left ≡ 0 → ⊥) → at ≡ from + length (spaces_at s from)
-    → next ≡ token_end s at → place_behind (left - 1) s next ≡ place_behind left s from
+pub behind_next : (s : List ℕ) (left less from at next : ℕ) → left ≡ suc less → at ≡ from + length (spaces_at s from)
+    → next ≡ token_end s at → place_behind less s next ≡ place_behind left s from
 unfolding place_behind
-behind_next s zero from at next z e f = absurd (z refl)
-behind_next s (suc left) from at next z e f =
-    let less : suc left - 1 ≡ left = omega arith in
-    rw (less, f, e) refl
+behind_next s left less from at next z e f = rw (z, f, e) refl
 
 -- ---- where a good token ends
 
 -- a cut ends at n, or is bad
 abbrev EndsAt : ℕ → Cut → Type 0
-EndsAt n c = ((code : ℕ) → c.token ≡ Bad code → ⊥) → c.next ≡ n
+EndsAt n c = ((fault : Fault) → c.token ≡ Bad fault → ⊥) → c.next ≡ n
 
-bad_ends : (n code at : ℕ) → EndsAt n (bad_at code at)
-bad_ends n code at h = absurd (h code refl)
+bad_ends : (n : ℕ) (fault : Fault) (at : ℕ) → EndsAt n (bad_at fault at)
+bad_ends n fault at h = absurd (h fault refl)
 
 -- of either branch
 either_ends : (n : ℕ) (b : Bool) (c d : Cut) → EndsAt n c → EndsAt n d → EndsAt n (cond b c d)
@@ -56,7 +55,8 @@ module _ (s : List ℕ) (at : ℕ) where
   unfolding name_at
   name_ends =
       let n = length (word_at s at) in
-      either_ends (at + n) (ltb name_bytes n) (bad_at 15 at) (cut_of (Name at n) at (at + n)) (bad_ends (at + n) 15 at)
+      either_ends (at + n) (ltb name_bytes n) (bad_at LongName at) (cut_of (Name at n) at (at + n))
+      (bad_ends (at + n) LongName at)
       (λ _. refl)
 
   -- the digits of a number
@@ -94,10 +94,10 @@ module _ (s : List ℕ) (at : ℕ) where
 
   -- a number
   end_ends : (n : ℕ) (m : Digits) (x : Exponent) → StopsAt n x → EndsAt n (number_end s at m x)
-  end_ends n m wrong h = bad_ends n 16 at
+  end_ends n m wrong h = bad_ends n Malformed at
   end_ends n m (exponent b e stop) h =
-      either_ends n (is_word (get_or s stop 0) || is_point (get_or s stop 0)) (bad_at 16 at)
-      (cut_of (number_with m b e) at stop) (bad_ends n 16 at) (λ _. h)
+      either_ends n (is_word (get_or s stop 0) || is_point (get_or s stop 0)) (bad_at Malformed at)
+      (cut_of (number_with m b e) at stop) (bad_ends n Malformed at) (λ _. h)
 
   number_ends : EndsAt (power_end s (point_end s (digits_end s at))) (number_cut s at)
   unfolding number_cut
@@ -106,7 +106,8 @@ module _ (s : List ℕ) (at : ℕ) where
       let n = power_end s (point_end s (digits_end s at)) in
       let stops : StopsAt n (exponent_from s m.end) =
       subst (λ (q : ℕ). StopsAt (power_end s q) (exponent_from s m.end)) digits_end_holds (power_ends m.end) in
-      either_ends n (eqb m.count 0) (bad_at 16 at) (number_end s at m (exponent_from s m.end)) (bad_ends n 16 at)
+      either_ends n (eqb m.count 0) (bad_at Malformed at) (number_end s at m (exponent_from s m.end))
+      (bad_ends n Malformed at)
       (end_ends n m (exponent_from s m.end) stops)
 
   -- any token that begins in the text
@@ -120,15 +121,15 @@ module _ (s : List ℕ) (at : ℕ) where
           → EndsAt
           (cond l (at + length (word_at s at)) (cond f (power_end s (point_end s (digits_end s at))) (at + 1)))
           (cond l (name_at s at)
-          (cond f (number_cut s at) (cond m (cut_of (Mark (get_or s at 0)) at (at + 1)) (bad_at 14 at))))
+          (cond f (number_cut s at) (cond m (cut_of (Mark (get_or s at 0)) at (at + 1)) (bad_at StrayByte at))))
       go true f m = name_ends
       go false true m = number_ends
       go false false true = λ _. refl
-      go false false false = bad_ends (at + 1) 14 at
+      go false false false = bad_ends (at + 1) StrayByte at
 
 -- so a cut that is neither the end nor bad ends where its token does
 cut_next : (s : List ℕ) (from : ℕ) → ((cut_at s from).token ≡ End → ⊥)
-    → ((code : ℕ) → (cut_at s from).token ≡ Bad code → ⊥)
+    → ((fault : Fault) → (cut_at s from).token ≡ Bad fault → ⊥)
     → (cut_at s from).next ≡ token_end s (from + length (spaces_at s from))
 unfolding cut_at
 cut_next s from more good =
@@ -139,7 +140,7 @@ cut_next s from more good =
 
 -- a token before a row
 ahead_place : (s : List ℕ) (t : Token) (at : ℕ) (r : Row) (place : ℕ → ℕ) → place 0 ≡ at
-    → (((code : ℕ) → t ≡ Bad code → ⊥) → (t ≡ End → ⊥) → (i : ℕ) → i < length r.tokens
+    → (((fault : Fault) → t ≡ Bad fault → ⊥) → (t ≡ End → ⊥) → (i : ℕ) → i < length r.tokens
     → (get_or r.tokens i no_token).at ≡ place (suc i))
     → (i : ℕ) → i < length (ahead s t at r).tokens → (get_or (ahead s t at r).tokens i no_token).at ≡ place i
 ahead_place s (Name p n) at r place z f zero h = sym z
@@ -155,7 +156,7 @@ ahead_place s (Number x) at r place z f (suc i) h =
     f (λ c e. let y : ◌≡◌ {A = ℕ} 0 1 = cc in omega arith) (λ e. let y : ◌≡◌ {A = ℕ} 0 1 = cc in omega arith) i
     (omega arith)
 ahead_place s End at r place z f i h = absurd (omega arith)
-ahead_place s (Bad code) at r place z f i h = absurd (omega arith)
+ahead_place s (Bad fault) at r place z f i h = absurd (omega arith)
 
 from_place : (f : ℕ) (s : List ℕ) (from i : ℕ) → i < length (row_from f s from).tokens
     → (get_or (row_from f s from).tokens i no_token).at ≡ place_behind i s from

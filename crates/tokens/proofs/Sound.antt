@@ -12,6 +12,7 @@ use lib.Ieee.Scale.{finite}
 use Rattle.laws.proofs.Tests.{cond_ind}
 use Rattle.laws.proofs.Runs.{inside, run_more, run_room}
 use Rattle.limits.specs.Limits.{name_bytes, exponent_digits}
+use Rattle.faults.specs.declared.Fault.TheVariants.{StrayByte, LongName, Malformed, OutOfRange}
 use Rattle.tokens.specs.declared.Token.{Token}
 use Rattle.tokens.specs.declared.Token.TheVariants.{Name, Mark, Number, End, Bad}
 use Rattle.tokens.specs.declared.Cut.{Cut}
@@ -38,7 +39,7 @@ Sound s lo (Name p n) next = Inside s lo next × NameIn p n next
 Sound s lo (Mark b) next = Inside s lo next × (is_mark b ≡ true)
 Sound s lo (Number x) next = Inside s lo next × T (finite x) × T (fits binary64 x)
 Sound s lo End next = Unit {0}
-Sound s lo (Bad code) next = Unit {0}
+Sound s lo (Bad fault) next = Unit {0}
 
 -- ---- numbers: the digits and the exponent end inside the text
 
@@ -93,7 +94,7 @@ module _ (s : List ℕ) (lo : ℕ) where
   value_sound : (m up down next : ℕ) → Inside s lo next → Sound s lo (ranged_number m up down) next
   unfolding ranged_number
   value_sound m up down next i =
-      cond_ind (λ (t : Token). Sound s lo t next) (in_range m up down) (Number (scaled m up down)) (Bad 17)
+      cond_ind (λ (t : Token). Sound s lo t next) (in_range m up down) (Number (scaled m up down)) (Bad OutOfRange)
       (λ t. let f = scaled_fine m up down t in (i, f.0, f.1)) (λ _. tt)
 
   -- with either sign of the exponent
@@ -106,7 +107,7 @@ module _ (s : List ℕ) (lo : ℕ) where
       → Good (number_end s at m e)
   end_sound at m wrong h r = tt
   end_sound at m (exponent minus e stop) h r =
-      cond_ind Good (is_word (get_or s stop 0) || is_point (get_or s stop 0)) (bad_at 16 at)
+      cond_ind Good (is_word (get_or s stop 0) || is_point (get_or s stop 0)) (bad_at Malformed at)
       (cut_of (number_with m minus e) at stop) (λ _. tt)
       (λ _. signed_sound m minus e stop (record { onward = omega arith; room = r.1 }))
 
@@ -116,7 +117,7 @@ module _ (s : List ℕ) (lo : ℕ) where
   number_sound at h k =
       let m = digits_from s at in
       let r = digits_room s at k in
-      cond_ind Good (eqb m.count 0) (bad_at 16 at) (number_end s at m (exponent_from s m.end)) (λ _. tt)
+      cond_ind Good (eqb m.count 0) (bad_at Malformed at) (number_end s at m (exponent_from s m.end)) (λ _. tt)
       (λ z.
       let some : m.count ≡ 0 → ⊥ = eqb-false m.count 0 z in
       end_sound at m (exponent_from s m.end) (omega arith) (exponent_room s m.end r.1))
@@ -128,7 +129,7 @@ module _ (s : List ℕ) (lo : ℕ) where
       let n = length (word_at s at) in
       let letter : is_word (get_or s at 0) ≡ true = rw l in
       let more = ap length (run_more is_word s at refl letter) in
-      cond_ind Good (ltb name_bytes n) (bad_at 15 at) (cut_of (Name at n) at (at + n)) (λ _. tt)
+      cond_ind Good (ltb name_bytes n) (bad_at LongName at) (cut_of (Name at n) at (at + n)) (λ _. tt)
       (λ t. (
         record { onward = omega arith; room = run_room is_word s at (omega arith) },
         record { few = ltb-false name_bytes n t; ends = refl },
@@ -144,7 +145,7 @@ module _ (s : List ℕ) (lo : ℕ) where
       let l : at < length s = leb-false (length s) at e in
       cond_ind Good (is_letter b) (name_at s at) _ (λ t. name_sound at h l t)
       (λ _. cond_ind Good (is_digit b || is_point b) (number_cut s at) _ (λ _. number_sound at h (omega arith))
-      (λ _. cond_ind Good (is_mark b) (cut_of (Mark b) at (at + 1)) (bad_at 14 at)
+      (λ _. cond_ind Good (is_mark b) (cut_of (Mark b) at (at + 1)) (bad_at StrayByte at)
       (λ t. (record { onward = omega arith; room = omega arith }, t)) (λ _. tt))))
 
 -- every cut is sound

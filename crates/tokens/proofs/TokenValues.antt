@@ -18,6 +18,7 @@ use Rattle.laws.specs.Runs.{front_run}
 use Rattle.laws.proofs.Tests.{bool_cases, cond_ind, and_true}
 use Rattle.laws.proofs.Runs.{held, run_run, all_pass}
 use Rattle.limits.specs.Limits.{name_bytes, exponent_digits}
+use Rattle.faults.specs.declared.Fault.TheVariants.{StrayByte, LongName, Malformed, OutOfRange}
 use Rattle.tokens.specs.declared.Token.{Token}
 use Rattle.tokens.specs.declared.Token.TheVariants.{Name as Named, Mark, Number, End, Bad}
 use Rattle.tokens.specs.declared.Cut.{Cut}
@@ -243,7 +244,7 @@ Valued s at (Named p n) = Unit {0}
 Valued s at (Mark b) = Unit {0}
 Valued s at (Number x) = NumberAt s at x
 Valued s at End = Unit {0}
-Valued s at (Bad code) = Unit {0}
+Valued s at (Bad fault) = Unit {0}
 
 -- the parts make a number, whose value it is
 numbered : (s : List ℕ) (at : ℕ) (m : Digits) (minus : Bool) (e stop : ℕ) → Figures s at m
@@ -270,7 +271,7 @@ module _ (s : List ℕ) (at : ℕ) where
       → Valued s at (ranged_number m up down)
   unfolding ranged_number
   number_valued m up down f =
-      cond_ind (Valued s at) (in_range m up down) (Number (scaled m up down)) (Bad 17)
+      cond_ind (Valued s at) (in_range m up down) (Number (scaled m up down)) (Bad OutOfRange)
       (λ t. f (scaled m up down) (in_range_value m up down t)) (λ _. tt)
 
   -- by the sign of the exponent
@@ -290,7 +291,7 @@ end_valued : (s : List ℕ) (at : ℕ) (m : Digits) (e : Exponent) → Figures s
     → Good s (number_end s at m e)
 end_valued s at m wrong f r some = tt
 end_valued s at m (exponent minus e stop) f r some =
-    cond_ind (Good s) (is_word (get_or s stop 0) || is_point (get_or s stop 0)) (bad_at 16 at)
+    cond_ind (Good s) (is_word (get_or s stop 0) || is_point (get_or s stop 0)) (bad_at Malformed at)
     (cut_of (number_with m minus e) at stop) (λ _. tt)
     (λ t. signed_valued s at m minus e (numbered s at m minus e stop f r some t))
 
@@ -299,7 +300,7 @@ numbers_valued : (s : List ℕ) (at : ℕ) → Good s (number_cut s at)
 unfolding number_cut
 numbers_valued s at =
     let m = digits_from s at in
-    cond_ind (Good s) (eqb m.count 0) (bad_at 16 at) (number_end s at m (exponent_from s m.end)) (λ _. tt)
+    cond_ind (Good s) (eqb m.count 0) (bad_at Malformed at) (number_end s at m (exponent_from s m.end)) (λ _. tt)
     (λ t. end_valued s at m (exponent_from s m.end) (figures s at) (raises s m.end) (eqb-false m.count 0 t))
 
 -- a name is no number
@@ -307,7 +308,7 @@ names_valued : (s : List ℕ) (at : ℕ) → Good s (name_at s at)
 unfolding name_at
 names_valued s at =
     let n = length (word_at s at) in
-    cond_ind (Good s) (ltb name_bytes n) (bad_at 15 at) (cut_of (Named at n) at (at + n)) (λ _. tt) (λ _. tt)
+    cond_ind (Good s) (ltb name_bytes n) (bad_at LongName at) (cut_of (Named at n) at (at + n)) (λ _. tt) (λ _. tt)
 
 -- by the first byte
 cut_valued : (s : List ℕ) (from : ℕ) → Good s (cut_at s from)
@@ -318,7 +319,7 @@ cut_valued s from =
     cond_ind (Good s) (leb (length s) at) (cut_of End at at) _ (λ _. tt)
     (λ _. cond_ind (Good s) (is_letter b) (name_at s at) _ (λ _. names_valued s at)
     (λ _. cond_ind (Good s) (is_digit b || is_point b) (number_cut s at) _ (λ _. numbers_valued s at)
-    (λ _. cond_ind (Good s) (is_mark b) (cut_of (Mark b) at (at + 1)) (bad_at 14 at) (λ _. tt) (λ _. tt))))
+    (λ _. cond_ind (Good s) (is_mark b) (cut_of (Mark b) at (at + 1)) (bad_at StrayByte at) (λ _. tt) (λ _. tt))))
 
 module _ (s : List ℕ) where
   -- of what the grammar sees
@@ -346,7 +347,7 @@ module _ (s : List ℕ) where
   ahead_worth (Mark b) at r v f = onto_worth (mark b) at r tt f
   ahead_worth (Number x) at r v f = onto_worth (number x) at r v f
   ahead_worth End at r v f = λ q m. absurd (Memᴰ.not-nil m)
-  ahead_worth (Bad code) at r v f = λ q m. absurd (Memᴰ.not-nil m)
+  ahead_worth (Bad fault) at r v f = λ q m. absurd (Memᴰ.not-nil m)
 
   -- from any place on
   from_worth : (f i : ℕ) → AllWorth (row_from f s i).tokens

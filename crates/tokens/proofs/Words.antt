@@ -39,12 +39,6 @@ lookup_map {A} {B} g f other (r ∷ ws) n = go (same_bytes n r.spelling) (lookup
     go true e = refl
     go false e = e
 
--- one word more in front: k is found behind it
-pub lookup_more : {A : Type 0} (f : Role → A) (other : A) (ws : List Reserved) (n : List ℕ) (r : Reserved) (k x : A)
-    → x ≡ cond (same_bytes n r.spelling) (f r.role) k → k ≡ look_up f other ws n → x ≡ look_up f other (r ∷ ws) n
-unfolding look_up
-lookup_more f other ws n r k x e h = e ∙ ap (cond (same_bytes n r.spelling) (f r.role)) h
-
 -- ---- the kinds of words
 
 -- a role's kind is its own
@@ -106,10 +100,10 @@ module _ (n : List ℕ) where
   -- a name as it is held: its key is read from its bytes
   pub held_name : (k a : ℕ) → length n ≤ name_bytes → k ≡ kind_named n → k ≡ name_kind
       → a ≡ low_word (take name_bytes n)
-      → ◌≡◌ {A = Held} (record { kind = name_kind; arg = a }) (held_as (symbol_named n))
+      → ◌≡◌ {A = Held} (record { kind = k; arg = a }) (held_as (symbol_named n))
   held_name k a h q e key =
       let f = sym kind_named_holds ∙ sym q ∙ e in
-      rw (f, arg_name f, key, take_all name_bytes n h)
+      rw (e, f, arg_name f, key, take_all name_bytes n h)
 
   -- a word as it is held
   pub held_word : (k : ℕ) → k ≡ kind_named n → (k ≡ name_kind → ⊥)

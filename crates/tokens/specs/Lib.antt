@@ -11,6 +11,7 @@ pub mod Kinds
 pub mod Held
 pub mod Names
 pub mod Capped
+pub mod Closure
 pub mod Steps
 pub mod Skips
 pub mod Contract

@@ -5,6 +5,7 @@ use Rattle.std.specs.Prelude.{get_or, eqb, leb, pos, Float}
 use Rattle.std.specs.Float.{binary64}
 use Rattle.std.specs.Float.Ieee.{mul, div, of_int}
 use Rattle.limits.specs.Limits.{most_digits, most_tens, exponent_digits}
+use Rattle.faults.specs.declared.Fault.TheVariants.{OutOfRange}
 use Rattle.tokens.specs.declared.Token.{Token}
 use Rattle.tokens.specs.declared.Token.TheVariants.{Number, Bad}
 use Rattle.tokens.specs.Bytes.{is_point, digits_at}
@@ -74,7 +75,7 @@ in_range m up down = leb m most_digits && (leb up (down + most_tens) && leb down
 
 -- 17: m or k out of range
 unfoldable pub ranged_number : ℕ → ℕ → ℕ → Token
-ranged_number m up down = cond (in_range m up down) (Number (scaled m up down)) (Bad 17)
+ranged_number m up down = cond (in_range m up down) (Number (scaled m up down)) (Bad OutOfRange)
 
 -- k is the exponent less the count of digits after the point
 abbrev pub number_with : Digits → Bool → ℕ → Token

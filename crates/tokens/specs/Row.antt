@@ -1,5 +1,6 @@
 -- The tokens of a statement's joined text, each with the place of its first byte, up to the end or the first bad token.
 use Rattle.std.specs.Prelude.{ℕ, zero, suc, List, [], ◌∷◌, map, length, take, drop}
+use Rattle.faults.specs.Codes.{code_of}
 use Rattle.tokens.specs.declared.Token.{Token}
 use Rattle.tokens.specs.declared.Token.TheVariants.{Name, Mark, Number, End, Bad}
 use Rattle.tokens.specs.Token.{cut_at}
@@ -32,7 +33,7 @@ ahead s (Name p n) at r = onto (symbol_named (take n (drop p s))) at r
 ahead s (Mark b) at r = onto (mark b) at r
 ahead s (Number x) at r = onto (number x) at r
 ahead s End at r = bare all_good
-ahead s (Bad code) at r = bare (bad code at)
+ahead s (Bad fault) at r = bare (bad (code_of fault) at)
 
 -- from a place on, with at most f cuts
 unfoldable pub row_from : ℕ → List ℕ → ℕ → Row

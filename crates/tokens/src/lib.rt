@@ -12,24 +12,25 @@ ghost use Rattle.std.specs.Prelude.{◌≡◌};
 ghost use Rattle.tokens.specs.Token.{bad_at};
 ghost use Rattle.tokens.specs.Contract.{TakesCut, WritesRow, PlacesToken};
 
-use bytes::{is_figure, is_letter, is_mark, past_spaces};
+use bytes::{is_figure, is_mark, past_spaces};
+use faults::Fault;
 use name::read_name;
 use number::read_number;
 use places::past_token;
-use step::{Step, take_step};
+use step::take_step;
 
-// A name's place and length, a mark's byte, a number's value; the end of the text; a bad token's code.
-#[derive(Drop)]
+// A name's place and length, a mark's byte, a number's value; the end of the text; what is wrong with a bad token.
+#[derive(Clone, Copy)]
 pub enum Token {
     Name(usize, usize),
     Mark(u8),
     Number(f64),
     End,
-    Bad(u8),
+    Bad(Fault),
 }
 
 // One cut: the token, the place of its first byte, and the place where the next one begins.
-#[derive(Drop)]
+#[derive(Clone, Copy)]
 pub struct Cut {
     pub token: Token,
     pub at: usize,
@@ -37,12 +38,12 @@ pub struct Cut {
 }
 
 // A bad token; behind it nothing is read.
-fn bad(code: u8, at: usize) -> Cut
-    ensures { result ≡ bad_at code at }
+fn bad(fault: Fault, at: usize) -> Cut
+    ensures { result ≡ bad_at fault at }
 {
     Cut {
-        token: Token::Bad(code),
-        at: at,
+        token: Token::Bad(fault),
+        at,
         next: at,
     }
 }
@@ -52,28 +53,26 @@ pub fn take_cut(body: &[u8], from: usize) -> Cut
     ensures { TakesCut body.now from result }
 {
     let at = past_spaces(body, from);
-    if body.len() <= at {
+    let Some(&b) = body.get(at) else {
         return Cut {
             token: Token::End,
-            at: at,
+            at,
             next: at,
         };
-    }
-    let b = body[at];
-    if is_letter(b) {
-        return read_name(body, at);
-    }
-    if is_mark(b) {
-        return Cut {
+    };
+    if b.is_ascii_uppercase() {
+        read_name(body, at)
+    } else if is_mark(b) {
+        Cut {
             token: Token::Mark(b),
-            at: at,
+            at,
             next: at + 1,
-        };
+        }
+    } else if is_figure(b) {
+        read_number(body, at)
+    } else {
+        bad(Fault::StrayByte, at)
     }
-    if is_figure(b) {
-        return read_number(body, at);
-    }
-    bad(14, at)
 }
 
 // The kinds: of a number, of a name, of each role of reserved words. A mark's is its byte.
@@ -97,64 +96,44 @@ pub const PROCED: u8 = 9;
 
 pub const ENDPRO: u8 = 10;
 
-// How a row ends: no room for it; the count of its tokens; or the first bad token's code and place, behind so many good
-// ones.
-#[derive(Drop)]
-pub enum RowEnd {
+// Why a text has no whole row: no room for it; or the first bad token's fault and place, behind so many good ones.
+#[derive(Clone, Copy)]
+pub enum RowError {
     NoRoom,
-    Tokens(usize),
-    Fault { code: u8, count: usize, at: usize },
+    Bad {
+        fault: Fault,
+        count: usize,
+        at: usize,
+    },
 }
 
-// Writes the kind and the argument of each token of a text, up to the end or the first bad one. It takes room for a
-// token for each byte.
-pub fn row(body: &[u8], kinds: &mut [u8], args: &mut [u64]) -> RowEnd
-    ensures { WritesRow body.now kinds.old args.old result
-        kinds.new args.new }
+// Writes the kind and the argument of each token of a text, up to the end or the first bad one, and says how many there
+// are. It takes room for a token for each byte.
+pub fn row(body: &[u8], kinds: &mut [u8], args: &mut [u64]) -> Result<usize, RowError>
+    ensures { WritesRow body.now kinds.old args.old result kinds.new args.new }
 {
-    if kinds.len() < body.len() {
-        return RowEnd::NoRoom;
+    if kinds.len() < body.len() || args.len() < body.len() {
+        return Err(RowError::NoRoom);
     }
-    if args.len() < body.len() {
-        return RowEnd::NoRoom;
+    let mut from = 0;
+    let mut n = 0;
+    while let Some(step) = take_step(body, from, n)? {
+        kinds[n] = step.held.kind;
+        args[n] = step.held.arg;
+        n += 1;
+        from = step.next;
     }
-    let mut from: usize = 0;
-    let mut n: usize = 0;
-    loop {
-        let s = take_step(body, from);
-        match s {
-            Step::Over => {
-                return RowEnd::Tokens(n);
-            }
-            Step::Refused { code, at } => {
-                return RowEnd::Fault {
-                    code: code,
-                    count: n,
-                    at: at,
-                };
-            }
-            Step::Good { held, next } => {
-                kinds[n] = held.kind;
-                args[n] = held.arg;
-                n += 1;
-                from = next;
-            }
-        }
-    }
+    Ok(n)
 }
 
 // Where token i of a text begins, if those before it are good: they are skipped.
 pub fn token_place(body: &[u8], i: usize) -> usize
     ensures { PlacesToken body.now i result }
 {
-    let mut from: usize = 0;
-    let mut left = i;
-    loop {
+    let mut from = 0;
+    for _k in 0..i {
         let at = past_spaces(body, from);
-        if left == 0 {
-            return at;
-        }
         from = past_token(body, at);
-        left -= 1;
     }
+    past_spaces(body, from)
 }

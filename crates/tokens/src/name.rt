@@ -4,73 +4,56 @@ ghost use Rattle.limits.specs.Limits.{name_bytes};
 ghost use Rattle.bits.specs.Low.{low_word};
 ghost use Rattle.tokens.specs.Token.{name_at};
 ghost use Rattle.tokens.specs.Held.{three_of};
-ghost use Rattle.tokens.specs.Names.{name_count, name_token, name_next};
+ghost use Rattle.tokens.specs.Names.{name_count};
 
 use super::bytes::is_word;
-use crate::{Cut, Token};
-use bits::reads::{byte_at, wide};
+use crate::{Cut, Token, bad};
+use bits::reads::byte_at;
+use faults::Fault;
 
 // How many letters and digits stand from a place on, counted up to one more than a name may have.
 fn name_bytes(body: &[u8], at: usize) -> usize
     requires { at ≤ length body.now }
     ensures { result ≡ name_count body.now at }
 {
-    let mut n: usize = 0;
-    while n <= limits::NAME_BYTES {
-        if is_word(byte_at(body, at + n)) {
-            n += 1;
-        } else {
-            return n;
-        }
-    }
-    n
+    let most = limits::NAME_BYTES + 1;
+    body[at..]
+        .iter()
+        .take(most)
+        .take_while(|&&b| is_word(b))
+        .count()
 }
 
-// The token of so many letters and digits at a place: a name, or 15 where there are too many.
-fn name_token(at: usize, n: usize) -> Token
-    ensures { result ≡ name_token at n }
-{
-    if limits::NAME_BYTES < n {
-        return Token::Bad(15);
-    }
-    Token::Name(at, n)
-}
-
-// Where the next token begins: at a name's end; behind a bad token nothing is read.
-fn name_next(at: usize, end: usize, n: usize) -> usize
-    ensures { result ≡ name_next at end n }
-{
-    if limits::NAME_BYTES < n {
-        return at;
-    }
-    end
-}
-
-// The name at a place.
+// The name at a place; one of too many letters and digits is bad.
 pub fn read_name(body: &[u8], at: usize) -> Cut
     requires { at ≤ length body.now }
     ensures { result ≡ name_at body.now at }
 {
     let n = name_bytes(body, at);
+    if limits::NAME_BYTES < n {
+        return bad(Fault::LongName, at);
+    }
     Cut {
-        token: name_token(at, n),
-        at: at,
-        next: name_next(at, at + n, n),
+        token: Token::Name(at, n),
+        at,
+        next: at + n,
     }
 }
 
 // The number of three bytes from a place on, 0 for those past the end.
 fn three_at(name: &[u8], i: usize) -> u64
     requires { i ≤ name_bytes }
-    ensures { (result ≡ three_of name.now i) × (result < 16777216) }
+    ensures value { result ≡ three_of name.now i }
+    ensures small { result < 16777216 }
 {
-    let a = wide(byte_at(name, i));
-    let b = wide(byte_at(name, i + 1));
-    let c = wide(byte_at(name, i + 2));
+    let a = u64::from(byte_at(name, i));
+    let b = u64::from(byte_at(name, i + 1));
+    let c = u64::from(byte_at(name, i + 2));
     a + 256 * b + 65536 * c
 }
 
-// The key of a name: the number that its first NAME_BYTES bytes are, two times three, or as many as there are.
+// The key of a name: the number that its first NAME_BYTES bytes are, two times three, or as many as there are. It is
+// made without a loop.
 pub fn key_of(name: &[u8]) -> u64
     ensures { result ≡ low_word (take name_bytes name.now) }
 {

@@ -6,10 +6,10 @@ ghost use Rattle.tokens.specs.Steps.{held_as, row_step_at};
 
 use super::name::key_of;
 use super::word::kind_of;
-use crate::{NAME, NUMBER, Token, take_cut};
+use crate::{NAME, NUMBER, RowError, Token, take_cut};
 
 // A token's kind and argument.
-#[derive(Drop)]
+#[derive(Clone, Copy)]
 pub struct Held {
     pub kind: u8,
     pub arg: u64,
@@ -21,50 +21,40 @@ fn held_name(name: &[u8]) -> Held
     ensures { result ≡ held_as (symbol_named name.now) }
 {
     let kind = kind_of(name);
-    if kind == NAME {
-        return Held {
-            kind: NAME,
-            arg: key_of(name),
-        };
-    }
-    Held { kind: kind, arg: 0 }
+    let arg = if kind == NAME { key_of(name) } else { 0 };
+    Held { kind, arg }
 }
 
-// What one cut gives a row: a token as it is held and the place where the next begins, the end, or a bad token's code
-// and place.
-#[derive(Drop)]
-pub enum Step {
-    Good { held: Held, next: usize },
-    Over,
-    Refused { code: u8, at: usize },
+// A token as it is held, and the place where the next one begins.
+#[derive(Clone, Copy)]
+pub struct Step {
+    pub held: Held,
+    pub next: usize,
 }
 
-// The next step from a place on.
-pub fn take_step(body: &[u8], from: usize) -> Step
-    ensures { result ≡ row_step_at body.now from }
+// The next step from a place on, or none at the text's end; a bad token is told with the count of those before it.
+pub fn take_step(body: &[u8], from: usize, count: usize) -> Result<Option<Step>, RowError>
+    ensures { result ≡ row_step_at body.now from count }
 {
-    let c = take_cut(body, from);
-    let t = c.token;
-    match t {
-        Token::Name(p, n) => {
-            let e = p + n;
-            Step::Good {
-                held: held_name(&body[p..e]),
-                next: c.next,
-            }
+    let cut = take_cut(body, from);
+    let held = match cut.token {
+        Token::Name(at, n) => held_name(&body[at..at + n]),
+        Token::Mark(b) => Held { kind: b, arg: 0 },
+        Token::Number(x) => Held {
+            kind: NUMBER,
+            arg: bits::bits_of(x),
+        },
+        Token::End => return Ok(None),
+        Token::Bad(fault) => {
+            return Err(RowError::Bad {
+                fault,
+                count,
+                at: cut.at,
+            });
         }
-        Token::Mark(b) => Step::Good {
-            held: Held { kind: b, arg: 0 },
-            next: c.next,
-        },
-        Token::Number(x) => Step::Good {
-            held: Held {
-                kind: NUMBER,
-                arg: bits::bits_of(x),
-            },
-            next: c.next,
-        },
-        Token::End => Step::Over,
-        Token::Bad(code) => Step::Refused { code, at: c.at },
-    }
+    };
+    Ok(Some(Step {
+        held,
+        next: cut.next,
+    }))
 }

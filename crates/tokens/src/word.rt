@@ -1,5 +1,5 @@
 // Reserved words, compared with a name byte by byte.
-ghost use Rattle.std.specs.Prelude.{◌≡◌, cond};
+ghost use Rattle.std.specs.Prelude.{◌≡◌};
 ghost use Rattle.laws.specs.Lists.{same_bytes};
 ghost use Rattle.tokens.specs.Held.{kind_named};
 
@@ -7,41 +7,31 @@ ghost use Rattle.tokens.specs.Held.{kind_named};
 fn spells(name: &[u8], word: &[u8]) -> bool
     ensures { result ≡ same_bytes name.now word.now }
 {
-    if name.len() != word.len() {
-        return false;
-    }
-    let mut i: usize = 0;
-    while i < word.len() {
-        if name[i] != word[i] {
-            return false;
-        }
-        i += 1;
-    }
-    true
+    name == word
 }
 
-// A word's kind where a name spells the word, else another.
-fn kind_or(name: &[u8], word: &[u8], kind: u8, other: u8) -> u8
-    ensures { result ≡ cond (same_bytes name.now word.now) kind other }
-{
-    if spells(name, word) { kind } else { other }
-}
-
-// The kind of a name: that of the reserved word that it spells, or a name's. The words stand from the last to the
-// first, each with its kind.
+// The kind of a name: that of the reserved word that it spells, or a name's.
+#[tactic(auto, unfolding(crate::specs::Held::kind_named, crate::specs::Symbol::look_up))]
 pub fn kind_of(name: &[u8]) -> u8
     ensures { result ≡ kind_named name.now }
 {
-    let mut k = crate::NAME;
-    k = kind_or(name, b"ENDPRO", crate::ENDPRO, k);
-    k = kind_or(name, b"PROCED", crate::PROCED, k);
-    k = kind_or(name, b"COMPAR", crate::COMPAR, k);
-    k = kind_or(name, b"LIMIT", crate::LIMIT, k);
-    k = kind_or(name, b"INSW", crate::INSW, k);
-    k = kind_or(name, b"TIME", crate::TIME, k);
-    k = kind_or(name, b"INTGRL", crate::INTGRL, k);
-    k = kind_or(name, b"INCON", crate::CONSTANTS, k);
-    k = kind_or(name, b"PARAM", crate::CONSTANTS, k);
-    k = kind_or(name, b"CONST", crate::CONSTANTS, k);
-    k
+    if spells(name, b"CONST") || spells(name, b"PARAM") || spells(name, b"INCON") {
+        crate::CONSTANTS
+    } else if spells(name, b"INTGRL") {
+        crate::INTGRL
+    } else if spells(name, b"TIME") {
+        crate::TIME
+    } else if spells(name, b"INSW") {
+        crate::INSW
+    } else if spells(name, b"LIMIT") {
+        crate::LIMIT
+    } else if spells(name, b"COMPAR") {
+        crate::COMPAR
+    } else if spells(name, b"PROCED") {
+        crate::PROCED
+    } else if spells(name, b"ENDPRO") {
+        crate::ENDPRO
+    } else {
+        crate::NAME
+    }
 }

@@ -7,6 +7,7 @@ use native.Mathlib.Omega.{arith}
 use borrow.Author.Tests.{lt-ltb, le-ltb}
 use lib.ListN.{length}
 use lib.Seq.{sets}
+use Rattle.std.specs.Prelude.{Result, Err}
 use Rattle.limits.specs.Limits.{most_records, record_bytes}
 use Rattle.blocks.specs.Units.{TextUnit}
 use Rattle.blocks.specs.Layout.{UnitsLaid}
@@ -18,11 +19,11 @@ use Rattle.records.proofs.ReadBack.{length_program}
 use Rattle.program.specs.Program.{program}
 use Rattle.program.specs.Written.{record_count, written_program}
 use Rattle.program.proofs.WrittenMeans.{count_meant, program_meant}
-use Rattle.translator.specs.declared.Verdict.{Verdict}
-use Rattle.translator.specs.declared.Verdict.TheVariants.{Refused, Faulty, Translated}
+use Rattle.translator.specs.declared.Ordered.{Ordered}
+use Rattle.translator.specs.declared.Refusal.{Refusal}
+use Rattle.translator.specs.declared.Refusal.TheVariants.{ModelFaults, NoRoom}
 use Rattle.translator.specs.Verdict.{if_faults, programmed}
-use Rattle.translator.specs.Contract.{ordered}
-use Rattle.translator.specs.Working.{ordered_lines, UnitsConclude, UnitsConcludeFor}
+use Rattle.translator.specs.Working.{ordered_as, ordered_lines, UnitsConclude, UnitsConcludeFor}
 use Rattle.translator.proofs.Handing.{order_handed}
 use Rattle.translator.proofs.Concluding.{sound_plan, Conclusion, flawed, sound}
 
@@ -42,17 +43,17 @@ module _ (us : List TextUnit) (kinds args lines bounds ulines ubounds firsts : L
   handed = ordered_lines (ordered_in (length ulines) ubounds kinds) ulines (order_of us)
 
   -- what the verdict on the model leaves, where nothing is ordered
-  abbrev pub Decides : Verdict → List ℕ → List ℕ → Type 0
-  Decides r f p = UnitsConclude us faults prog lent (ordered r 0) f p lent
+  abbrev pub Decides : Result Ordered Refusal → List ℕ → List ℕ → Type 0
+  Decides r f p = UnitsConclude us faults prog lent r f p lent
 
   module _ (o : PlanOutcome) (c : Conclusion us kinds args lines bounds ulines ubounds firsts laid used faults o) where
     -- number 7
     pub decides_seven : (b : Bool) → o.plan.number ≡ 7
-        → UnitsConcludeFor b us faults prog lent (ordered (Faulty 7 o.plan.count) 0) o.faults prog lent
+        → UnitsConcludeFor b us faults prog lent (Err (ModelFaults o.plan.count)) o.faults prog lent
     decides_seven b e = go c
       where
         go : Conclusion us kinds args lines bounds ulines ubounds firsts laid used faults o
-            → UnitsConcludeFor b us faults prog lent (ordered (Faulty 7 o.plan.count) 0) o.faults prog lent
+            → UnitsConcludeFor b us faults prog lent (Err (ModelFaults o.plan.count)) o.faults prog lent
         go (flawed f fs m n k l) = rw (m, k, l)
         go (sound m q) = absurd (let z : 0 ≡ 7 = sym (ap (λ (x : PlanOutcome). x.plan.number) q) ∙ e in omega arith)
 
@@ -75,11 +76,11 @@ module _ (us : List TextUnit) (kinds args lines bounds ulines ubounds firsts : L
     count = count_meant us kinds args lines bounds ulines ubounds firsts laid clean
 
     -- 8: more records than there may be, or than there is room for
-    pub decides_eight : (most_records < record_count kinds) → Decides (Refused 8) faults prog
+    pub decides_eight : (most_records < record_count kinds) → Decides (Err NoRoom) faults prog
     decides_eight h = rw (modelled_sound, lt-ltb most_records (length recs) (rw (← count) h))
 
     pub decides_eight' : length prog / record_bytes < record_count kinds → record_count kinds ≤ most_records
-        → Decides (Refused 8) faults prog
+        → Decides (Err NoRoom) faults prog
     decides_eight' h k =
         rw (
           modelled_sound,
@@ -89,7 +90,7 @@ module _ (us : List TextUnit) (kinds args lines bounds ulines ubounds firsts : L
 
     -- 0: the program is written, and the order handed out
     pub decides_zero : record_count kinds ≤ most_records → record_count kinds ≤ length prog / record_bytes
-        → UnitsConclude us faults prog lent (ordered (Translated (record_count kinds)) (length handed)) faults
+        → UnitsConclude us faults prog lent (ordered_as (record_count kinds) (length handed)) faults
         (sets prog 0 written) (sets lent 0 handed)
     decides_zero h k =
         rw (

@@ -9,23 +9,25 @@ use borrow.Author.Tests.{lt-ltb, ltb-false, leb-true}
 use lib.Dec.{leb, ltb, eqb}
 use lib.ListN.{length, take, replicate, length-map, length-replicate}
 use lib.Seq.{sets, length-sets}
+use Rattle.std.specs.Prelude.{Result, Ok, Err}
 use Rattle.limits.specs.Limits.{most_statements, most_definitions, text_bytes, fault_bytes}
 use Rattle.laws.proofs.Tests.{and_true}
 use Rattle.drafts.specs.Drafts.{Draft}
 use Rattle.sheet.specs.Sheet.{Numbered, Fault, fault_list}
 use Rattle.sheet.specs.Layout.{drafts_in}
-use Rattle.blocks.specs.declared.answer.Grouping.{Grouping}
+use Rattle.blocks.specs.declared.answer.Refusal.{Refusal as Unready}
+use Rattle.blocks.specs.declared.answer.Refusal.TheVariants.{ManyDefinitions as OverMany, Faults, Unfit}
 use Rattle.blocks.specs.Units.{TextUnit, Stated, stated_in}
 use Rattle.blocks.specs.Inside.{block_faults}
 use Rattle.blocks.specs.Members.{settings, units_of}
 use Rattle.blocks.specs.Layout.{UnitsLaid, drafts_stated}
 use Rattle.blocks.specs.Places.{firsts_in, unit_lines_in, unit_bounds_in}
 use Rattle.blocks.specs.InsidePlaces.{rewritten_kinds}
-use Rattle.blocks.specs.Grouped.{UnitArrays, unit_arrays, GroupOutcome, group_outcome, group_refused}
+use Rattle.blocks.specs.Grouped.{Grouping, UnitArrays, unit_arrays, GroupOutcome, group_outcome, group_refused}
 use Rattle.blocks.specs.Grouped.{group_faulted, some}
 use Rattle.blocks.specs.Grouped.{group_fit}
 use Rattle.blocks.specs.Grouped.{with_units, united}
-use Rattle.blocks.specs.Contract.{Groups}
+use Rattle.blocks.specs.Contract.{Groups, grouping_in}
 use Rattle.blocks.proofs.BlocksShaped.{shaped_text}
 use Rattle.blocks.proofs.UnitsLaidOut.{units_counted}
 use Rattle.blocks.proofs.UnitsSound.{units_sound}
@@ -34,16 +36,20 @@ use Rattle.blocks.proofs.GroupStages.{fitted}
 use Rattle.blocks.proofs.GroupMeans.{grouped_means, units_written}
 use Rattle.model.proofs.DefinitionsFew.{definitions_few}
 use Rattle.model.proofs.LaidFits.{laid_fits}
+use Rattle.translator.specs.declared.Refusal.{Refusal}
+use Rattle.translator.specs.declared.Refusal.TheVariants.{ManyDefinitions, ModelFaults}
 use Rattle.translator.specs.declared.Ordered.{Ordered}
-use Rattle.translator.specs.declared.Verdict.TheVariants.{Refused, Faulty}
-use Rattle.translator.specs.Contract.{ordered}
-use Rattle.translator.specs.Working.{unitless, ArraysReady, UnitsReady, UnitsConcludeFor, ConcludesFor}
+use Rattle.translator.specs.Working.{refusal_from, unitless, ArraysReady, UnitsReady, UnitsConcludeFor, ConcludesFor}
 use Rattle.translator.proofs.Counted.{stated_many}
 
 module _ {lines bounds kinds args used faults : List ℕ} (ready : ArraysReady lines bounds kinds args used faults)
-    {g : Grouping} {kinds' faults' ulines ubounds firsts : List ℕ}
-    (groups : Groups lines bounds kinds args faults unitless g kinds' faults' (unit_arrays ulines ubounds firsts))
+    (answer : Result ℕ Unready) {kinds' faults' ulines ubounds firsts : List ℕ}
+    (groups : Groups lines bounds kinds args faults unitless answer kinds' faults' (unit_arrays ulines ubounds firsts))
     (b : Bool) (out lent : List ℕ) where
+  -- by number, count and units
+  abbrev g : Grouping
+  g = grouping_in answer
+
   abbrev ss : List Numbered
   ss = ready.statements
 
@@ -96,32 +102,55 @@ module _ {lines bounds kinds args used faults : List ℕ} (ready : ArraysReady l
   unfolding united
   listed_zero = refl
 
-  pub says_six : g.number ≡ 6 → ConcludesFor b ss faults out lent (ordered (Refused 6) 0) faults' out lent
+  says_six : g.number ≡ 6 → ConcludesFor b ss faults out lent (Err ManyDefinitions) faults' out lent
   says_six e = go grouped
     where
-      go : Grouped → ConcludesFor b ss faults out lent (ordered (Refused 6) 0) faults' out lent
+      go : Grouped → ConcludesFor b ss faults out lent (Err ManyDefinitions) faults' out lent
       go (over t n f) = rw (t, f)
       go (flawed f fs t m n k l) = absurd (omega arith)
       go (sound t m q) = absurd
           (let z : g.number ≡ 0 = ap (λ (o : GroupOutcome). o.grouping.number) q ∙ listed_zero in omega arith)
 
-  pub says_blocks : g.number ≡ 7 → ConcludesFor b ss faults out lent (ordered (Faulty 7 g.count) 0) faults' out lent
+  says_blocks : g.number ≡ 7 → ConcludesFor b ss faults out lent (Err (ModelFaults g.count)) faults' out lent
   says_blocks e = go grouped
     where
-      go : Grouped → ConcludesFor b ss faults out lent (ordered (Faulty 7 g.count) 0) faults' out lent
+      go : Grouped → ConcludesFor b ss faults out lent (Err (ModelFaults g.count)) faults' out lent
       go (over t n f) = absurd (omega arith)
       go (flawed f fs t m n k l) = rw (t, m, k, l)
       go (sound t m q) = absurd
           (let z : g.number ≡ 0 = ap (λ (o : GroupOutcome). o.grouping.number) q ∙ listed_zero in omega arith)
 
-  -- neither number: the units are listed, the fault list untouched
-  module _ (not_six : g.number ≡ 6 → ⊥) (not_seven : g.number ≡ 7 → ⊥) where
+  -- the arrays fit
+  pub never_unfit : answer ≡ Err Unfit → ⊥
+  never_unfit q = go grouped (ap (λ (r : Result ℕ Unready). (grouping_in r).number) q)
+    where
+      go : Grouped → g.number ≡ 9 → ⊥
+      go (over t n f) e = omega arith
+      go (flawed f fs t m n k l) e = omega arith
+      go (sound t m z) e =
+          let y : g.number ≡ 0 = ap (λ (o : GroupOutcome). o.grouping.number) z ∙ listed_zero in omega arith
+
+  -- so each refusal is the text's
+  pub says_refused : (e : Unready) → answer ≡ Err e
+      → ConcludesFor b ss faults out lent (Err (refusal_from e)) faults' out lent
+  says_refused OverMany q = says_six (ap (λ (r : Result ℕ Unready). (grouping_in r).number) q)
+  says_refused (Faults k) q =
+      subst (λ (n : ℕ). ConcludesFor b ss faults out lent (Err (ModelFaults n)) faults' out lent)
+      (ap (λ (r : Result ℕ Unready). (grouping_in r).count) q)
+      (says_blocks (ap (λ (r : Result ℕ Unready). (grouping_in r).number) q))
+  says_refused Unfit q = absurd (never_unfit q)
+
+  -- no refusal: the units, n of them, are listed, the fault list untouched
+  module _ {n : ℕ} (done : answer ≡ Ok n) where
+    none : g.number ≡ 0
+    none = ap (λ (r : Result ℕ Unready). (grouping_in r).number) done
+
     clear : (many ≡ false) × (block_faults ss ≡ []) × (reached ≡ listed)
     clear = go grouped
       where
         go : Grouped → (many ≡ false) × (block_faults ss ≡ []) × (reached ≡ listed)
-        go (over t n f) = absurd (not_six n)
-        go (flawed f fs t m n k l) = absurd (not_seven n)
+        go (over t m f) = absurd (omega (arith, none, m))
+        go (flawed f fs t m o k l) = absurd (omega (arith, none, o))
         go (sound t m q) = (t, m, q)
 
     unblocked : block_faults ss ≡ []
@@ -131,12 +160,13 @@ module _ {lines bounds kinds args used faults : List ℕ} (ready : ArraysReady l
     after : UnitArrays
     after = with_units lines bounds kinds unitless
 
-    units_as : (g.units ≡ length us) × (kinds' ≡ rewritten_kinds (length lines) bounds kinds args)
+    units_as : (n ≡ length us) × (kinds' ≡ rewritten_kinds (length lines) bounds kinds args)
         × (faults' ≡ faults) × (unit_arrays ulines ubounds firsts ≡ after)
     unfolding united after
     units_as =
-        let q = clear.2 in (
-          ap (λ (o : GroupOutcome). o.grouping.units) q
+        let q = clear.2 in
+        let units = ap (λ (r : Result ℕ Unready). (grouping_in r).units) done in (
+          sym units ∙ ap (λ (o : GroupOutcome). o.grouping.units) q
               ∙ units_counted ready.laid ready.headed (shaped_text ss unblocked),
           ap (λ (o : GroupOutcome). o.kinds) q,
           ap (λ (o : GroupOutcome). o.faults) q,
@@ -148,11 +178,11 @@ module _ {lines bounds kinds args used faults : List ℕ} (ready : ArraysReady l
     unfolding group_fit
     few_statements = leb-true _ _ (and_true (leb (length lines) most_statements) _ ready.fits).0
 
-    pub units_fit : g.units ≤ most_statements
+    pub units_fit : n ≤ most_statements
     units_fit =
-        let n : length lines ≡ length ss = ap length ready.laid.lines_held ∙ length-map ss
+        let same : length lines ≡ length ss = ap length ready.laid.lines_held ∙ length-map ss
         (λ (s : Numbered). s.line) in
-        omega (arith, units_as.0, stated_many us, stated_few ss, n, few_statements)
+        omega (arith, units_as.0, stated_many us, stated_few ss, same, few_statements)
 
     long_lines : length ulines ≡ most_statements + 1
     unfolding after
@@ -175,18 +205,18 @@ module _ {lines bounds kinds args used faults : List ℕ} (ready : ArraysReady l
         ∙ length-sets {A = ℕ} (replicate (most_statements + 1) 0) 0 (firsts_in (length lines) bounds kinds)
         ∙ length-replicate {A = ℕ} (most_statements + 1) 0
 
-    pub lines_room : g.units ≤ length ulines
+    pub lines_room : n ≤ length ulines
     lines_room = omega (arith, units_fit, long_lines)
 
-    pub bounds_room : g.units + 1 ≤ length ubounds
+    pub bounds_room : n + 1 ≤ length ubounds
     bounds_room = omega (arith, units_fit, long_bounds)
 
-    pub firsts_room : g.units + 1 ≤ length firsts
+    pub firsts_room : n + 1 ≤ length firsts
     firsts_room = omega (arith, units_fit, long_firsts)
 
     -- they are laid out
-    units_laid : UnitsLaid us kinds' args lines bounds (take g.units ulines) (take (g.units + 1) ubounds)
-        (take (g.units + 1) firsts)
+    units_laid : UnitsLaid us kinds' args lines bounds (take n ulines) (take (n + 1) ubounds)
+        (take (n + 1) firsts)
     unfolding after
     units_laid =
         let a = units_as.3 in
@@ -227,8 +257,8 @@ module _ {lines bounds kinds args used faults : List ℕ} (ready : ArraysReady l
         (leb-true _ _ c.0, leb-true _ _ e.0)
 
     -- THE UNITS are ready for their model
-    pub units_ready : UnitsReady lines bounds (take g.units ulines) (take (g.units + 1) ubounds)
-        (take (g.units + 1) firsts) kinds' args used faults'
+    pub units_ready : UnitsReady lines bounds (take n ulines) (take (n + 1) ubounds)
+        (take (n + 1) firsts) kinds' args used faults'
     units_ready =
         let few = ltb-false most_definitions (length (settings ss)) clear.0 in
         record {
@@ -244,9 +274,9 @@ module _ {lines bounds kinds args used faults : List ℕ} (ready : ArraysReady l
         }
 
     -- and the verdict is that on their model
-    pub says_units : (r : Ordered) {f'' out' lent' : List ℕ}
-        → ((s : UnitsReady lines bounds (take g.units ulines) (take (g.units + 1) ubounds)
-        (take (g.units + 1) firsts) kinds' args used faults')
+    pub says_units : (r : Result Ordered Refusal) {f'' out' lent' : List ℕ}
+        → ((s : UnitsReady lines bounds (take n ulines) (take (n + 1) ubounds)
+        (take (n + 1) firsts) kinds' args used faults')
         → UnitsConcludeFor b s.units faults' out lent r f'' out' lent')
         → ConcludesFor b ss faults out lent r f'' out' lent'
     unfolding units_ready

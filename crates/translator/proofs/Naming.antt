@@ -8,6 +8,7 @@ use borrow.Author.Tests.{leb-true}
 use lib.Dec.{ltb}
 use lib.ListN.{length, take, length-map}
 use lib.Seq.{sets, length-sets, take_all}
+use Rattle.std.specs.Prelude.{Option, None, Some, Result, Ok, Err}
 use Rattle.limits.specs.Limits.{most_definitions, most_records, record_bytes, program_room, roster_bytes}
 use Rattle.laws.proofs.Sets.{sets_back}
 use Rattle.records.specs.Record.{Rec}
@@ -20,7 +21,8 @@ use Rattle.model.specs.Faults.{model_faults, order_of}
 use Rattle.model.specs.Text.{text_units}
 use Rattle.model.specs.Plan.{lent as arrays}
 use Rattle.model.specs.Contract.{Plans}
-use Rattle.model.specs.declared.answer.Plan.{Plan}
+use Rattle.model.specs.declared.answer.Counts.{Counts}
+use Rattle.blocks.specs.declared.answer.Refusal.{Refusal as Unready}
 use Rattle.program.specs.Program.{program}
 use Rattle.program.specs.Roster.{Entry, entry_for, entries_from, roster}
 use Rattle.program.specs.Written.{record_count, entries_in}
@@ -28,45 +30,46 @@ use Rattle.program.specs.Contract.{PutsRoster}
 use Rattle.program.proofs.WrittenMeans.{count_meant}
 use Rattle.program.proofs.RosterFilled.{length_entries}
 use Rattle.program.proofs.RosterMeans.{entries_meant}
+use Rattle.translator.specs.declared.Refusal.{Refusal}
+use Rattle.translator.specs.declared.Refusal.TheVariants.{NoRoom, NoRosterRoom}
 use Rattle.translator.specs.declared.Ordered.{Ordered}
-use Rattle.translator.specs.declared.room.Tried.{Tried}
-use Rattle.translator.specs.declared.Verdict.TheVariants.{Refused, Translated}
-use Rattle.translator.specs.Contract.{ordered, OrderedReply, ordered_reply}
+use Rattle.translator.specs.Contract.{OrderedReply, ordered_reply}
 use Rattle.translator.specs.Verdict.{refused, translated, if_faults, programmed, modelled, decided}
-use Rattle.translator.specs.Working.{asks_names, unfilled, UnitsReady, reply_for, UnitsConclude, NamesWritten}
+use Rattle.translator.specs.Working.{ordered_as, asks_names, unfilled, UnitsReady, reply_for, UnitsConclude, NamesWritten}
 use Rattle.translator.specs.Working.{UnitsConcludeFor, Concludes, ConcludesFor, Decides, DecidesFor, Tries, TriesFor}
 use Rattle.translator.proofs.Verdicts.{reply_program}
 use Rattle.translator.proofs.Writing.{clean_plan}
 
 -- where the program is asked for
-pub concludes_program : (us : List TextUnit) (f p o : List ℕ) {r : Ordered} {f' p' o' : List ℕ}
+pub concludes_program : (us : List TextUnit) (f p o : List ℕ) (r : Result Ordered Refusal) {f' p' o' : List ℕ}
     → UnitsConclude us f p o r f' p' o'
     → UnitsConcludeFor false us f p o r f' p' o'
-concludes_program us f p o e =
+concludes_program us f p o r e =
     e ∙ sym (reply_program (if_faults 7 (model_faults us) (programmed (length p) us)) (definitions us) f p o)
 
 -- and there these say what those without `For` say
-pub plain_units : (us : List TextUnit) (f p o : List ℕ) {r : Ordered} {f' p' o' : List ℕ}
+pub plain_units : (us : List TextUnit) (f p o : List ℕ) (r : Result Ordered Refusal) {f' p' o' : List ℕ}
     → UnitsConcludeFor false us f p o r f' p' o'
     → UnitsConclude us f p o r f' p' o'
-plain_units us f p o e =
+plain_units us f p o r e =
     e ∙ reply_program (if_faults 7 (model_faults us) (programmed (length p) us)) (definitions us) f p o
 
-pub plain_statements : (ss : List Numbered) (f p o : List ℕ) {r : Ordered} {f' p' o' : List ℕ}
+pub plain_statements : (ss : List Numbered) (f p o : List ℕ) (r : Result Ordered Refusal) {f' p' o' : List ℕ}
     → ConcludesFor false ss f p o r f' p' o'
     → Concludes ss f p o r f' p' o'
-plain_statements ss f p o e = e ∙ reply_program (modelled (length p) ss) (definitions (units_of ss)) f p o
+plain_statements ss f p o r e = e ∙ reply_program (modelled (length p) ss) (definitions (units_of ss)) f p o
 
-pub plain_text : (text f p o : List ℕ) {r : Ordered} {f' p' o' : List ℕ}
+pub plain_text : (text f p o : List ℕ) (r : Result Ordered Refusal) {f' p' o' : List ℕ}
     → DecidesFor false text f p o r f' p' o'
     → Decides text f p o r f' p' o'
-plain_text text f p o e =
+plain_text text f p o r e =
     e ∙ reply_program (decided (length p) (sheet_of text)) (definitions (text_units text)) f p o
 
-pub plain_tries : (text f p o : List ℕ) {k : ℕ} {r : Tried} {f' p' o' : List ℕ}
+pub plain_tries : (text f p o : List ℕ) (k : ℕ) (r : Option (Result Ordered Refusal)) (f' p' o' : List ℕ)
     → TriesFor false text k f p o r f' p' o'
     → Tries text k f p o r f' p' o'
-plain_tries text f p o t = record { decides = λ e. plain_text text f p o (t.decides e); full = t.full }
+plain_tries text f p o k (Some r) f' p' o' t = plain_text text f p o r t
+plain_tries text f p o k None f' p' o' t = t
 
 -- ---- where names are asked for, and entered in the rows that are lent
 module _ {lines bounds ulines ubounds firsts kinds args used faults : List ℕ}
@@ -117,14 +120,14 @@ module _ {lines bounds ulines ubounds firsts kinds args used faults : List ℕ}
       (sets_back rows₀ 0 (roster ds) (omega (arith, roster_long, room, entered_few)))
 
   -- ---- the model is sound: what is written is what is asked for
-  module _ {p : Plan} {args' used' faults' places equated order : List ℕ}
-      (plans : Plans lines bounds ulines ubounds kinds args used faults unfilled p args' used' faults'
-      (arrays places equated order)) (out lent : List ℕ) (not_seven : p.number ≡ 7 → ⊥) where
+  module _ (answer : Result Counts Unready) {args' used' faults' places equated order : List ℕ}
+      (plans : Plans lines bounds ulines ubounds kinds args used faults unfilled answer args' used' faults'
+      (arrays places equated order)) (out lent : List ℕ) {p : Counts} (done : answer ≡ Ok p) where
     clean : model_faults of ≡ []
-    clean = (clean_plan ready plans out lent not_seven).0
+    clean = (clean_plan ready answer plans out lent done).0
 
     kept : faults' ≡ faults
-    kept = (clean_plan ready plans out lent not_seven).1
+    kept = (clean_plan ready answer plans out lent done).1
 
     abbrev recs : List Rec
     recs = program of (order_of of)
@@ -141,26 +144,26 @@ module _ {lines bounds ulines ubounds firsts kinds args used faults : List ℕ}
 
     -- with the fault list and the order as lent
     abbrev lift : OrderedReply → OrderedReply
-    lift x = ordered_reply x.answer faults x.program lent
+    lift x = record { answer = x.answer; units = x.units; faults = faults; program = x.program; order = lent }
 
     -- by the room, and by the records
     by_room : (b : Bool)
-        → lift (cond b (ordered_reply (ordered (Refused 10) 0) [] out [])
-        (ordered_reply (ordered (Translated (length ds)) 0) [] (sets out 0 (roster ds)) []))
-        ≡ cond b (ordered_reply (ordered (Refused 10) 0) faults out lent)
-        (ordered_reply (ordered (Translated (length ds)) 0) faults (sets out 0 (roster ds)) lent)
+        → lift (cond b (ordered_reply (Err NoRosterRoom) [] out [])
+        (ordered_reply (ordered_as (length ds) 0) [] (sets out 0 (roster ds)) []))
+        ≡ cond b (ordered_reply (Err NoRosterRoom) faults out lent)
+        (ordered_reply (ordered_as (length ds) 0) faults (sets out 0 (roster ds)) lent)
     by_room true = refl
     by_room false = refl
 
     by_records : (a : Bool) (ls : List ℕ)
-        → lift (cond a (ordered_reply (ordered (Refused 8) 0) [] out [])
-        (cond (ltb (length out) (roster_bytes * length ds)) (ordered_reply (ordered (Refused 10) 0) [] out [])
-        (ordered_reply (ordered (Translated (length ds)) 0) [] (sets out 0 (roster ds)) [])))
+        → lift (cond a (ordered_reply (Err NoRoom) [] out [])
+        (cond (ltb (length out) (roster_bytes * length ds)) (ordered_reply (Err NoRosterRoom) [] out [])
+        (ordered_reply (ordered_as (length ds) 0) [] (sets out 0 (roster ds)) [])))
         ≡ reply_for (cond a (refused 8) (translated recs ls)) true ds faults out lent
     by_records true ls = refl
     by_records false ls = by_room (ltb (length out) (roster_bytes * length ds))
 
-    pub says_names : (r : Ordered) {out' : List ℕ} → NamesWritten rows n kinds out r out'
+    pub says_names : (r : Result Ordered Refusal) {out' : List ℕ} → NamesWritten rows n kinds out r out'
         → UnitsConcludeFor true of faults out lent r faults' out' lent
     unfolding over
     says_names r w =

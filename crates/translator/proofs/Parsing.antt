@@ -9,12 +9,12 @@ use borrow.Author.Tests.{eq-eqb, le-leb, lt-ltb, le-ltb}
 use lib.Dec.{ltb}
 use lib.ListN.{length, take, set, length-map}
 use lib.Seq.{sets, length-sets, take-set-le}
+use Rattle.std.specs.Prelude.{Result, Err}
 use Rattle.limits.specs.Limits.{levels}
 use Rattle.laws.proofs.Tests.{lt_or_ge}
 use Rattle.deck.specs.Lines.{Line}
 use Rattle.deck.specs.Joined.{joined}
 use Rattle.deck.specs.Faults.{Flaw, none, flaw, size_flaw}
-use Rattle.deck.specs.declared.Place.{Place}
 use Rattle.deck.specs.declared.Place.TheVariants.{AtStart, AtToken, AtEnd}
 use Rattle.tokens.specs.Held.{held_row}
 use Rattle.tokens.specs.Row.{Placed, Close, all_good, bad, row_of, symbols}
@@ -24,17 +24,18 @@ use Rattle.tokens.proofs.Skips.{place_of_token}
 use Rattle.drafts.specs.Tree.{Says as Statement}
 use Rattle.drafts.specs.Drafts.{Draft, drafts_of}
 use Rattle.grammar.specs.Parser.{Read, read, fault, read_row, entire, calls}
-use Rattle.grammar.specs.Contract.{ParseOutcome, parse_outcome, wrote, parsed_as, row_wrote, row_outcome, ParsesRow}
-use Rattle.grammar.specs.declared.Parsed.{Parsed}
-use Rattle.grammar.specs.declared.Parsed.TheVariants.{Done, Fault, NoRoom}
+use Rattle.grammar.specs.Contract.{ParseOutcome, parse_outcome, wrote, Parsed, Done, Fault, NoRoom, parsed_in}
+use Rattle.grammar.specs.Contract.{parsed_as}
+use Rattle.grammar.specs.Contract.{row_wrote, row_outcome, ParsesRow}
+use Rattle.grammar.specs.declared.ParseError.{ParseError}
+use Rattle.grammar.specs.declared.ParseError.TheVariants.{NoRoom as TooShort}
 use Rattle.grammar.proofs.Accepts.{written}
 use Rattle.grammar.proofs.Room.{room}
 use Rattle.sheet.specs.Sheet.{says}
 use Rattle.sheet.specs.Reader.{place_of, parsed, scanned, sized, cards_told}
 use Rattle.sheet.specs.Layout.{draft_kinds, draft_args}
-use Rattle.translator.specs.declared.Told.{Told as Answer}
-use Rattle.translator.specs.declared.Told.TheVariants.{Says, Faulty}
-use Rattle.translator.specs.Working.{TellsOf, Tells, RowRoom}
+use Rattle.translator.specs.declared.Flawed.{Flawed}
+use Rattle.translator.specs.Working.{TellsOf, Tells, RowRoom, Saying, behind, flawed, saying_in}
 
 -- what is written from a place on keeps what stands before
 take_before : (p : ℕ) (l : List ℕ) (i : ℕ) (vs : List ℕ) → p ≤ i → take p (sets l i vs) ≡ take p l
@@ -50,20 +51,20 @@ place_same s n i e =
     (⊎_elim (λ l. rw (lt-ltb i m l) (ap AtToken (sym (place_of_token s i l)))) (λ g. rw (le-ltb i m g)) (lt_or_ge i m))
 
 -- the answer here for the grammar's
-abbrev pub answer_of : List Placed → Parsed → Answer
-answer_of ps (Done q) = Says q
-answer_of ps (Fault c i) = Faulty c (place_of ps i)
-answer_of ps NoRoom = Faulty 0 AtStart
+abbrev pub answer_of : List Placed → Parsed → Saying
+answer_of ps (Done q) = behind q
+answer_of ps (Fault c i) = flawed c (place_of ps i)
+answer_of ps NoRoom = flawed 0 AtStart
 
 -- what reading a row writes
 abbrev out_of : List Placed → List Draft
 out_of ps = (entire (calls (symbols ps)) levels (symbols ps)).out
 
-module _ {ks us : List ℕ} {p : ℕ} {l u : List ℕ} (h : RowRoom ks us p l u) (r : Parsed) (l' u' : List ℕ)
+module _ {ks us : List ℕ} {p : ℕ} {l u : List ℕ} (h : RowRoom ks us p l u) (r : Result ℕ ParseError) (l' u' : List ℕ)
     (w : ParsesRow ks us l u p r l' u')
     (ps : List Placed) (held : held_row ks us ≡ symbols ps) where
   -- there is room
-  same : parse_outcome r l' u' ≡ row_wrote (symbols ps) p l u
+  same : parse_outcome (parsed_in r) l' u' ≡ row_wrote (symbols ps) p l u
   unfolding row_outcome
   same =
       w
@@ -75,7 +76,7 @@ module _ {ks us : List ℕ} {p : ℕ} {l u : List ℕ} (h : RowRoom ks us p l u)
       )
 
   -- so the answer and both buffers are those of the reading
-  replied : r ≡ parsed_as (p + length (out_of ps)) (read_row (symbols ps))
+  replied : parsed_in r ≡ parsed_as (p + length (out_of ps)) (read_row (symbols ps))
   unfolding wrote
   replied = ap (λ (z : ParseOutcome Parsed). z.reply) same
 
@@ -88,11 +89,11 @@ module _ {ks us : List ℕ} {p : ℕ} {l u : List ℕ} (h : RowRoom ks us p l u)
   args_are = ap (λ (z : ParseOutcome Parsed). z.args) same
 
   -- by what was read
-  by_read : (d : Read) → read_row (symbols ps) ≡ d → r ≡ parsed_as (p + length (out_of ps)) d
-      → TellsOf (parsed ps d) p l u (answer_of ps r) l' u'
+  by_read : (d : Read) → read_row (symbols ps) ≡ d → parsed_in r ≡ parsed_as (p + length (out_of ps)) d
+      → TellsOf (parsed ps d) p l u (answer_of ps (parsed_in r)) l' u'
   by_read (read x) e a =
       let d : out_of ps ≡ drafts_of x = written (symbols ps) x e in (
-        ap (answer_of ps) a ∙ ap (λ (ds : List Draft). Says (p + length ds)) d,
+        ap (answer_of ps) a ∙ ap (λ (ds : List Draft). behind (p + length ds)) d,
         kinds_are ∙ ap (λ (ds : List Draft). sets l p (draft_kinds ds)) d,
         args_are ∙ ap (λ (ds : List Draft). sets u p (draft_args ds)) d,
       )
@@ -102,23 +103,34 @@ module _ {ks us : List ℕ} {p : ℕ} {l u : List ℕ} (h : RowRoom ks us p l u)
     ap (take p) args_are ∙ take_before p u p (draft_args (out_of ps)) (omega arith),
   )
 
-  -- the answer and the buffers are what the row tells
-  telling : Tells (parsed ps (read_row (symbols ps))) p l u (answer_of ps r) l' u'
-  telling =
+  -- an answer that is the grammar's here, and the buffers, are what the row tells
+  pub parsed_tells : (a : Result ℕ Flawed) → saying_in a ≡ answer_of ps (parsed_in r)
+      → Tells (parsed ps (read_row (symbols ps))) p l u a l' u'
+  parsed_tells a e =
       record {
         long_kinds = ap length kinds_are ∙ length-sets l p (draft_kinds (out_of ps));
         long_args = ap length args_are ∙ length-sets u p (draft_args (out_of ps));
-        by_told = by_read (read_row (symbols ps)) refl replied;
+        by_told = rw e (by_read (read_row (symbols ps)) refl replied);
       }
 
-  -- the same by the answer's case
-  pub parsed_tells : {d : Parsed} → r ≡ d → Tells (parsed ps (read_row (symbols ps))) p l u (answer_of ps d) l' u'
-  parsed_tells e = rw e at telling
-
-  -- of a fault, with where it is
-  pub parsed_faulty : {c i : ℕ} {q : Place} → r ≡ Fault c i → q ≡ place_of ps i
-      → Tells (parsed ps (read_row (symbols ps))) p l u (Faulty c q) l' u'
-  parsed_faulty e f = rw f (parsed_tells e)
+-- a row that has room is parsed, or misread
+pub never_unparsed : {ks us : List ℕ} {p : ℕ} {l u : List ℕ} → RowRoom ks us p l u → (r : Result ℕ ParseError)
+    → (l' u' : List ℕ) → ParsesRow ks us l u p r l' u' → r ≡ Err TooShort → ⊥
+unfolding row_outcome wrote
+never_unparsed {ks} {us} {p} {l} {u} h r l' u' w e =
+    let roomed : parse_outcome (parsed_in r) l' u' ≡ row_wrote (held_row ks us) p l u =
+    w
+    ∙ rw (
+      eq-eqb (length us) (length ks) h.even,
+      le-leb (p + length ks) (length l) h.room_kinds,
+      le-leb (p + length ks) (length u) h.room_args,
+    ) in
+    let none : parsed_in r ≡ NoRoom = rw e in
+    go _ (read_row (held_row ks us)) (sym none ∙ ap (λ (z : ParseOutcome Parsed). z.reply) roomed)
+  where
+    go : (q : ℕ) (d : Read) → NoRoom ≡ parsed_as q d → ⊥
+    go q (read x) z = let y : ◌≡◌ {A = ℕ} 0 1 = cc in omega arith
+    go q (fault c i) z = let y : ◌≡◌ {A = ℕ} 0 1 = cc in omega arith
 
 -- ---- how many drafts there are
 

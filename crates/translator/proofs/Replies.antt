@@ -10,6 +10,7 @@ use borrow.Author.Tests.{ltb-false}
 use lib.Dec.{ltb}
 use lib.ListN.{length, take}
 use lib.Seq.{sets}
+use Rattle.std.specs.Prelude.{Result}
 use Rattle.laws.proofs.Tests.{cond_ind}
 use Rattle.laws.proofs.Bools.{or_false}
 use Rattle.laws.proofs.Sets.{sets_back}
@@ -18,7 +19,7 @@ use Rattle.sheet.specs.Sheet.{Fault, fault_list}
 use Rattle.sheet.specs.Reader.{faults_of, Faulted}
 use Rattle.sheet.proofs.Entries.{list_length}
 use Rattle.records.specs.Record.{Rec, program_bytes}
-use Rattle.translator.specs.declared.Verdict.{Verdict}
+use Rattle.translator.specs.declared.Refusal.{Refusal}
 use Rattle.translator.specs.Verdict.{Decision, refused, faulty, translated, fitted, verdict_of, number_of}
 use Rattle.translator.specs.Verdict.{program_after, Translation, translation_of, translation}
 use Rattle.translator.specs.Contract.{number_in, Reply, reply, reply_of, Translates}
@@ -26,11 +27,11 @@ use Rattle.translator.specs.Refusals.{Admitted}
 use Rattle.translator.specs.Replies.{Answered, Programmed, Unprogrammed, NoProgram, Convicts}
 use Rattle.translator.proofs.Counted.{few}
 use Rattle.records.proofs.ReadBack.{length_program}
-use Rattle.translator.proofs.Verdicts.{by_number}
+use Rattle.translator.proofs.Verdicts.{by_number, verdict_whole}
 use Rattle.translator.proofs.Given.{is_five, faulted_ind}
 
 -- ---- of an outcome that the contract allows
-module _ (text f p f' p' : List ℕ) (r : Verdict) (t : Translates text f p r f' p') where
+module _ (text f p f' p' : List ℕ) (r : Result ℕ Refusal) (t : Translates text f p r f' p') where
   -- the reply is that to the text's verdict
   by_verdict : (v : Decision) → verdict_of text (length f) (length p) ≡ v → reply r f' p' ≡ reply_of v f p
   by_verdict v e = t ∙ ap (λ (x : Decision). reply_of x f p) e
@@ -57,7 +58,7 @@ module _ (text f p f' p' : List ℕ) (r : Verdict) (t : Translates text f p r f'
       let over = ltb most_records (length rs) || ltb (length p / record_bytes) (length rs) in
       cond_ind (λ (v : Decision). reply r f' p' ≡ reply_of v f p → Programmed rs r p p') over (refused 8)
       (translated rs ls)
-      (λ _ o. record { answer = inr (ap (λ (z : Reply). z.answer) o, ap (λ (z : Reply). z.program) o) })
+      (λ _ o. record { answer = inr (verdict_whole (ap (λ (z : Reply). z.answer) o), ap (λ (z : Reply). z.program) o) })
       (λ n o.
       let none = or_false (ltb most_records (length rs)) (ltb (length p / record_bytes) (length rs)) n in
       let fits : length rs ≤ length p / record_bytes = ltb-false (length p / record_bytes) (length rs) none.1 in
@@ -66,7 +67,7 @@ module _ (text f p f' p' : List ℕ) (r : Verdict) (t : Translates text f p r f'
       let end : p' ≡ sets p 0 (program_bytes rs) = ap (λ (z : Reply). z.program) o in
       let back : take (length rs * record_bytes) p' ≡ program_bytes rs =
       rw (end, ← count) (sets_back p 0 (program_bytes rs) (omega arith)) in
-      record { answer = inl (ap (λ (z : Reply). z.answer) o, back) })
+      record { answer = inl (verdict_whole (ap (λ (z : Reply). z.answer) o), back) })
       (by_verdict (fitted (length p) rs ls) e)
 
 -- ---- of a text with a statement fault
@@ -88,10 +89,10 @@ unfolding translation
 convicts text f p room ok w = ap (λ (v : Decision). translation_of v f p) (is_five text (length f) (length p) room ok w)
 
 -- WHAT A CALLER HAS of it, whatever was lent: no program
-pub unprogrammed : (text f p f' p' : List ℕ) (r : Verdict) → Faulted text → Translates text f p r f' p'
+pub unprogrammed : (text f p f' p' : List ℕ) (r : Result ℕ Refusal) → Faulted text → Translates text f p r f' p'
     → Unprogrammed r p p'
 unprogrammed text f p f' p' r w t =
-    let o = by_number text f p t in
+    let o = by_number text f p r t in
     let none = no_program text f p w in
     record {
       untouched = ap (λ (z : Translation). z.program) o ∙ none.as_lent;
@@ -99,7 +100,7 @@ unprogrammed text f p f' p' r w t =
     }
 
 -- .. and with room, if it is not refused for size: 5 and the list in full
-pub answered : (text f p f' p' : List ℕ) (r : Verdict) → fault_room ≤ length f
+pub answered : (text f p f' p' : List ℕ) (r : Result ℕ Refusal) → fault_room ≤ length f
     → Admitted (verdict_of text (length f) (length p)) → Faulted text → Translates text f p r f' p'
     → Answered 5 (faults_of text) r f' p p'
 answered text f p f' p' r room ok w t =

@@ -1,19 +1,18 @@
 -- From the reading to the verdict: a statement fault stands, or the model decides; in arrays that have room.
 use Prim.Native.Nat.{ℕ, ◌+◌, ◌*◌, ◌≤◌, ◌<◌}
 use mathlib.Core.Path.{◌≡◌, refl, sym, ap, ◌∙◌}
-use mathlib.Core.Bool.{Bool, true, false}
+use mathlib.Core.Bool.{Bool, false}
 use mathlib.Core.List.{List, [], ◌∷◌}
-use mathlib.Core.Logic.{⊎_elim}
 use native.Mathlib.Omega.{arith}
 use native.Mathlib.Numerals.{add-one}
 use borrow.Author.Tests.{lt-ltb, le-ltb}
 use lib.Dec.{ltb}
 use lib.ListN.{length, take, replicate, length-map, length-take}
 use lib.Seq.{sets, length-sets}
+use Rattle.std.specs.Prelude.{Option, None, Some, IsSome, Result, Ok, Err}
 use Rattle.limits.specs.Limits.{most_statements, fault_room, fault_bytes}
 use Rattle.laws.specs.Lists.{concat_map}
 use Rattle.laws.proofs.Sets.{sets_back}
-use Rattle.laws.proofs.Tests.{bool_cases}
 use Rattle.deck.specs.Lines.{lines_of}
 use Rattle.deck.proofs.Sizing.{statements_le, lines_le}
 use Rattle.drafts.specs.Drafts.{Draft}
@@ -21,16 +20,16 @@ use Rattle.sheet.specs.Sheet.{Numbered, Fault, said, statement_faults, fault_lis
 use Rattle.sheet.specs.Reader.{sheet_of}
 use Rattle.sheet.specs.Layout.{drafts_in, Laid}
 use Rattle.sheet.proofs.Entries.{list_length}
+use Rattle.translator.specs.declared.Refusal.{Refusal}
+use Rattle.translator.specs.declared.Refusal.TheVariants.{ManyStatements, StatementFaults}
+use Rattle.translator.specs.declared.Short.{Short}
+use Rattle.translator.specs.declared.Short.TheVariants.{NoRoom as Roomless, TooMany}
 use Rattle.translator.specs.declared.SoFar.{SoFar}
-use Rattle.translator.specs.declared.HowFar.{HowFar}
-use Rattle.translator.specs.declared.HowFar.TheVariants.{Through}
 use Rattle.translator.specs.declared.Ordered.{Ordered}
-use Rattle.translator.specs.declared.room.Tried.{Tried}
-use Rattle.translator.specs.declared.Verdict.TheVariants.{Refused, Faulty}
-use Rattle.translator.specs.Contract.{ordered, ordered_reply}
+use Rattle.translator.specs.Contract.{ordered_reply}
 use Rattle.translator.specs.Verdict.{if_faults, modelled, decided_within}
-use Rattle.translator.specs.Working.{ReadThrough, ReadFar, AllRead, ArraysReady, ConcludesFor, Taken, Room, Decides}
-use Rattle.translator.specs.Working.{DecidesFor}
+use Rattle.translator.specs.Working.{ReadThrough, CameShort, ReadFar, AllRead, ArraysReady, ConcludesFor, Taken, Room}
+use Rattle.translator.specs.Working.{Decides, DecidesFor}
 use Rattle.translator.specs.Working.{TriesFor, room_for, reply_for}
 use Rattle.model.specs.Definitions.{definitions}
 use Rattle.model.specs.Text.{text_units}
@@ -47,12 +46,12 @@ module _ {text list₀ : List ℕ} (taken : Taken text list₀) (not_many : leng
 
   -- 5: some fault stands, and the list is written
   pub says_five : (b : Bool) (p o : List ℕ) → 0 < n.faults
-      → DecidesFor b text list₀ p o (ordered (Faulty 5 n.faults) 0) list p o
+      → DecidesFor b text list₀ p o (Err (StatementFaults n.faults)) list p o
   unfolding decided_within
   says_five b p o h = rw (few, r.faults, r.listed) (go (statement_faults (sheet_of text)) (rw (← r.faults) h))
     where
       go : (fs : List Fault) → 0 < length fs
-          → ordered_reply (ordered (Faulty 5 (length fs)) 0) (sets list₀ 0 (fault_list fs)) p o
+          → ordered_reply (Err (StatementFaults (length fs))) (sets list₀ 0 (fault_list fs)) p o
           ≡ reply_for (if_faults 5 fs (modelled (room_for b (length p)) (said (sheet_of text)))) b
           (definitions (text_units text)) list₀ p o
       go [] h = absurd (omega arith)
@@ -124,7 +123,7 @@ module _ {text list₀ : List ℕ} (taken : Taken text list₀) (not_many : leng
       }
 
   -- the model decides
-  pub says_model : n.faults ≤ 0 → (b : Bool) (v : Ordered) (p o : List ℕ) {used f' p' o' : List ℕ}
+  pub says_model : n.faults ≤ 0 → (b : Bool) (v : Result Ordered Refusal) (p o : List ℕ) {used f' p' o' : List ℕ}
       → n.drafts ≤ length used
       → ((a : ArraysReady (take n.statements lines) (take (n.statements + 1) bounds) (take n.drafts kinds)
       (take n.drafts args) used list) → ConcludesFor b a.statements list p o v f' p' o')
@@ -149,11 +148,17 @@ pub own_list : {text list : List ℕ} → Taken text list → Taken text (replic
 own_list taken = record { brief = taken.brief; list_room = omega arith }
 
 -- ---- reading came through
-module _ {text list₀ kinds args lines bounds list : List ℕ} {r : HowFar}
+module _ {text list₀ kinds args lines bounds list : List ℕ} {r : Result SoFar Short}
     (w : ReadFar text list₀ r kinds args lines bounds list) where
-  pub came_through : {n : SoFar} → r ≡ Through n
+  pub came_through : {n : SoFar} → r ≡ Ok n
       → ReadThrough text list₀ n kinds args lines bounds list × (length (sheet_of text) ≤ most_statements)
   came_through e = rw e at w
+
+-- of a text with a place for each byte, and no more statements than there may be, it does
+pub never_short : (e : Short) (text : List ℕ) (places : ℕ) → CameShort e text places → length text ≤ places
+    → length (sheet_of text) ≤ most_statements → ⊥
+never_short Roomless text places w all few = omega (arith, w)
+never_short TooMany text places w all few = omega (arith, w)
 
 -- then there is all that the verdict on it asks, with so much room for what is used
 unfoldable pub read_so : {text list₀ kinds args used lines bounds list : List ℕ} {n : SoFar} → Taken text list₀
@@ -174,12 +179,12 @@ read_so {text} {list₀} taken few r uses =
 
 -- 4: nothing is written
 pub says_four : (text f p o : List ℕ) → most_statements < length (sheet_of text)
-    → Decides text f p o (ordered (Refused 4) 0) f p o
+    → Decides text f p o (Err ManyStatements) f p o
 unfolding decided_within
 says_four text f p o h = rw (lt-ltb most_statements (length (sheet_of text)) h)
 
 pub says_four_for : (b : Bool) (text f p o : List ℕ) → most_statements < length (sheet_of text)
-    → DecidesFor b text f p o (ordered (Refused 4) 0) f p o
+    → DecidesFor b text f p o (Err ManyStatements) f p o
 unfolding decided_within
 says_four_for b text f p o h = rw (lt-ltb most_statements (length (sheet_of text)) h)
 
@@ -228,19 +233,20 @@ module _ {text own₀ kinds args lines bounds own : List ℕ} {n : SoFar}
 -- ---- a room that was too small
 
 -- with a place for each byte it is not
-pub never_full : {b : Bool} {text f p o f' p' o' : List ℕ} {k : ℕ} {r : Tried} → TriesFor b text k f p o r f' p' o'
+pub never_full : (b : Bool) (text f p o : List ℕ) (k : ℕ) (r : Option (Result Ordered Refusal)) (f' p' o' : List ℕ)
+    → TriesFor b text k f p o r f' p' o'
     → length text ≤ k
-    → DecidesFor b text f p o r.answer f' p' o'
-never_full {r = r} t h =
-    ⊎_elim (λ (e : r.full ≡ true). absurd (omega (arith, (t.full e).0))) (λ e. t.decides e) (bool_cases r.full)
+    → IsSome r
+never_full b text f p o k (Some r) f' p' o' t h = refl
+never_full b text f p o k None f' p' o' t h = absurd (omega (arith, t.0))
 
 -- where nothing was written, a second try decides as the first would have
-pub second_try : (text f p o : List ℕ) {f₁ p₁ o₁ f' p' o' : List ℕ} {r : Ordered} → f₁ ≡ f → p₁ ≡ p → o₁ ≡ o
-    → Decides text f₁ p₁ o₁ r f' p' o'
+pub second_try : (text f p o : List ℕ) {f₁ p₁ o₁ f' p' o' : List ℕ} (r : Result Ordered Refusal) → f₁ ≡ f → p₁ ≡ p
+    → o₁ ≡ o → Decides text f₁ p₁ o₁ r f' p' o'
     → Decides text f p o r f' p' o'
-second_try text f p o x y z d = rw (x, y, z) at d
+second_try text f p o r x y z d = rw (x, y, z) at d
 
-pub second_try_for : (b : Bool) (text f p o : List ℕ) {f₁ p₁ o₁ f' p' o' : List ℕ} {r : Ordered} → f₁ ≡ f → p₁ ≡ p
-    → o₁ ≡ o → DecidesFor b text f₁ p₁ o₁ r f' p' o'
+pub second_try_for : (b : Bool) (text f p o : List ℕ) {f₁ p₁ o₁ f' p' o' : List ℕ} (r : Result Ordered Refusal)
+    → f₁ ≡ f → p₁ ≡ p → o₁ ≡ o → DecidesFor b text f₁ p₁ o₁ r f' p' o'
     → DecidesFor b text f p o r f' p' o'
-second_try_for b text f p o x y z d = rw (x, y, z) at d
+second_try_for b text f p o r x y z d = rw (x, y, z) at d

@@ -4,16 +4,17 @@ use mathlib.Core.Path.{◌≡◌, refl, ap, ◌∙◌}
 use mathlib.Core.Bool.{Bool, true, false}
 use mathlib.Core.List.{List, ◌∷◌, ◌++◌, map}
 use native.Mathlib.Omega.{arith}
-use lib.ListN.{length, replicate, length-append, length-set}
+use lib.ListN.{length, length-append, length-set}
 use lib.Seq.{length-sets}
+use Rattle.std.specs.Prelude.{Some, None}
 use Rattle.limits.specs.Limits.{most_statements}
 use Rattle.deck.specs.Joined.{joined}
 use Rattle.deck.specs.Reading.{Statement as Found}
-use Rattle.deck.specs.Codes.{size_code, joined_room}
+use Rattle.deck.specs.Codes.{size_code}
 use Rattle.deck.specs.Reports.{report}
 use Rattle.deck.specs.Next.{lines_at, cards_at, statements_from, found_from}
 use Rattle.deck.specs.declared.Cursor.{Cursor}
-use Rattle.deck.specs.declared.Found.TheVariants.{Statement, End}
+use Rattle.deck.specs.declared.Statement.{Statement}
 use Rattle.deck.specs.Walks.{Walk}
 use Rattle.deck.proofs.Walking.{walk, walk_end}
 use Rattle.sheet.specs.Sheet.{Told, says, faulty}
@@ -65,56 +66,52 @@ module _ {text kinds₀ args₀ lines₀ bounds₀ list₀ kinds args lines boun
   going_list = ap length g.progress.listed ∙ simp length-sets
 
   -- the end: all is read, and that is no more than there may be
-  pub going_last : found_from text c ≡ End
+  pub going_last : found_from text c ≡ None
       → ReadThrough text list₀ n kinds args lines bounds list × (length (sheet_of text) ≤ most_statements)
   going_last e =
       let all = progress_last g.progress (walk_end text c g.progress.lawful e) in
       (all, omega (arith, g.few, all.statements, all.faults, counts (sheet_of text)))
 
-  module _ {f s m k : ℕ} {d long : Bool} {nx : Cursor} (e : found_from text c ≡ Statement f s m k d long nx) where
+  module _ {x : Statement} (e : found_from text c ≡ Some x) where
     -- the walk over it
-    step : Walk text c f s m k d long nx
+    step : Walk text c x.first x.start x.lines x.cards x.closed x.long x.next
     step = walk text c g.progress.lawful e
 
     -- behind it fewer bytes are left
-    pub going_less : length text - nx.at < length text - c.at
+    pub going_less : length text - x.next.at < length text - c.at
     going_less = omega (arith, step.bytes, step.further)
 
     -- its joined text stands before the next cursor, and within the text
-    near : Span text c.at s m nx.at
+    near : Span text c.at x.start x.lines x.next.at
     near = span text c step
 
     -- there is one more statement than those that are read
     pub left : n.statements + n.faults < length (sheet_of text)
     left =
         let p = g.progress in
-        let one : Found = record { first = f; lines = lines_at text s m; closed = d } in
-        let all : sheet_of text ≡ p.done ++ (report told one ∷ map (report told) (statements_from text nx)) =
+        let one : Found = record { first = x.first; lines = lines_at text x.start x.lines; closed = x.closed } in
+        let all : sheet_of text ≡ p.done ++ (report told one ∷ map (report told) (statements_from text x.next)) =
         p.split ∙ ap (λ (r : List Found). p.done ++ map (report told) r) step.reads in
-        let many = length-append p.done (report told one ∷ map (report told) (statements_from text nx)) in
+        let many = length-append p.done (report told one ∷ map (report told) (statements_from text x.next)) in
         omega (arith, ap length all, many, counts p.done, p.statements, p.faults)
 
     -- its drafts have no room: the text has more bytes than there are places
-    pub going_full : length kinds < n.drafts + (nx.at - 1 - s) → length kinds < length text
+    pub going_full : length kinds < n.drafts + (x.next.at - 1 - x.start) → length kinds < length text
     going_full h = omega (arith, g.progress.short, near.within)
 
-    -- what reading it asks, if it is not one too many, with room for its drafts and two rows that have room for its
-    -- tokens
-    pub going_able : {ks us : List ℕ} → n.statements + n.faults < most_statements
-        → n.drafts + (nx.at - 1 - s) ≤ length kinds → joined_room ≤ length ks → joined_room ≤ length us
-        → Able text f s m k d long nx.at n ks us kinds args lines bounds
-    going_able more fits hk hu =
+    -- what reading it asks, if it is not one too many, with room for its drafts
+    pub going_able : n.statements + n.faults < most_statements → n.drafts + (x.next.at - 1 - x.start) ≤ length kinds
+        → Able text x n kinds args lines bounds
+    going_able more fits =
         let p = g.progress in
-        let places : n.drafts + length (joined (cards_at text s m)) ≤ length text =
+        let places : n.drafts + length (joined (cards_at text x.start x.lines)) ≤ length text =
         omega (arith, p.short, near.fewer, near.within) in
         record {
-          size = step.size;
           before =
               record {
+                size = step.size;
                 short = step.short;
-                alone = λ z one. step.alone one (closed k d long z);
-                row_kinds = λ z. omega (arith, hk, step.short z);
-                row_args = λ z. omega (arith, hu, step.short z);
+                alone = λ z one. step.alone one (closed x.cards x.closed x.long z);
                 room_kinds = omega (arith, near.fewer);
                 room_args = omega (arith, near.fewer, room.args_room, g.long_kinds, g.long_args);
               };
@@ -128,11 +125,12 @@ module _ {text kinds₀ args₀ lines₀ bounds₀ list₀ kinds args lines boun
 
     -- behind it
     pub going_next : {kinds' args' lines' bounds' list' : List ℕ} {n' : SoFar}
-        → n.statements + n.faults < most_statements → n.drafts + (nx.at - 1 - s) ≤ length kinds
-        → Adds (told (lines_at text s m) d) f n kinds args lines bounds list n' kinds' args' lines' bounds' list'
-        → Going text kinds₀ args₀ lines₀ bounds₀ list₀ kinds' args' lines' bounds' list' n' nx
+        → n.statements + n.faults < most_statements → n.drafts + (x.next.at - 1 - x.start) ≤ length kinds
+        → Adds (told (lines_at text x.start x.lines) x.closed) x.first n kinds args lines bounds list n'
+        kinds' args' lines' bounds' list'
+        → Going text kinds₀ args₀ lines₀ bounds₀ list₀ kinds' args' lines' bounds' list' n' x.next
     going_next {kinds'} {args'} {lines'} {bounds'} {list'} {n'} more fits w =
-        let both = go (told (lines_at text s m) d) refl w.by_told in
+        let both = go (told (lines_at text x.start x.lines) x.closed) refl w.by_told in
         record {
           progress = both.0;
           few = both.3;
@@ -142,17 +140,17 @@ module _ {text kinds₀ args₀ lines₀ bounds₀ list₀ kinds args lines boun
           long_bounds = both.2 ∙ g.long_bounds;
         }
       where
-        go : (t : Told Spot) → told (lines_at text s m) d ≡ t
-            → AddsOf t f n kinds args lines bounds list n' kinds' args' lines' bounds' list'
-            → Progress text list₀ nx n' kinds' args' lines' bounds' list' × (length lines' ≡ length lines)
+        go : (t : Told Spot) → told (lines_at text x.start x.lines) x.closed ≡ t
+            → AddsOf t x.first n kinds args lines bounds list n' kinds' args' lines' bounds' list'
+            → Progress text list₀ x.next n' kinds' args' lines' bounds' list' × (length lines' ≡ length lines)
             × (length bounds' ≡ length bounds) × (n'.statements + n'.faults ≤ most_statements)
-        go (says x) q (en, ek, ea, el, eb, ef) =
-            let few = drafts_few (cards_at text s m) d x (told_says (lines_at text s m) d x q) in
+        go (says y) q (en, ek, ea, el, eb, ef) =
+            let said = told_says (lines_at text x.start x.lines) x.closed y q in
+            let few = drafts_few (cards_at text x.start x.lines) x.closed y said in
             let p = g.progress in
-            let row : List ℕ = replicate joined_room 0 in
-            let a = going_able {ks = row} {us = row} more fits (omega arith) (omega arith) in
-            let on : Progress text list₀ nx _ _ _ _ _ list =
-            progress_said p step x q (omega (arith, p.short, near.from, near.joins))
+            let a = going_able more fits in
+            let on : Progress text list₀ x.next _ _ _ _ _ list =
+            progress_said p step y q (omega (arith, p.short, near.from, near.joins))
             (omega (arith, p.short, near.fewer, near.within))
             (omega (arith, a.before.room_kinds)) (omega (arith, a.before.room_args)) a.lines_room
             a.bounds_room in (
@@ -162,6 +160,6 @@ module _ {text kinds₀ args₀ lines₀ bounds₀ list₀ kinds args lines boun
               rw en (omega arith),
             )
         go (faulty code place) q (en, ek, ea, el, eb, ef) =
-            let on : Progress text list₀ nx _ kinds' args' lines bounds list' =
+            let on : Progress text list₀ x.next _ kinds' args' lines bounds list' =
             progress_faulty g.progress step code place q kinds' args' list' ek ea ef in
             (rw (en, el, eb) on, ap length el, ap length eb, rw en (omega arith))

@@ -1,14 +1,16 @@
 -- From a plan to the program: what the plan's arrays hold, and the answer of each path.
 use Prim.Native.Nat.{ℕ, ◌+◌, ◌*◌, ◌/◌, ◌≤◌}
-use mathlib.Core.Path.{◌≡◌, refl, sym, ap, ap₂, ◌∙◌}
+use mathlib.Core.Path.{◌≡◌, refl, sym, ap, ap₂, subst, ◌∙◌}
 use mathlib.Core.Bool.{Bool, true, false, ◌||◌}
 use mathlib.Core.List.{List, []}
+use mathlib.Core.Logic.{◌⊎◌, inl, inr, ⊎_elim}
 use native.Mathlib.Omega.{arith}
 use native.Mathlib.Nat.{zero-add}
 use borrow.Author.Tests.{leb-true, ltb-true, ltb-false}
 use lib.Dec.{eqb, leb, ltb}
 use lib.ListN.{length, take, replicate, length-map, length-replicate}
 use lib.Seq.{sets, length-sets, take_all}
+use Rattle.std.specs.Prelude.{Result, Ok, Err}
 use Rattle.limits.specs.Limits.{most_definitions, most_statements, most_records, record_bytes}
 use Rattle.laws.proofs.Tests.{and_true}
 use Rattle.laws.proofs.Bools.{or_false}
@@ -17,19 +19,22 @@ use Rattle.model.specs.Definitions.{definitions, unit_count}
 use Rattle.model.specs.Faults.{model_faults, order_of}
 use Rattle.model.specs.Places.{places_in, ordered_in}
 use Rattle.model.specs.Plan.{lent as arrays, PlanOutcome, plan_outcome, fit}
-use Rattle.model.specs.Contract.{Plans}
-use Rattle.model.specs.declared.answer.Plan.{Plan}
+use Rattle.model.specs.Contract.{Plans, plan_in}
+use Rattle.model.specs.declared.answer.Counts.{Counts}
+use Rattle.blocks.specs.declared.answer.Refusal.{Refusal as Unready}
+use Rattle.blocks.specs.declared.answer.Refusal.TheVariants.{ManyDefinitions as OverMany, Faults, Unfit}
 use Rattle.model.proofs.NoModelFault.{no_faults}
 use Rattle.model.proofs.PlanStages.{equated_few}
 use Rattle.model.proofs.ArraysMean.{places_meant, ordered_meant}
 use Rattle.program.specs.Written.{record_count, written_program, fitting}
+use Rattle.translator.specs.declared.Refusal.{Refusal}
+use Rattle.translator.specs.declared.Refusal.TheVariants.{ModelFaults, NoRoom}
 use Rattle.translator.specs.declared.Ordered.{Ordered}
-use Rattle.translator.specs.declared.Verdict.TheVariants.{Refused, Faulty, Translated}
-use Rattle.translator.specs.Contract.{ordered, OrderedReply, ordered_reply}
-use Rattle.translator.specs.Working.{unfilled, padded, UnitsReady, Planned, ordered_lines}
+use Rattle.translator.specs.Contract.{OrderedReply, ordered_reply}
+use Rattle.translator.specs.Working.{ordered_as, refusal_from, unfilled, padded, UnitsReady, Planned, ordered_lines}
 use Rattle.translator.specs.Working.{UnitsConclude, UnitsConcludeFor}
 use Rattle.translator.proofs.Progress.{take_sets}
-use Rattle.translator.proofs.Concluding.{Conclusion, concluded, sound_plan, all_placed}
+use Rattle.translator.proofs.Concluding.{Conclusion, flawed, sound as clean, concluded, sound_plan, all_placed}
 use Rattle.translator.proofs.Deciding.{written, handed, decides_seven, decides_sound, decides_eight}
 use Rattle.translator.proofs.Deciding.{decides_eight', decides_zero}
 use Rattle.translator.proofs.Deciding.{program_long}
@@ -45,7 +50,7 @@ length_padded : (m : ℕ) (l : List ℕ) → length (padded m l) ≡ m
 length_padded m l = length-sets (replicate m 0) 0 l ∙ length-replicate {A = ℕ} m 0
 
 -- ---- the plan of a sound model
-module _ {p : Plan} {places equated order lines bounds ulines firsts kinds args : List ℕ}
+module _ {p : Counts} {places equated order lines bounds ulines firsts kinds args : List ℕ}
     (s : Planned p places equated order lines bounds ulines firsts kinds args) where
   abbrev us : List TextUnit
   us = s.units
@@ -118,12 +123,12 @@ module _ {p : Plan} {places equated order lines bounds ulines firsts kinds args 
     where
       -- the records are too many, or too many for the room
       pub says_eight : over ≡ true → (f : List ℕ)
-          → UnitsConclude us f out lent (ordered (Refused 8) 0) f out lent
+          → UnitsConclude us f out lent (Err NoRoom) f out lent
       says_eight t f = go (ltb most_records (record_count kinds)) refl (sym tested ∙ t)
         where
           go : (b : Bool) → ltb most_records (record_count kinds) ≡ b
               → (b || ltb (length out / record_bytes) (record_count kinds)) ≡ true
-              → UnitsConclude us f out lent (ordered (Refused 8) 0) f out lent
+              → UnitsConclude us f out lent (Err NoRoom) f out lent
           go true e _ =
               decides_eight us kinds s.unresolved lines bounds ulines s.ubounds firsts s.laid [] f out lent
               s.clean (ltb-true most_records (record_count kinds) e)
@@ -179,15 +184,14 @@ module _ {p : Plan} {places equated order lines bounds ulines firsts kinds args 
             × (out' ≡ sets out 0 (fitting (length out) (written_program r₁ r₂ firsts lines bounds kinds args r₃)))
             → lent' ≡ sets lent 0 (ordered_lines r₂ ulines r₃)
             → (f : List ℕ)
-            → UnitsConclude us f out lent (ordered (Translated (n / record_bytes)) p.units) f out' lent'
+            → UnitsConclude us f out lent (ordered_as (n / record_bytes) p.units) f out' lent'
         says_zero {n} {out'} {lent'} e g f =
             let count = counted (e.0 ∙ ap length all_fits) in
             let bytes = e.1 ∙ ap (sets out 0) (all_fits ∙ written_cut e₁ e₂ e₃) in
             let lines_out = g ∙ ap (sets lent 0) handed_cut in
             let many : ℕ =
             length (handed us kinds s.unresolved lines bounds ulines s.ubounds firsts s.laid [] [] [] []) in
-            let Reply : ℕ → ℕ → List ℕ → List ℕ → OrderedReply = λ k u o l. ordered_reply
-            (ordered (Translated k) u) f o l in
+            let Reply : ℕ → ℕ → List ℕ → List ℕ → OrderedReply = λ k u o l. ordered_reply (ordered_as k u) f o l in
             ap (λ (k : ℕ). Reply k p.units out' lent') count
             ∙ ap (λ (u : ℕ). Reply (record_count kinds) u out' lent') handed_many
             ∙ ap₂ (λ (o l : List ℕ). Reply (record_count kinds) many o l) bytes lines_out
@@ -197,14 +201,14 @@ module _ {p : Plan} {places equated order lines bounds ulines firsts kinds args 
 -- ---- what is planned of units that are laid out
 module _ {lines bounds ulines ubounds firsts kinds args used faults : List ℕ}
     (ready : UnitsReady lines bounds ulines ubounds firsts kinds args used faults)
-    {p : Plan} {args' used' faults' places equated order : List ℕ}
-    (plans : Plans lines bounds ulines ubounds kinds args used faults unfilled p args' used' faults'
+    (answer : Result Counts Unready) {args' used' faults' places equated order : List ℕ}
+    (plans : Plans lines bounds ulines ubounds kinds args used faults unfilled answer args' used' faults'
     (arrays places equated order)) (out lent : List ℕ) where
   abbrev of : List TextUnit
   of = ready.units
 
   abbrev reached : PlanOutcome
-  reached = plan_outcome p args' used' faults' (arrays places equated order)
+  reached = plan_outcome (plan_in answer) args' used' faults' (arrays places equated order)
 
   conclusion : Conclusion of kinds args lines bounds ulines ubounds firsts ready.laid used faults reached
   conclusion =
@@ -220,14 +224,40 @@ module _ {lines bounds ulines ubounds firsts kinds args used faults : List ℕ}
       let c = and_true (leb (length ulines) (length lines)) _ b.1 in
       omega (arith, leb-true (length lines) most_statements a.0, leb-true (length ulines) (length lines) c.0)
 
-  pub says_seven : (b : Bool) → p.number ≡ 7
-      → UnitsConcludeFor b of faults out lent (ordered (Faulty 7 p.count) 0) faults' out lent
-  says_seven b e =
-      decides_seven of kinds args lines bounds ulines ubounds firsts ready.laid used faults out lent reached
-      conclusion b e
+  -- the arrays fit, and definitions are not too many: there are faults, or none
+  numbered : ((plan_in answer).number ≡ 7) ⊎ ((plan_in answer).number ≡ 0)
+  numbered = go conclusion
+    where
+      go : Conclusion of kinds args lines bounds ulines ubounds firsts ready.laid used faults reached
+          → ((plan_in answer).number ≡ 7) ⊎ ((plan_in answer).number ≡ 0)
+      go (flawed f fs m n k l) = inl n
+      go (clean m q) = inr (ap (λ (o : PlanOutcome). o.plan.number) q)
 
-  -- another number: the model is sound, the fault list untouched
-  module _ (not_seven : p.number ≡ 7 → ⊥) where
+  pub never_unfit : answer ≡ Err Unfit → ⊥
+  never_unfit q =
+      let nine = ap (λ (r : Result Counts Unready). (plan_in r).number) q in
+      ⊎_elim (λ e. omega (arith, nine, e)) (λ e. omega (arith, nine, e)) numbered
+
+  -- so each refusal is the text's
+  pub says_refused : (b : Bool) (e : Unready) → answer ≡ Err e
+      → UnitsConcludeFor b of faults out lent (Err (refusal_from e)) faults' out lent
+  says_refused b OverMany q =
+      let six = ap (λ (r : Result Counts Unready). (plan_in r).number) q in
+      absurd (⊎_elim (λ e. omega (arith, six, e)) (λ e. omega (arith, six, e)) numbered)
+  says_refused b (Faults k) q =
+      subst (λ (n : ℕ). UnitsConcludeFor b of faults out lent (Err (ModelFaults n)) faults' out lent)
+      (ap (λ (r : Result Counts Unready). (plan_in r).count) q)
+      (decides_seven of kinds args lines bounds ulines ubounds firsts ready.laid used faults out lent reached
+      conclusion b (ap (λ (r : Result Counts Unready). (plan_in r).number) q))
+  says_refused b Unfit q = absurd (never_unfit q)
+
+  -- no refusal: the model is sound, the fault list untouched
+  module _ {p : Counts} (done : answer ≡ Ok p) where
+    not_seven : (plan_in answer).number ≡ 7 → ⊥
+    not_seven e =
+        let none = ap (λ (r : Result Counts Unready). (plan_in r).number) done in
+        omega (arith, none, e)
+
     sound : (model_faults of ≡ [])
         × (reached ≡ sound_plan of kinds args lines bounds ulines ubounds firsts ready.laid used faults)
     sound =
@@ -249,15 +279,19 @@ module _ {lines bounds ulines ubounds firsts kinds args used faults : List ℕ}
           few = ready.few;
           clean = sound.0;
           args_resolved = ap (λ (o : PlanOutcome). o.args) e;
-          definitions_counted = ap (λ (o : PlanOutcome). o.plan.definitions) e;
+          definitions_counted =
+              sym (ap (λ (r : Result Counts Unready). (plan_in r).definitions) done)
+              ∙ ap (λ (o : PlanOutcome). o.plan.definitions) e;
           short = ulines_short;
-          units_counted = ap (λ (o : PlanOutcome). o.plan.units) e;
+          units_counted =
+              sym (ap (λ (r : Result Counts Unready). (plan_in r).units) done)
+              ∙ ap (λ (o : PlanOutcome). o.plan.units) e;
           places_held = ap (λ (o : PlanOutcome). o.arrays.places) e;
           equated_held = ap (λ (o : PlanOutcome). o.arrays.equated) e;
           order_held = ap (λ (o : PlanOutcome). o.arrays.order) e;
         }
 
-    pub says_rest : (r : Ordered) {out' lent' : List ℕ}
+    pub says_rest : (r : Result Ordered Refusal) {out' lent' : List ℕ}
         → ((s : Planned p places equated order lines bounds ulines firsts kinds args') (f : List ℕ)
         → UnitsConclude s.units f out lent r f out' lent')
         → UnitsConclude of faults out lent r faults' out' lent'

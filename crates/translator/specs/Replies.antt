@@ -1,30 +1,31 @@
 -- What a caller of the translator finds, who lent f and p: the answer r, and f' and p' in their places.
-use Rattle.std.specs.Prelude.{ℕ, ◌*◌, ◌≤◌, ◌≡◌, List, ◌⊎◌, length, take}
+use Rattle.std.specs.Prelude.{ℕ, ◌*◌, ◌≤◌, ◌≡◌, List, ◌⊎◌, Result, Ok, Err, length, take}
 use Rattle.std.proofs.lemmas.List.Edits.{sets}
 use Rattle.limits.specs.Limits.{fault_bytes, fault_room, record_bytes}
 use Rattle.sheet.specs.Sheet.{Fault, fault_list}
 use Rattle.sheet.specs.Reader.{faults_of, Faulted}
 use Rattle.records.specs.Record.{Rec, program_bytes}
-use Rattle.translator.specs.declared.Verdict.{Verdict}
-use Rattle.translator.specs.declared.Verdict.TheVariants.{Refused, Faulty, Translated}
+use Rattle.translator.specs.declared.Refusal.{Refusal}
+use Rattle.translator.specs.declared.Refusal.TheVariants.{NoRoom}
 use Rattle.translator.specs.Verdict.{verdict_of, translation}
+use Rattle.translator.specs.Contract.{Faulty, verdict_in}
 use Rattle.translator.specs.Refusals.{Admitted}
 
 -- the number n with the count of these faults, their list in full at the front of f', the program as lent
-pub record Answered (n : ℕ) (fs : List Fault) (r : Verdict) (f' p p' : List ℕ) : Type 0 where
-  pub answer : r ≡ Faulty n (length fs)
+pub record Answered (n : ℕ) (fs : List Fault) (r : Result ℕ Refusal) (f' p p' : List ℕ) : Type 0 where
+  pub answer : verdict_in r ≡ Faulty n (length fs)
   pub listed : take (fault_bytes * length fs) f' ≡ fault_list fs
   pub untouched : p' ≡ p
 
 -- the count of these records, and the records in full at the front of p'; or 8 and the program as lent
-pub record Programmed (rs : List Rec) (r : Verdict) (p p' : List ℕ) : Type 0 where
-  pub answer : ((r ≡ Translated (length rs)) × (take (length rs * record_bytes) p' ≡ program_bytes rs))
-      ⊎ ((r ≡ Refused 8) × (p' ≡ p))
+pub record Programmed (rs : List Rec) (r : Result ℕ Refusal) (p p' : List ℕ) : Type 0 where
+  pub answer : ((r ≡ Ok (length rs)) × (take (length rs * record_bytes) p' ≡ program_bytes rs))
+      ⊎ ((r ≡ Err NoRoom) × (p' ≡ p))
 
 -- no program: the one lent, and no answer that names one
-pub record Unprogrammed (r : Verdict) (p p' : List ℕ) : Type 0 where
+pub record Unprogrammed (r : Result ℕ Refusal) (p p' : List ℕ) : Type 0 where
   pub untouched : p' ≡ p
-  pub not_translated : (k : ℕ) → r ≡ Translated k → ⊥
+  pub not_translated : (k : ℕ) → r ≡ Ok k → ⊥
 
 -- ---- the same of a text, by number and count
 

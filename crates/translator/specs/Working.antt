@@ -1,10 +1,12 @@
 -- What the parts of `translate` meet.
 use Rattle.std.specs.Prelude.{ℕ, suc, ◌+◌, ◌-◌, ◌*◌, ◌/◌, ◌≤◌, ◌<◌, ◌≡◌, Bool, true, false, cond, ◌||◌, List, [], ◌∷◌}
-use Rattle.std.specs.Prelude.{◌++◌, map, leb, ltb, length, get_or, take, set, replicate}
+use Rattle.std.specs.Prelude.{Option, None, Some, Result, Ok, Err, ◌++◌, map, leb, ltb, length, get_or, take, set}
+use Rattle.std.specs.Prelude.{replicate}
 use Rattle.std.proofs.lemmas.List.Edits.{sets}
 use Rattle.limits.specs.Limits.{most_statements, most_definitions, text_bytes, fault_room, fault_bytes, program_room}
 use Rattle.limits.specs.Limits.{most_records, roster_bytes}
 use Rattle.deck.specs.declared.Cursor.{Cursor}
+use Rattle.deck.specs.declared.Statement.{Statement}
 use Rattle.deck.specs.declared.Place.{Place}
 use Rattle.deck.specs.declared.Spot.{Spot}
 use Rattle.deck.specs.Lines.{Line}
@@ -34,36 +36,45 @@ use Rattle.program.specs.Written.{record_count}
 use Rattle.model.specs.Faults.{model_faults, order_of}
 use Rattle.model.specs.Places.{keys_in, places_in, resolved, ordered_in}
 use Rattle.model.specs.Plan.{Lent, lent, fit}
-use Rattle.model.specs.declared.answer.Plan.{Plan}
+use Rattle.model.specs.declared.answer.Counts.{Counts}
 use Rattle.translator.specs.declared.Ordered.{Ordered}
-use Rattle.translator.specs.declared.Verdict.{Verdict}
-use Rattle.translator.specs.declared.Verdict.TheVariants.{Refused, Faulty, Translated}
-use Rattle.translator.specs.declared.Named.{Named}
-use Rattle.translator.specs.declared.Named.TheVariants.{Refused as Unnamed, Faulty as Listed, Entries}
-use Rattle.translator.specs.Contract.{ordered, OrderedReply, ordered_reply, ordered_reply_of}
+use Rattle.translator.specs.declared.Refusal.{Refusal}
+use Rattle.translator.specs.declared.Refusal.TheVariants.{ManyDefinitions, ModelFaults, NoRoom, NoRosterRoom}
+use Rattle.blocks.specs.declared.answer.Refusal.{Refusal as Unready}
+use Rattle.blocks.specs.declared.answer.Refusal.TheVariants.{ManyDefinitions as OverMany, Faults, Unfit}
+use Rattle.translator.specs.declared.Short.{Short}
+use Rattle.translator.specs.declared.Short.TheVariants.{NoRoom as Roomless, TooMany}
+use Rattle.translator.specs.Contract.{OrderedReply, ordered_reply, ordered_reply_of}
 use Rattle.translator.specs.Verdict.{Decision, refused, faulty, translated, if_faults, programmed, modelled}
 use Rattle.translator.specs.Verdict.{decided, verdict_of}
-use Rattle.translator.specs.declared.Told.{Told as Answer}
-use Rattle.translator.specs.declared.Told.TheVariants.{Says, Faulty as FaultTold}
+use Rattle.faults.specs.Codes.{code_of}
+use Rattle.translator.specs.declared.Flawed.{Flawed}
 use Rattle.translator.specs.declared.SoFar.{SoFar}
-use Rattle.translator.specs.declared.HowFar.{HowFar}
-use Rattle.translator.specs.declared.HowFar.TheVariants.{Through, NoRoom, TooMany}
-use Rattle.translator.specs.declared.room.Tried.{Tried}
 
 -- ---- one statement
 
+-- the place behind its drafts; or a fault's code, and where it is
+pub data Saying : Type 0 where
+  behind : ℕ → Saying
+  flawed : ℕ → Place → Saying
+
+-- the answer says it so
+abbrev pub saying_in : Result ℕ Flawed → Saying
+saying_in (Ok n) = behind n
+saying_in (Err x) = flawed (code_of x.fault) x.place
+
 -- what is told of it: where it says something, the answer is the place behind its drafts, which stand from the place p
 -- on; where it has a fault, the answer is the code and where it is, and what stands before the place is kept
-abbrev pub TellsOf : Told Place → ℕ → List ℕ → List ℕ → Answer → List ℕ → List ℕ → Type 0
-TellsOf (says x) p l u r l' u' = (r ≡ Says (p + length (drafts_of x))) × (l' ≡ sets l p (draft_kinds (drafts_of x)))
+abbrev pub TellsOf : Told Place → ℕ → List ℕ → List ℕ → Saying → List ℕ → List ℕ → Type 0
+TellsOf (says x) p l u r l' u' = (r ≡ behind (p + length (drafts_of x))) × (l' ≡ sets l p (draft_kinds (drafts_of x)))
     × (u' ≡ sets u p (draft_args (drafts_of x)))
-TellsOf (faulty_told c q) p l u r l' u' = (r ≡ FaultTold c q) × (take p l' ≡ take p l) × (take p u' ≡ take p u)
+TellsOf (faulty_told c q) p l u r l' u' = (r ≡ flawed c q) × (take p l' ≡ take p l) × (take p u' ≡ take p u)
 
 -- of what was told, by reading, and by what stands in the buffers before and after
-pub record Tells (t : Told Place) (p : ℕ) (l u : List ℕ) (r : Answer) (l' u' : List ℕ) : Type 0 where
+pub record Tells (t : Told Place) (p : ℕ) (l u : List ℕ) (r : Result ℕ Flawed) (l' u' : List ℕ) : Type 0 where
   pub long_kinds : length l' ≡ length l
   pub long_args : length u' ≡ length u
-  pub by_told : TellsOf t p l u r l' u'
+  pub by_told : TellsOf t p l u (saying_in r) l' u'
 
 -- what reading a row asks: as many arguments as kinds, and room for a draft for each token
 pub record RowRoom (ks us : List ℕ) (p : ℕ) (l u : List ℕ) : Type 0 where
@@ -75,38 +86,36 @@ pub record RowRoom (ks us : List ℕ) (p : ℕ) (l u : List ℕ) : Type 0 where
 abbrev pub Size : List Line → Bool → ℕ → Type 0
 Size cards closed code = size_flaw cards closed ≡ flaw_of closed code
 
--- what reading a joined text asks: a place in each row for each byte, and so many for drafts
-pub record JoinedRoom (body ks us : List ℕ) (p : ℕ) (l u : List ℕ) : Type 0 where
-  pub row_kinds : length body ≤ length ks
-  pub row_args : length body ≤ length us
+-- what reading a joined text asks: a place in the row for each byte, and so many for drafts
+pub record JoinedRoom (body : List ℕ) (p : ℕ) (l u : List ℕ) : Type 0 where
+  pub short : length body ≤ joined_room
   pub room_kinds : p + length body ≤ length l
   pub room_args : p + length body ≤ length u
 
--- the same where it is still to be joined
-pub record CardsRoom (body ks us : List ℕ) (p : ℕ) (l u : List ℕ) : Type 0 where
-  pub short : length body ≤ joined_room
-  pub room : JoinedRoom body ks us p l u
+-- the code of a statement's fault for size, 0 where there is none
+abbrev pub code_at : Statement → ℕ
+code_at s = size_code s.cards s.closed s.long
 
--- what reading the statement of so many lines asks: its joined text has room, and so have its drafts; of one line it is
--- what stands there
-pub record Before (text : List ℕ) (start lines next code : ℕ) (ks us : List ℕ) (p : ℕ) (l u : List ℕ) : Type 0 where
-  pub short : code ≡ 0 → length (joined (cards_at text start lines)) ≤ joined_room
-  pub alone : code ≡ 0 → lines ≡ 1 → BytesFrom text start next (joined (cards_at text start lines))
-  pub row_kinds : code ≡ 0 → length (joined (cards_at text start lines)) ≤ length ks
-  pub row_args : code ≡ 0 → length (joined (cards_at text start lines)) ≤ length us
-  pub room_kinds : p + length (joined (cards_at text start lines)) ≤ length l
-  pub room_args : p + length (joined (cards_at text start lines)) ≤ length u
+-- its joined text
+abbrev pub joined_at : List ℕ → Statement → List ℕ
+joined_at text s = joined (cards_at text s.start s.lines)
+
+-- what reading a statement asks: its joined text has room, and so have its drafts; of one line it is what stands there
+pub record Before (text : List ℕ) (s : Statement) (p : ℕ) (l u : List ℕ) : Type 0 where
+  pub size : Size (cards_at text s.start s.lines) s.closed (code_at s)
+  pub short : code_at s ≡ 0 → length (joined_at text s) ≤ joined_room
+  pub alone : code_at s ≡ 0 → s.lines ≡ 1 → BytesFrom text s.start s.next.at (joined_at text s)
+  pub room_kinds : p + length (joined_at text s) ≤ length l
+  pub room_args : p + length (joined_at text s) ≤ length u
 
 -- ---- one statement more
 
 -- what it asks of the arrays besides
-pub record Able (text : List ℕ) (first start span cards : ℕ) (closed long : Bool) (next : ℕ) (n : SoFar)
-    (ks us kinds args lines bounds : List ℕ) : Type 0 where
-  pub size : Size (cards_at text start span) closed (size_code cards closed long)
-  pub before : Before text start span next (size_code cards closed long) ks us n.drafts kinds args
-  pub first_fits : first ≤ text_bytes
+pub record Able (text : List ℕ) (s : Statement) (n : SoFar) (kinds args lines bounds : List ℕ) : Type 0 where
+  pub before : Before text s n.drafts kinds args
+  pub first_fits : s.first ≤ text_bytes
   pub brief : length text ≤ text_bytes
-  pub drafts_fit : n.drafts + length (joined (cards_at text start span)) ≤ text_bytes
+  pub drafts_fit : n.drafts + length (joined_at text s) ≤ text_bytes
   pub lines_room : n.statements < length lines
   pub bounds_room : n.statements + 1 < length bounds
   pub faults_fit : n.faults < most_statements
@@ -186,13 +195,16 @@ pub record LacksRoom (places d start next : ℕ) (r : Bool) : Type 0 where
   pub lacks : r ≡ true → places < d + (next - 1 - start)
   pub has : r ≡ false → d + (next - 1 - start) ≤ places
 
--- how far it came: through, with statements that are not too many; with fewer places than the text has bytes, to a
--- statement that had no room; or to one more than there may be
-abbrev pub ReadFar : List ℕ → List ℕ → HowFar → List ℕ → List ℕ → List ℕ → List ℕ → List ℕ → Type 0
-ReadFar text list₀ (Through n) kinds args lines bounds list =
+-- why it came short: so many places are fewer than the text has bytes, or statements are too many
+abbrev pub CameShort : Short → List ℕ → ℕ → Type 0
+CameShort Roomless text places = places < length text
+CameShort TooMany text places = most_statements < length (sheet_of text)
+
+-- how far it came: through, with statements that are not too many; or it came short
+abbrev pub ReadFar : List ℕ → List ℕ → Result SoFar Short → List ℕ → List ℕ → List ℕ → List ℕ → List ℕ → Type 0
+ReadFar text list₀ (Ok n) kinds args lines bounds list =
     ReadThrough text list₀ n kinds args lines bounds list × (length (sheet_of text) ≤ most_statements)
-ReadFar text list₀ NoRoom kinds args lines bounds list = length kinds < length text
-ReadFar text list₀ TooMany kinds args lines bounds list = most_statements < length (sheet_of text)
+ReadFar text list₀ (Err e) kinds args lines bounds list = CameShort e text (length kinds)
 
 -- a text is read through: its faults are listed in a list that was list₀, its statements, which are not too many, stand
 -- in the arrays, and there is room for what they use
@@ -220,6 +232,12 @@ unitless =
     unit_arrays (replicate (most_statements + 1) 0) (replicate (most_statements + 1) 0)
     (replicate (most_statements + 1) 0)
 
+-- the refusal for that of units; arrays that do not fit one another are never here
+abbrev pub refusal_from : Unready → Refusal
+refusal_from OverMany = ManyDefinitions
+refusal_from (Faults k) = ModelFaults k
+refusal_from Unfit = NoRoom
+
 -- the arrays hold some statements, whose headers name outputs, and fit
 pub record ArraysReady (lines bounds kinds args used faults : List ℕ) : Type 0 where
   pub statements : List Numbered
@@ -239,7 +257,7 @@ pub record UnitsReady (lines bounds ulines ubounds firsts kinds args used faults
       (length faults) most_definitions most_statements most_statements ≡ true
 
 -- the arrays held some units whose model is sound; the names of their arguments are resolved, and the plan is theirs
-pub record Planned (p : Plan) (places equated order lines bounds ulines firsts kinds args : List ℕ) : Type 0 where
+pub record Planned (p : Counts) (places equated order lines bounds ulines firsts kinds args : List ℕ) : Type 0 where
   pub units : List TextUnit
   pub unresolved : List ℕ
   pub ubounds : List ℕ
@@ -268,12 +286,16 @@ abbrev pub room_for : Bool → ℕ → ℕ
 room_for false room = room
 room_for true room = program_room
 
+-- the answer with so many records, or entries, and so many units ordered
+abbrev pub ordered_as : ℕ → ℕ → Result Ordered Refusal
+ordered_as k u = Ok (record { records = k; units = u })
+
 -- of a translated text with the definitions ds: the program and the order; or 10, or the roster
 abbrev pub reply_zero : Bool → List Def → List Rec → List ℕ → List ℕ → List ℕ → List ℕ → OrderedReply
 reply_zero false ds rs ls f p o = ordered_reply_of (translated rs ls) f p o
 reply_zero true ds rs ls f p o =
-    cond (ltb (length p) (roster_bytes * length ds)) (ordered_reply (ordered (Refused 10) 0) f p o)
-    (ordered_reply (ordered (Translated (length ds)) 0) f (sets p 0 (roster ds)) o)
+    cond (ltb (length p) (roster_bytes * length ds)) (ordered_reply (Err NoRosterRoom) f p o)
+    (ordered_reply (ordered_as (length ds) 0) f (sets p 0 (roster ds)) o)
 
 -- the reply to a verdict, with what is asked for
 abbrev pub reply_for : Decision → Bool → List Def → List ℕ → List ℕ → List ℕ → OrderedReply
@@ -281,69 +303,70 @@ reply_for (refused n) b ds f p o = ordered_reply_of (refused n) f p o
 reply_for (faulty n fs) b ds f p o = ordered_reply_of (faulty n fs) f p o
 reply_for (translated rs ls) b ds f p o = reply_zero b ds rs ls f p o
 
--- an answer with entries for records
-abbrev pub named_as : Verdict → Named
-named_as (Refused n) = Unnamed n
-named_as (Faulty n k) = Listed n k
-named_as (Translated k) = Entries k
-
 -- the answer r and the buffers f', p' and o' are what the verdict on the model of units gives for the buffers f, p and
 -- o
-abbrev pub UnitsConclude : List TextUnit → List ℕ → List ℕ → List ℕ → Ordered → List ℕ → List ℕ → List ℕ → Type 0
+abbrev pub UnitsConclude : List TextUnit → List ℕ → List ℕ → List ℕ → Result Ordered Refusal
+    → List ℕ → List ℕ → List ℕ → Type 0
 UnitsConclude us f p o r f' p' o' =
     ordered_reply r f' p' o' ≡ ordered_reply_of (if_faults 7 (model_faults us) (programmed (length p) us)) f p o
 
 -- and on that of statements
-abbrev pub Concludes : List Numbered → List ℕ → List ℕ → List ℕ → Ordered → List ℕ → List ℕ → List ℕ → Type 0
+abbrev pub Concludes : List Numbered → List ℕ → List ℕ → List ℕ → Result Ordered Refusal
+    → List ℕ → List ℕ → List ℕ → Type 0
 Concludes ss f p o r f' p' o' = ordered_reply r f' p' o' ≡ ordered_reply_of (modelled (length p) ss) f p o
 
 -- the answer r and the buffers f', p' and o' are what the sheet's verdict gives for the buffers f, p and o
-abbrev pub Decides : List ℕ → List ℕ → List ℕ → List ℕ → Ordered → List ℕ → List ℕ → List ℕ → Type 0
+abbrev pub Decides : List ℕ → List ℕ → List ℕ → List ℕ → Result Ordered Refusal
+    → List ℕ → List ℕ → List ℕ → Type 0
 Decides text f p o r f' p' o' = ordered_reply r f' p' o' ≡ ordered_reply_of (decided (length p) (sheet_of text)) f p o
 
 -- the same with so many places for drafts, unless these were too few: then the text has more bytes, and nothing is
 -- written
-pub record Tries (text : List ℕ) (places : ℕ) (f p o : List ℕ) (r : Tried) (f' p' o' : List ℕ) : Type 0 where
-  pub decides : r.full ≡ false → Decides text f p o r.answer f' p' o'
-  pub full : r.full ≡ true → (places < length text) × (f' ≡ f) × (p' ≡ p) × (o' ≡ o)
+abbrev pub Tries : List ℕ → ℕ → List ℕ → List ℕ → List ℕ → Option (Result Ordered Refusal)
+    → List ℕ → List ℕ → List ℕ → Type 0
+Tries text places f p o (Some r) f' p' o' = Decides text f p o r f' p' o'
+Tries text places f p o None f' p' o' = (places < length text) × (f' ≡ f) × (p' ≡ p) × (o' ≡ o)
 
 -- ---- the same with what is asked for (law `plain_tries`: without names they are those above)
 
 -- what the writing of n names that stand in rows gives: 8, 10, or their entries
-abbrev pub NamesWritten : List ℕ → ℕ → List ℕ → List ℕ → Ordered → List ℕ → Type 0
+abbrev pub NamesWritten : List ℕ → ℕ → List ℕ → List ℕ → Result Ordered Refusal → List ℕ → Type 0
 NamesWritten rows n kinds p r p' =
     let over = ltb most_records (record_count kinds) || ltb most_records (record_count kinds) in
-    let written = ordered_reply (ordered (Translated n) 0) [] (sets p 0 (take (roster_bytes * n) rows)) [] in
-    let roomed = cond (ltb (length p) (roster_bytes * n)) (ordered_reply (ordered (Refused 10) 0) [] p []) written in
-    ordered_reply r [] p' [] ≡ cond over (ordered_reply (ordered (Refused 8) 0) [] p []) roomed
+    let written = ordered_reply (ordered_as n 0) [] (sets p 0 (take (roster_bytes * n) rows)) [] in
+    let roomed = cond (ltb (length p) (roster_bytes * n)) (ordered_reply (Err NoRosterRoom) [] p []) written in
+    ordered_reply r [] p' [] ≡ cond over (ordered_reply (Err NoRoom) [] p []) roomed
 
 -- what the verdict on the model of units gives
-abbrev pub UnitsConcludeFor : Bool → List TextUnit → List ℕ → List ℕ → List ℕ → Ordered → List ℕ → List ℕ → List ℕ
-    → Type 0
+abbrev pub UnitsConcludeFor : Bool → List TextUnit → List ℕ → List ℕ → List ℕ → Result Ordered Refusal
+    → List ℕ → List ℕ → List ℕ → Type 0
 UnitsConcludeFor b us f p o r f' p' o' =
     ordered_reply r f' p' o'
     ≡ reply_for (if_faults 7 (model_faults us) (programmed (room_for b (length p)) us)) b (definitions us) f p o
 
 -- and on that of statements
-abbrev pub ConcludesFor : Bool → List Numbered → List ℕ → List ℕ → List ℕ → Ordered → List ℕ → List ℕ → List ℕ → Type 0
+abbrev pub ConcludesFor : Bool → List Numbered → List ℕ → List ℕ → List ℕ → Result Ordered Refusal
+    → List ℕ → List ℕ → List ℕ → Type 0
 ConcludesFor b ss f p o r f' p' o' =
     ordered_reply r f' p' o'
     ≡ reply_for (modelled (room_for b (length p)) ss) b (definitions (units_of ss)) f p o
 
 -- what the sheet's verdict gives
-abbrev pub DecidesFor : Bool → List ℕ → List ℕ → List ℕ → List ℕ → Ordered → List ℕ → List ℕ → List ℕ → Type 0
+abbrev pub DecidesFor : Bool → List ℕ → List ℕ → List ℕ → List ℕ → Result Ordered Refusal
+    → List ℕ → List ℕ → List ℕ → Type 0
 DecidesFor b text f p o r f' p' o' =
     ordered_reply r f' p' o'
     ≡ reply_for (decided (room_for b (length p)) (sheet_of text)) b (definitions (text_units text)) f p o
 
 -- the same with so many places for drafts, unless these were too few
-pub record TriesFor (b : Bool) (text : List ℕ) (places : ℕ) (f p o : List ℕ) (r : Tried)
-    (f' p' o' : List ℕ) : Type 0 where
-  pub decides : r.full ≡ false → DecidesFor b text f p o r.answer f' p' o'
-  pub full : r.full ≡ true → (places < length text) × (f' ≡ f) × (p' ≡ p) × (o' ≡ o)
+abbrev pub TriesFor : Bool → List ℕ → ℕ → List ℕ → List ℕ → List ℕ → Option (Result Ordered Refusal)
+    → List ℕ → List ℕ → List ℕ → Type 0
+TriesFor b text places f p o (Some r) f' p' o' = DecidesFor b text f p o r f' p' o'
+TriesFor b text places f p o None f' p' o' = (places < length text) × (f' ≡ f) × (p' ≡ p) × (o' ≡ o)
 
 -- what the text's verdict gives
-abbrev pub Answers : Bool → List ℕ → List ℕ → List ℕ → List ℕ → Ordered → List ℕ → List ℕ → List ℕ → Type 0
+abbrev pub Answers : Bool → List ℕ → List ℕ → List ℕ → List ℕ → Result Ordered Refusal
+    → List ℕ → List ℕ → List ℕ → Type 0
 Answers b text f p o r f' p' o' =
     ordered_reply r f' p' o'
     ≡ reply_for (verdict_of text (length f) (room_for b (length p))) b (definitions (text_units text)) f p o

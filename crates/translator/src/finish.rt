@@ -1,18 +1,22 @@
 // From the arrays of a sheet without statement fault to the verdict: its units, the model's plan, then the program.
-ghost use Rattle.std.specs.Prelude.{◌≡◌, true, ◌||◌, List, ℕ, ◌*◌, ◌≤◌, ltb, length};
+ghost use Rattle.std.specs.Prelude.{◌≡◌, ◌≢◌, true, ◌||◌, List, ℕ, ◌*◌, ◌≤◌, ltb, length};
 ghost use Rattle.std.proofs.lemmas.List.Edits.{sets};
 ghost use Rattle.limits.specs.Limits.{most_records, most_definitions, roster_bytes};
 ghost use Rattle.program.specs.Written.{record_count};
 ghost use Rattle.program.specs.Contract.{PutsRoster};
+ghost use Rattle.blocks.specs.declared.answer.Refusal.TheVariants.{Unfit};
+ghost use Rattle.translator.specs.Working.{refusal_from};
 ghost use Rattle.translator.specs.Working.{asks_names, Planned, UnitsReady, ArraysReady, UnitsConclude};
 ghost use Rattle.translator.specs.Working.{NamesWritten, UnitsConcludeFor, ConcludesFor, ordered_lines};
 
-use super::{Ordered, Verdict};
+use super::{Ordered, Refusal};
 use bits::put_bytes;
 use bits::reads::short_at;
+use blocks::answer::Refusal as Unready;
 use limits::{DEFINITIONS, RECORD_BYTES, RECORDS, ROSTER_BYTES, STATEMENTS};
-use model::answer::Plan;
+use model::answer::Counts;
 use program::roster::put_roster;
+use sheet::Sheet;
 
 // Bytes for an entry of each definition that there may be. Where fewer are lent, no names are asked for.
 pub(crate) const ROSTER_ROOM: usize = ROSTER_BYTES * DEFINITIONS;
@@ -23,16 +27,11 @@ fn is_over(kinds: &[u8], room: usize) -> bool
     ensures { result ≡ (ltb most_records (record_count kinds.now) || ltb room
         (record_count kinds.now)) }
 {
-    if kinds.len() <= RECORDS {
-        if kinds.len() <= room {
-            return false;
-        }
+    if kinds.len() <= RECORDS && kinds.len() <= room {
+        return false;
     }
     let n = program::count_records(kinds);
-    if RECORDS < n {
-        return true;
-    }
-    room < n
+    RECORDS < n || room < n
 }
 
 // Writes the first line of each ordered unit, as far as there are places. Order gives places in equated, and these the
@@ -41,102 +40,89 @@ fn put_order(equated: &[u16], lines: &[u16], order: &[u16], ordered: &mut [u16])
     ensures { ordered.new ≡ sets ordered.old 0
         (ordered_lines equated.now lines.now order.now) }
 {
-    let mut i: usize = 0;
-    while i < order.len() {
+    for (i, &place) in order.iter().enumerate() {
         if ordered.len() <= i {
             return;
         }
-        ordered[i] = short_at(lines, short_at(equated, short_at(order, i))) as u16;
-        i += 1;
+        ordered[i] = short_at(lines, short_at(equated, place as usize)) as u16;
     }
 }
 
 // Writes the program of a sound model, if its records are few enough and there is room for them, and the first lines of
 // its ordered units. The places of its definitions, the units of the order and their order stand at the front of
-// places,
-// equated and order.
+// places, equated and order.
 fn write_program(
-    plan: Plan,
+    plan: Counts,
     places: &[u16],
     equated: &[u16],
     order: &[u16],
     ulines: &[u16],
     firsts: &[u16],
-    lines: &[u16],
-    bounds: &[u16],
-    kinds: &[u8],
-    args: &[u64],
+    sheet: &Sheet,
     out: &mut [u8],
     ordered: &mut [u16],
-) -> Ordered
-    requires { Planned plan places.now equated.now order.now lines.now bounds.now ulines.now firsts.now
-        kinds.now args.now }
+) -> Result<Ordered, Refusal>
+    requires { Planned plan places.now equated.now order.now sheet.now.lines.now sheet.now.bounds.now
+        ulines.now firsts.now sheet.now.kinds.now sheet.now.args.now }
     ensures { (s : Planned plan places.now equated.now order.now
-        lines.now bounds.now ulines.now firsts.now
-        kinds.now args.now) (f : List ℕ)
+        sheet.now.lines.now sheet.now.bounds.now ulines.now firsts.now
+        sheet.now.kinds.now sheet.now.args.now) (f : List ℕ)
         → UnitsConclude s.units f out.old ordered.old
         result f out.new ordered.new }
 {
-    if is_over(kinds, out.len() / RECORD_BYTES) {
-        return Ordered {
-            verdict: Verdict::Refused(8),
-            units: 0,
-        };
+    if is_over(sheet.kinds, out.len() / RECORD_BYTES) {
+        return Err(Refusal::NoRoom);
     }
     let d = plan.definitions;
     let e = plan.units;
-    let bytes = program::put_program(
-        &places[..d],
-        &equated[..e],
-        firsts,
-        lines,
-        bounds,
-        kinds,
-        args,
-        &order[..e],
-        out,
-    );
+    let bytes = program::put_program(&places[..d], &equated[..e], firsts, sheet, &order[..e], out);
     put_order(&equated[..e], ulines, &order[..e], ordered);
-    Ordered {
-        verdict: Verdict::Translated(bytes / RECORD_BYTES),
+    Ok(Ordered {
+        records: bytes / RECORD_BYTES,
         units: e,
-    }
+    })
 }
 
 // Enters the names in their room, if they are asked for; how many there are.
-fn enter_names(rows: &mut [u8], lines: &[u16], bounds: &[u16], kinds: &[u8], args: &[u64]) -> usize
+fn enter_names(rows: &mut [u8], sheet: &Sheet) -> usize
     ensures { asks_names (length rows.old) ≡ true
-        → PutsRoster lines.now bounds.now kinds.now args.now
+        → PutsRoster sheet.now.lines.now sheet.now.bounds.now sheet.now.kinds.now sheet.now.args.now
         rows.old result rows.new }
 {
     if rows.len() < ROSTER_ROOM {
         return 0;
     }
-    put_roster(lines, bounds, kinds, args, rows)
+    put_roster(sheet, rows)
 }
 
 // Writes the names of a sound model, n entries, if its records are few enough and there is room for them.
-fn write_names(rows: &[u8], n: usize, kinds: &[u8], out: &mut [u8]) -> Ordered
+fn write_names(rows: &[u8], n: usize, kinds: &[u8], out: &mut [u8]) -> Result<Ordered, Refusal>
     requires { (n ≤ most_definitions) × (roster_bytes * n ≤ length rows.now) }
     ensures { NamesWritten rows.now n kinds.now out.old result out.new }
 {
     if is_over(kinds, RECORDS) {
-        return Ordered {
-            verdict: Verdict::Refused(8),
-            units: 0,
-        };
+        return Err(Refusal::NoRoom);
     }
     let end = ROSTER_BYTES * n;
     if out.len() < end {
-        return Ordered {
-            verdict: Verdict::Refused(10),
-            units: 0,
-        };
+        return Err(Refusal::NoRosterRoom);
     }
     put_bytes(out, 0, &rows[..end]);
-    Ordered {
-        verdict: Verdict::Translated(n),
+    Ok(Ordered {
+        records: n,
         units: 0,
+    })
+}
+
+// The refusal of units that are not grouped or not planned, of arrays that fit one another.
+fn refused(refusal: Unready) -> Refusal
+    requires { refusal ≢ Unfit }
+    ensures { result ≡ refusal_from refusal }
+{
+    match refusal {
+        Unready::ManyDefinitions => Refusal::ManyDefinitions,
+        Unready::Faults(count) => Refusal::ModelFaults(count),
+        Unready::Unfit => unreachable!(),
     }
 }
 
@@ -155,7 +141,7 @@ fn conclude_units(
     faults: &mut [u8],
     out: &mut [u8],
     ordered: &mut [u16],
-) -> Ordered
+) -> Result<Ordered, Refusal>
     requires { UnitsReady lines.now bounds.now ulines.now ubounds.now firsts.now kinds.now args.old
         used.old faults.old }
     ensures { (s : UnitsReady lines.now bounds.now ulines.now
@@ -167,8 +153,14 @@ fn conclude_units(
     let mut places = [0u16; DEFINITIONS];
     let mut equated = [0u16; STATEMENTS];
     let mut order = [0u16; STATEMENTS];
-    let n = enter_names(&mut *rows, lines, bounds, kinds, args);
-    let plan = model::plan(
+    let keyed = Sheet {
+        lines,
+        bounds,
+        kinds,
+        args: &*args,
+    };
+    let n = enter_names(&mut *rows, &keyed);
+    let planned = model::plan(
         lines,
         bounds,
         ulines,
@@ -181,16 +173,19 @@ fn conclude_units(
         &mut equated,
         &mut order,
     );
-    if plan.number == 7 {
-        return Ordered {
-            verdict: Verdict::Faulty(7, plan.count),
-            units: 0,
-        };
-    }
+    let plan = match planned {
+        Ok(counts) => counts,
+        Err(refusal) => return Err(refused(refusal)),
+    };
     if rows.len() < ROSTER_ROOM {
+        let resolved = Sheet {
+            lines,
+            bounds,
+            kinds,
+            args: &*args,
+        };
         return write_program(
-            plan, &places, &equated, &order, ulines, firsts, lines, bounds, kinds, args, out,
-            ordered,
+            plan, &places, &equated, &order, ulines, firsts, &resolved, out, ordered,
         );
     }
     write_names(rows, n, kinds, out)
@@ -207,7 +202,7 @@ pub(crate) fn conclude(
     faults: &mut [u8],
     out: &mut [u8],
     ordered: &mut [u16],
-) -> Ordered
+) -> Result<Ordered, Refusal>
     requires { ArraysReady lines.now bounds.now kinds.old args.old used.old faults.old }
     ensures { (s : ArraysReady lines.now bounds.now kinds.old
         args.old used.old faults.old)
@@ -218,7 +213,7 @@ pub(crate) fn conclude(
     let mut ulines = [0u16; STATEMENTS + 1];
     let mut ubounds = [0u16; STATEMENTS + 1];
     let mut firsts = [0u16; STATEMENTS + 1];
-    let grouping = blocks::group(
+    let grouped = blocks::group(
         lines,
         bounds,
         &mut *kinds,
@@ -228,19 +223,10 @@ pub(crate) fn conclude(
         &mut ubounds,
         &mut firsts,
     );
-    if grouping.number == 6 {
-        return Ordered {
-            verdict: Verdict::Refused(6),
-            units: 0,
-        };
-    }
-    if grouping.number == 7 {
-        return Ordered {
-            verdict: Verdict::Faulty(7, grouping.count),
-            units: 0,
-        };
-    }
-    let u = grouping.units;
+    let u = match grouped {
+        Ok(units) => units,
+        Err(refusal) => return Err(refused(refusal)),
+    };
     conclude_units(
         rows,
         lines,

@@ -1,7 +1,7 @@
 // The translator: from a text to a verdict, with the fault list or the program.
 #![tactic(auto)]
 
-ghost use Rattle.std.specs.Prelude.{◌≡◌, cond, ltb, length};
+ghost use Rattle.std.specs.Prelude.{◌≡◌, cond, ltb, length, Err};
 ghost use Rattle.tokens.specs.Held.{held_row};
 ghost use Rattle.tokens.specs.Row.{symbols, row_of};
 ghost use Rattle.tokens.specs.Skips.{place_behind};
@@ -10,47 +10,91 @@ ghost use Rattle.deck.specs.Joined.{joined};
 ghost use Rattle.deck.specs.declared.Place.TheVariants.{AtStart, AtToken, AtEnd};
 ghost use Rattle.deck.specs.Next.{lines_at, cards_at};
 ghost use Rattle.sheet.specs.Reader.{parsed, tokened, cards_told, told};
-ghost use Rattle.translator.specs.Working.{Tells, RowRoom, JoinedRoom, CardsRoom, Size, Before};
-ghost use Rattle.translator.specs.Working.{Able, Adds, Room, LacksRoom, ReadFar, asks_names, Answers, named_as};
-ghost use Rattle.translator.specs.Contract.{Translates, TranslatesInOrder, NamesSlots};
+ghost use Rattle.translator.specs.Working.{Tells, RowRoom, JoinedRoom, Before};
+ghost use Rattle.translator.specs.Working.{Able, Adds, Room, LacksRoom, ReadFar, asks_names, Answers};
+ghost use Rattle.translator.specs.Contract.{TellsNumber, TellsCount, Translates, TranslatesInOrder, NamesSlots};
 
 mod finish;
 mod room;
 
-use deck::{Cursor, Found, Place};
-use grammar::Parsed;
+use deck::{Cursor, JOINED_BYTES, Place, Statement};
+use faults::Fault;
+use grammar::ParseError;
 use limits::{FAULT_ROOM, STATEMENTS, TEXT_BYTES, TEXT_LINES};
-use tokens::RowEnd;
+use tokens::RowError;
 
-// The verdict: refused with its number; faulty with its number and the count of faults; translated into so many
-// records.
+// Why a text is not translated, in the order in which it is asked. Of faults it says how many there are.
+#[derive(Clone, Copy, PartialEq, Eq)]
+pub enum Refusal {
+    // The lent fault list is too short.
+    ShortFaultList,
+    // The text has too many bytes,
+    LongText,
+    // too many lines,
+    ManyLines,
+    // or too many statements.
+    ManyStatements,
+    // Some statement has a fault; so many are listed.
+    StatementFaults(usize),
+    // There are too many definitions.
+    ManyDefinitions,
+    // The model has faults; so many are listed.
+    ModelFaults(usize),
+    // The records are too many, or too many for the lent bytes.
+    NoRoom,
+    // The entries are too many for the lent bytes, where names are asked for.
+    NoRosterRoom,
+}
+
+impl Refusal {
+    // Its number.
+    pub fn number(&self) -> u8
+        ensures { TellsNumber self.now result }
+    {
+        match *self {
+            Refusal::ShortFaultList => 1,
+            Refusal::LongText => 2,
+            Refusal::ManyLines => 3,
+            Refusal::ManyStatements => 4,
+            Refusal::StatementFaults(_) => 5,
+            Refusal::ManyDefinitions => 6,
+            Refusal::ModelFaults(_) => 7,
+            Refusal::NoRoom => 8,
+            Refusal::NoRosterRoom => 10,
+        }
+    }
+
+    // Its count: how many faults are listed.
+    pub fn count(&self) -> usize
+        ensures { TellsCount self.now result }
+    {
+        match *self {
+            Refusal::StatementFaults(n) | Refusal::ModelFaults(n) => n,
+            _ => 0,
+        }
+    }
+}
+
+// Of a translated text how many records it has, or entries where names are asked for; and how many units are ordered:
+// single statements and blocks.
 #[derive(Clone, Copy)]
-pub enum Verdict {
-    Refused(u8),
-    Faulty(u8, usize),
-    Translated(usize),
-}
-
-// The same where names are asked for: refused, faulty, or so many entries.
-#[derive(Drop)]
-pub enum Named {
-    Refused(u8),
-    Faulty(u8, usize),
-    Entries(usize),
-}
-
-// A verdict, and for 0 how many units are ordered: single statements and blocks.
-#[derive(Drop)]
 pub struct Ordered {
-    pub verdict: Verdict,
+    pub records: usize,
     pub units: usize,
 }
 
-// What reading one statement gives: the place behind its drafts, or its fault and where it is.
+// A statement's fault, and where it is.
 #[derive(Drop)]
-enum Told {
-    Says(usize),
-    Faulty(u8, Place),
+struct Flawed {
+    fault: Fault,
+    place: Place,
+}
+
+// The tokens of a joined text: the kind and the argument of each.
+#[derive(Drop)]
+struct TokenRow {
+    kinds: [u8; JOINED_BYTES],
+    args: [u64; JOINED_BYTES],
 }
 
 // How many statements without fault, drafts and faults there are so far.
@@ -61,11 +105,10 @@ struct SoFar {
     faults: usize,
 }
 
-// What reading a text gives, how far it came: through it; to a statement for whose drafts there is no room; or to one
-// more than there may be.
-#[derive(Drop)]
-enum HowFar {
-    Through(SoFar),
+// Why reading a text came short of its end: there is no room for the drafts of a statement; or there is one more than
+// there may be.
+#[derive(Clone, Copy, PartialEq, Eq)]
+enum Short {
     NoRoom,
     TooMany,
 }
@@ -90,62 +133,68 @@ fn parse(
     kinds: &mut [u8],
     args: &mut [u64],
     place: usize,
-) -> Told
+) -> Result<usize, Flawed>
     requires { RowRoom row.now values.now place kinds.old args.old }
     ensures { let ps = (row_of body.now).tokens in
         held_row row.now values.now ≡ symbols ps → length ps ≡ length row.now
         → Tells (parsed ps (read_row (symbols ps))) place kinds.old args.old result kinds.new
         args.new }
 {
-    let r = grammar::parse_row(row, values, kinds, args, place);
-    match r {
-        Parsed::Done { next } => Told::Says(next),
-        Parsed::Fault { code, at } => Told::Faulty(code, place_of(body, row.len(), at)),
-        Parsed::NoRoom => Told::Faulty(0, Place::AtStart),
+    match grammar::parse_row(row, values, kinds, args, place) {
+        Ok(next) => Ok(next),
+        Err(ParseError::Misread(misread)) => Err(Flawed {
+            fault: misread.fault,
+            place: place_of(body, row.len(), misread.at),
+        }),
+        Err(ParseError::NoRoom) => unreachable!(),
     }
 }
 
-// What a joined text says, or its fault; its tokens are held in two lent rows.
+// What a joined text says, or its fault; its tokens are held in a lent row.
 fn read_joined(
     body: &[u8],
-    row_kinds: &mut [u8],
-    row_args: &mut [u64],
+    row: &mut TokenRow,
     kinds: &mut [u8],
     args: &mut [u64],
     place: usize,
-) -> Told
-    requires { JoinedRoom body.now row_kinds.old row_args.old place kinds.old args.old }
+) -> Result<usize, Flawed>
+    requires { JoinedRoom body.now place kinds.old args.old }
     ensures { Tells (tokened (row_of body.now)) place kinds.old args.old
         result kinds.new args.new }
 {
-    let end = tokens::row(body, &mut *row_kinds, &mut *row_args);
-    match end {
-        RowEnd::NoRoom => Told::Faulty(0, Place::AtStart),
-        RowEnd::Fault { code, count: _, at } => Told::Faulty(code, Place::AtToken(at)),
-        RowEnd::Tokens(n) => parse(body, &row_kinds[..n], &row_args[..n], kinds, args, place),
+    match tokens::row(body, &mut row.kinds, &mut row.args) {
+        Ok(n) => parse(body, &row.kinds[..n], &row.args[..n], kinds, args, place),
+        Err(
+            RowError::Bad {
+                fault,
+                count: _,
+                at,
+            },
+        ) => Err(Flawed {
+            fault,
+            place: Place::AtToken(at),
+        }),
+        Err(RowError::NoRoom) => unreachable!(),
     }
 }
 
-// What the cards among so many lines from a place on say, or their fault.
+// What the cards of a statement say, or their fault.
 fn read_cards(
     text: &[u8],
-    start: usize,
-    lines: usize,
-    row_kinds: &mut [u8],
-    row_args: &mut [u64],
+    s: Statement,
+    row: &mut TokenRow,
     kinds: &mut [u8],
     args: &mut [u64],
     place: usize,
-) -> Told
-    requires { CardsRoom (joined (cards_at text.now start lines)) row_kinds.old row_args.old place
-        kinds.old args.old }
-    ensures { Tells (tokened (row_of (joined (cards_at text.now start lines)))) place
+) -> Result<usize, Flawed>
+    requires { JoinedRoom (joined (cards_at text.now s.start s.lines)) place kinds.old args.old }
+    ensures { Tells (tokened (row_of (joined (cards_at text.now s.start s.lines)))) place
         kinds.old args.old
         result kinds.new args.new }
 {
-    let mut body = [0u8; deck::JOINED_BYTES];
-    let n = deck::join(text, start, lines, &mut body);
-    read_joined(&body[..n], row_kinds, row_args, kinds, args, place)
+    let mut body = [0u8; JOINED_BYTES];
+    let n = deck::join(text, s.start, s.lines, &mut body);
+    read_joined(&body[..n], row, kinds, args, place)
 }
 
 // Where a fault for size is: of a statement that is closed its first byte, else its end.
@@ -158,35 +207,30 @@ fn size_place(closed: bool) -> Place
     Place::AtEnd
 }
 
-// What the statement of so many lines from a place on says, or its fault; code is its fault for size. The text of one
-// line is its joined text.
+// What a statement says, or its fault. The text of one line is its joined text.
 fn read_statement(
     text: &[u8],
-    start: usize,
-    lines: usize,
-    next: usize,
-    closed: bool,
-    code: u8,
-    row_kinds: &mut [u8],
-    row_args: &mut [u64],
+    s: Statement,
+    row: &mut TokenRow,
     kinds: &mut [u8],
     args: &mut [u64],
     place: usize,
-) -> Told
-    requires { Before text.now start lines next code row_kinds.old row_args.old place kinds.old
-        args.old }
-    ensures { Size (cards_at text.now start lines) closed code
-        → Tells (cards_told (cards_at text.now start lines) closed) place
+) -> Result<usize, Flawed>
+    requires { Before text.now s place kinds.old args.old }
+    ensures { Tells (cards_told (cards_at text.now s.start s.lines) s.closed) place
         kinds.old args.old result kinds.new args.new }
 {
-    if code != 0 {
-        return Told::Faulty(code, size_place(closed));
+    if let Some(fault) = deck::size_fault(s.cards, s.closed, s.long) {
+        return Err(Flawed {
+            fault,
+            place: size_place(s.closed),
+        });
     }
-    if lines == 1 {
-        let end = next - 1;
-        return read_joined(&text[start..end], row_kinds, row_args, kinds, args, place);
+    if s.lines == 1 {
+        let end = s.next.at - 1;
+        return read_joined(&text[s.start..end], row, kinds, args, place);
     }
-    read_cards(text, start, lines, row_kinds, row_args, kinds, args, place)
+    read_cards(text, s, row, kinds, args, place)
 }
 
 // ---- all statements
@@ -194,52 +238,41 @@ fn read_statement(
 // One statement more: its drafts, its number and where its drafts end; or its fault at its place.
 fn read_one(
     text: &[u8],
-    first: usize,
-    start: usize,
-    span: usize,
-    cards: usize,
-    closed: bool,
-    long: bool,
-    next: usize,
+    s: Statement,
     n: SoFar,
-    row_kinds: &mut [u8],
-    row_args: &mut [u64],
+    row: &mut TokenRow,
     kinds: &mut [u8],
     args: &mut [u64],
     lines: &mut [u16],
     bounds: &mut [u16],
     list: &mut [u8],
 ) -> SoFar
-    requires { Able text.now first start span cards closed long next n row_kinds.old row_args.old
-        kinds.old args.old lines.old bounds.old }
-    ensures { Adds (told (lines_at text.now start span) closed) first n
+    requires { Able text.now s n kinds.old args.old lines.old bounds.old }
+    ensures { Adds (told (lines_at text.now s.start s.lines) s.closed) s.first n
         kinds.old args.old lines.old bounds.old list.old
         result kinds.new args.new lines.new bounds.new list.new }
 {
-    let code = deck::size_code(cards, closed, long);
-    let s = n.statements;
-    let f = n.faults;
-    let d = n.drafts;
-    let r = read_statement(
-        text, start, span, next, closed, code, row_kinds, row_args, kinds, args, d,
-    );
-    match r {
-        Told::Says(end) => {
-            lines[s] = first as u16;
-            bounds[s + 1] = end as u16;
+    let statements = n.statements;
+    let drafts = n.drafts;
+    let faults = n.faults;
+    match read_statement(text, s, row, kinds, args, drafts) {
+        Ok(end) => {
+            lines[statements] = s.first as u16;
+            bounds[statements + 1] = end as u16;
             SoFar {
-                statements: s + 1,
+                statements: statements + 1,
                 drafts: end,
-                faults: f,
+                faults,
             }
         }
-        Told::Faulty(fault, place) => {
-            let at = deck::find_spot(text, start, span, place);
-            sheet::put_fault(list, f, first, fault, first + at.down, at.column);
+        Err(Flawed { fault, place }) => {
+            let at = deck::find_spot(text, s.start, s.lines, place);
+            let code = u8::from(fault);
+            sheet::put_fault(list, faults, s.first, code, s.first + at.down, at.column);
             SoFar {
-                statements: s,
-                drafts: d,
-                faults: f + 1,
+                statements,
+                drafts,
+                faults: faults + 1,
             }
         }
     }
@@ -259,8 +292,7 @@ fn lacks_room(places: usize, d: usize, start: usize, next: usize) -> bool
     places - d < next - 1 - start
 }
 
-// Reads the statements of a text, as long as they are not too many and there is room for their drafts; the tokens of
-// one stand in two rows.
+// Reads the statements of a text, as long as they are not too many and there is room for their drafts.
 fn read_all(
     text: &[u8],
     kinds: &mut [u8],
@@ -268,59 +300,42 @@ fn read_all(
     lines: &mut [u16],
     bounds: &mut [u16],
     list: &mut [u8],
-) -> HowFar
+) -> Result<SoFar, Short>
     requires { Room text.now list.old kinds.old args.old lines.old bounds.old }
     ensures { ReadFar text.now list.old result
         kinds.new args.new lines.new bounds.new list.new }
 {
-    let mut row_kinds = [0u8; deck::JOINED_BYTES];
-    let mut row_args = [0u64; deck::JOINED_BYTES];
+    let mut row = TokenRow {
+        kinds: [0u8; JOINED_BYTES],
+        args: [0u64; JOINED_BYTES],
+    };
     let mut n = SoFar {
         statements: 0,
         drafts: 0,
         faults: 0,
     };
     let mut c = Cursor { at: 0, line: 1 };
-    loop {
-        let found = deck::next_statement(text, c);
-        let Found::Statement {
-            first,
-            start,
-            lines: span,
-            cards,
-            closed,
-            long,
-            next,
-        } = found
-        else {
-            return HowFar::Through(n);
-        };
+    while let Some(s) = deck::next_statement(text, c) {
         if STATEMENTS <= n.statements + n.faults {
-            return HowFar::TooMany;
+            return Err(Short::TooMany);
         }
-        if lacks_room(kinds.len(), n.drafts, start, next.at) {
-            return HowFar::NoRoom;
+        if lacks_room(kinds.len(), n.drafts, s.start, s.next.at) {
+            return Err(Short::NoRoom);
         }
         n = read_one(
             text,
-            first,
-            start,
-            span,
-            cards,
-            closed,
-            long,
-            next.at,
+            s,
             n,
-            &mut row_kinds,
-            &mut row_args,
+            &mut row,
             &mut *kinds,
             &mut *args,
             &mut *lines,
             &mut *bounds,
             &mut *list,
         );
-        c = next;
+        c = s.next;
     }
+    Ok(n)
 }
 
 // ---- the entries
@@ -335,22 +350,16 @@ fn answer(
     faults: &mut [u8],
     out: &mut [u8],
     ordered: &mut [u16],
-) -> Ordered
+) -> Result<Ordered, Refusal>
     ensures { Answers (asks_names (length rows.old)) text.now faults.old
         out.old ordered.old
         result faults.new out.new ordered.new }
 {
     if faults.len() < FAULT_ROOM {
-        return Ordered {
-            verdict: Verdict::Refused(1),
-            units: 0,
-        };
+        return Err(Refusal::ShortFaultList);
     }
     if TEXT_BYTES < text.len() {
-        return Ordered {
-            verdict: Verdict::Refused(2),
-            units: 0,
-        };
+        return Err(Refusal::LongText);
     }
     if text.len() <= room::SMALL {
         return room::in_small_room(rows, text, faults, out, ordered);
@@ -359,10 +368,7 @@ fn answer(
         return room::in_large_room(rows, text, faults, out, ordered);
     }
     if TEXT_LINES < deck::line_count(text) {
-        return Ordered {
-            verdict: Verdict::Refused(3),
-            units: 0,
-        };
+        return Err(Refusal::ManyLines);
     }
     room::in_large_room(rows, text, faults, out, ordered)
 }
@@ -374,7 +380,7 @@ pub fn translate_in_order(
     faults: &mut [u8],
     program: &mut [u8],
     ordered: &mut [u16],
-) -> Ordered
+) -> Result<Ordered, Refusal>
     ensures { TranslatesInOrder text.now faults.old program.old
         ordered.old result faults.new program.new ordered.new }
 {
@@ -383,35 +389,23 @@ pub fn translate_in_order(
 }
 
 // The verdict alone: no place is lent for the order.
-pub fn translate(text: &[u8], faults: &mut [u8], program: &mut [u8]) -> Verdict
+pub fn translate(text: &[u8], faults: &mut [u8], program: &mut [u8]) -> Result<usize, Refusal>
     ensures { Translates text.now faults.old program.old result
         faults.new program.new }
 {
     let mut none = [0u16; 0];
-    let r = translate_in_order(text, faults, program, &mut none);
-    r.verdict
-}
-
-// The answer where names were asked for: what is counted for 0 are entries.
-fn named_as(v: Verdict) -> Named
-    ensures { result ≡ named_as v }
-{
-    match v {
-        Verdict::Refused(number) => Named::Refused(number),
-        Verdict::Faulty(number, count) => Named::Faulty(number, count),
-        Verdict::Translated(count) => Named::Entries(count),
-    }
+    let done = translate_in_order(text, faults, program, &mut none)?;
+    Ok(done.records)
 }
 
 // A name for every slot: the verdict of translating, with the fault list; for 0, if there is room, an entry for each
-// definition, written to the front of what is lent.
-pub fn names(text: &[u8], faults: &mut [u8], out: &mut [u8]) -> Named
+// definition, written to the front of what is lent, and how many there are.
+pub fn names(text: &[u8], faults: &mut [u8], out: &mut [u8]) -> Result<usize, Refusal>
     ensures { NamesSlots text.now faults.old out.old result faults.new
         out.new }
 {
     let mut none = [0u16; 0];
     let mut rows = [0u8; finish::ROSTER_ROOM];
-    let r = answer(&mut rows, text, faults, out, &mut none);
-    let verdict = r.verdict;
-    named_as(verdict)
+    let done = answer(&mut rows, text, faults, out, &mut none)?;
+    Ok(done.records)
 }

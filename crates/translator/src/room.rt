@@ -3,12 +3,12 @@
 // than the smallest room is read in the next, and once more in the largest where its drafts do not fit. Only of a text
 // that is read through it is known that its statements are not too many, so a larger room has a fault list of its own.
 // Where names are asked for, rows for them are lent from outside; else there are none.
-ghost use Rattle.std.specs.Prelude.{◌≡◌, true, false, ◌≤◌, length};
-ghost use Rattle.translator.specs.declared.Verdict.TheVariants.{Refused};
-ghost use Rattle.translator.specs.Working.{Taken, Room, AllRead, asks_names, DecidesFor, TriesFor, small, quarter};
+ghost use Rattle.std.specs.Prelude.{◌≤◌, length};
+ghost use Rattle.limits.specs.Limits.{text_bytes};
+ghost use Rattle.translator.specs.Working.{Taken, AllRead, asks_names, DecidesFor, TriesFor, small};
 
 use super::finish::conclude;
-use super::{HowFar, Ordered, SoFar, Verdict, read_all};
+use super::{Ordered, Refusal, Short, SoFar, read_all};
 use bits::put_bytes;
 use limits::{FAULT_BYTES, FAULT_ROOM, STATEMENTS, TEXT_BYTES};
 
@@ -17,46 +17,6 @@ pub(crate) const SMALL: usize = STATEMENTS / 2;
 
 // The places for drafts in the next.
 const QUARTER: usize = TEXT_BYTES / 4;
-
-// What deciding in a room gives: whether its places were too few for the drafts, and else the answer.
-#[derive(Drop)]
-pub(crate) struct Tried {
-    pub full: bool,
-    pub answer: Ordered,
-}
-
-// A room that was too small.
-fn too_small() -> Tried
-    ensures { result.full ≡ true }
-{
-    Tried {
-        full: true,
-        answer: Ordered {
-            verdict: Verdict::Refused(0),
-            units: 0,
-        },
-    }
-}
-
-// One that was not, and the answer.
-fn with_answer(answer: Ordered) -> Tried
-    ensures { (result.full ≡ false) × (result.answer ≡ answer) }
-{
-    Tried {
-        full: false,
-        answer,
-    }
-}
-
-// The answer where statements are too many.
-fn too_many() -> Ordered
-    ensures { result ≡ record { verdict = Refused 4; units = 0 } }
-{
-    Ordered {
-        verdict: Verdict::Refused(4),
-        units: 0,
-    }
-}
 
 // The verdict on a text that is read through: 5 with the faults listed, or the verdict on its model.
 fn decide(
@@ -70,7 +30,7 @@ fn decide(
     lines: &[u16],
     bounds: &[u16],
     ordered: &mut [u16],
-) -> Ordered
+) -> Result<Ordered, Refusal>
     requires { AllRead n faults.old kinds.old args.old used.old lines.now bounds.now }
     ensures { (s : AllRead n faults.old kinds.old args.old used.old
         lines.now bounds.now)
@@ -79,10 +39,7 @@ fn decide(
         out.new ordered.new }
 {
     if 0 < n.faults {
-        return Ordered {
-            verdict: Verdict::Faulty(5, n.faults),
-            units: 0,
-        };
+        return Err(Refusal::StatementFaults(n.faults));
     }
     let s = n.statements;
     let d = n.drafts;
@@ -99,50 +56,6 @@ fn decide(
     )
 }
 
-// The verdict on a text, if its drafts have room: 4, or that on what is read, with the faults in a list of the room's
-// own until then.
-fn try_room(
-    rows: &mut [u8],
-    text: &[u8],
-    faults: &mut [u8],
-    out: &mut [u8],
-    kinds: &mut [u8],
-    args: &mut [u64],
-    used: &mut [u16],
-    lines: &mut [u16],
-    bounds: &mut [u16],
-    list: &mut [u8],
-    ordered: &mut [u16],
-) -> Tried
-    requires { (Room text.now list.old kinds.old args.old lines.old bounds.old)
-        × (Taken text.now faults.old) × (length kinds.old ≤ length used.old) }
-    ensures { TriesFor (asks_names (length rows.old)) text.now (length kinds.old)
-        faults.old
-        out.old ordered.old result faults.new out.new
-        ordered.new }
-{
-    let far = read_all(
-        text,
-        &mut *kinds,
-        &mut *args,
-        &mut *lines,
-        &mut *bounds,
-        &mut *list,
-    );
-    match far {
-        HowFar::NoRoom => too_small(),
-        HowFar::TooMany => with_answer(too_many()),
-        HowFar::Through(n) => {
-            let end = FAULT_BYTES * n.faults;
-            put_bytes(&mut *faults, 0, &list[..end]);
-            let answer = decide(
-                rows, n, faults, out, kinds, args, used, lines, bounds, ordered,
-            );
-            with_answer(answer)
-        }
-    }
-}
-
 // ---- the rooms
 
 // A text of a few lines: its statements are not too many and their drafts have room, so it is read through, and its
@@ -153,7 +66,7 @@ pub(crate) fn in_small_room(
     faults: &mut [u8],
     out: &mut [u8],
     ordered: &mut [u16],
-) -> Ordered
+) -> Result<Ordered, Refusal>
     requires { (Taken text.now faults.old) × (length text.now ≤ small) }
     ensures { DecidesFor (asks_names (length rows.old)) text.now faults.old
         out.old ordered.old
@@ -173,100 +86,71 @@ pub(crate) fn in_small_room(
         &mut *faults,
     );
     match far {
-        HowFar::NoRoom => too_many(),
-        HowFar::TooMany => too_many(),
-        HowFar::Through(n) => decide(
+        Err(_) => Err(Refusal::ManyStatements),
+        Ok(n) => decide(
             rows, n, faults, out, &mut kinds, &mut args, &mut used, &lines, &bounds, ordered,
         ),
     }
 }
 
-// A text of some length, if its drafts have room.
-fn in_quarter_room(
+// A longer text in a room with so many places for drafts, if these have room: 4, or the verdict on what is read, with
+// the faults in a list of the room's own until then.
+fn try_in<const DRAFTS: usize>(
     rows: &mut [u8],
     text: &[u8],
     faults: &mut [u8],
     out: &mut [u8],
     ordered: &mut [u16],
-) -> Tried
-    requires { Taken text.now faults.old }
-    ensures { TriesFor (asks_names (length rows.old)) text.now quarter faults.old
+) -> Option<Result<Ordered, Refusal>>
+    requires { (Taken text.now faults.old) × (DRAFTS ≤ text_bytes) }
+    ensures { TriesFor (asks_names (length rows.old)) text.now DRAFTS faults.old
         out.old
         ordered.old result faults.new out.new ordered.new }
 {
-    let mut kinds = [0u8; QUARTER];
-    let mut args = [0u64; QUARTER];
-    let mut used = [0u16; QUARTER];
+    let mut kinds = [0u8; DRAFTS];
+    let mut args = [0u64; DRAFTS];
+    let mut used = [0u16; DRAFTS];
     let mut lines = [0u16; STATEMENTS];
     let mut bounds = [0u16; STATEMENTS + 1];
     let mut list = [0u8; FAULT_ROOM];
-    try_room(
-        rows,
+    let far = read_all(
         text,
-        faults,
-        out,
         &mut kinds,
         &mut args,
-        &mut used,
         &mut lines,
         &mut bounds,
         &mut list,
-        ordered,
-    )
-}
-
-// Any text that is taken.
-fn in_whole_room(
-    rows: &mut [u8],
-    text: &[u8],
-    faults: &mut [u8],
-    out: &mut [u8],
-    ordered: &mut [u16],
-) -> Ordered
-    requires { Taken text.now faults.old }
-    ensures { DecidesFor (asks_names (length rows.old)) text.now faults.old
-        out.old ordered.old
-        result faults.new out.new ordered.new }
-{
-    let mut kinds = [0u8; TEXT_BYTES];
-    let mut args = [0u64; TEXT_BYTES];
-    let mut used = [0u16; TEXT_BYTES];
-    let mut lines = [0u16; STATEMENTS];
-    let mut bounds = [0u16; STATEMENTS + 1];
-    let mut list = [0u8; FAULT_ROOM];
-    let tried = try_room(
-        rows,
-        text,
-        faults,
-        out,
-        &mut kinds,
-        &mut args,
-        &mut used,
-        &mut lines,
-        &mut bounds,
-        &mut list,
-        ordered,
     );
-    tried.answer
+    match far {
+        Err(Short::NoRoom) => None,
+        Err(Short::TooMany) => Some(Err(Refusal::ManyStatements)),
+        Ok(n) => {
+            let end = FAULT_BYTES * n.faults;
+            put_bytes(&mut *faults, 0, &list[..end]);
+            Some(decide(
+                rows, n, faults, out, &mut kinds, &mut args, &mut used, &lines, &bounds, ordered,
+            ))
+        }
+    }
 }
 
-// A longer text, in the smaller of two rooms that has places for its drafts. Called from two places, it keeps a frame
-// of its own, so that a small text touches no page of these rooms.
+// A longer text, in the smaller of two rooms that has places for its drafts; the larger has one for each byte. Called
+// from two places, it keeps a frame of its own, so that a small text touches no page of these rooms.
 pub(crate) fn in_large_room(
     rows: &mut [u8],
     text: &[u8],
     faults: &mut [u8],
     out: &mut [u8],
     ordered: &mut [u16],
-) -> Ordered
+) -> Result<Ordered, Refusal>
     requires { Taken text.now faults.old }
     ensures { DecidesFor (asks_names (length rows.old)) text.now faults.old
         out.old ordered.old
         result faults.new out.new ordered.new }
 {
-    let tried = in_quarter_room(&mut *rows, text, &mut *faults, &mut *out, &mut *ordered);
-    if tried.full {
-        return in_whole_room(rows, text, faults, out, ordered);
+    let tried = try_in::<QUARTER>(&mut *rows, text, &mut *faults, &mut *out, &mut *ordered);
+    match tried {
+        Some(answer) => answer,
+        None => try_in::<TEXT_BYTES>(rows, text, faults, out, ordered).unwrap(),
     }
-    tried.answer
 }

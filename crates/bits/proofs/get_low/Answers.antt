@@ -1,13 +1,14 @@
 -- The loop reads from the last byte to the first.
 use Prim.Native.Nat.{◌<◌, ◌^◌, ◌≤◌, min}
 use native.Mathlib.Omega.{arith}
+use borrow.Author.Rules.{rules}
 use Rattle.bits.proofs.Lows.{reading_first, reading_next, reading_fits, reading_last}
 use Rattle.bits.proofs.get_low.Goals as goal
 
 pub loop-i-init : goal.loop-i-init
 loop-i-init c =
-    reading_first c.args.part.now (min c.args.n 8) c.least-i.result
-    (omega (arith, c.least-i.ensures, c.least.ensures))
+    reading_first c.args.part.now (min c.args.n 8) c.min-i.result
+    (search rules)
 
 pub overflow_mul-word : goal.overflow_mul-word
 overflow_mul-word c =
@@ -30,5 +31,5 @@ loop-i-preserved c =
 
 pub returns : goal.returns
 returns c =
-    reading_last c.args.part.now (min c.args.n 8) c.loop-i.i c.loop-i.word c.loop-i-test.false
+    reading_last c.args.part.now (min c.args.n 8) c.loop-i.i c.loop-i.word (omega arith)
     c.loop-i.invariant

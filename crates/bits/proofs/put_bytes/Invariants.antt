@@ -1,5 +1,5 @@
 -- The loop copies from the first byte to the last for which there is a place.
-use Prim.Native.Nat.{◌-◌, ◌≤◌, min}
+use Prim.Native.Nat.{◌-◌, min}
 use mathlib.Core.Path.{◌≡◌}
 use lib.ListN.{length}
 use Rattle.laws.proofs.Copies.{Copied}
@@ -7,8 +7,4 @@ use Rattle.bits.proofs.put_bytes.Given as goal
 
 abbrev pub invariant-loop-i : goal.invariant-loop-i
 invariant-loop-i l =
-    (l.n ≡ min (length l.initial.buf - l.at) (length l.from)) × (l.i ≤ l.n) × Copied l.from l.initial.buf l.buf l.at l.i
-
-abbrev pub decreases-loop-i : goal.decreases-loop-i
-decreases-loop-i l =
-    l.n - l.i
+    (l.n ≡ min (length l.initial.buf - l.at) (length l.from)) × Copied l.from l.initial.buf l.buf l.at l.i

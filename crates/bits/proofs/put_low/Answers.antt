@@ -1,11 +1,7 @@
 -- The loop writes from the first byte to the last for which there is a place.
 use native.Mathlib.Omega.{arith}
-use Rattle.bits.proofs.Lows.{writing_first, writing_next, writing_last}
+use Rattle.bits.proofs.Lows.{writing_next, writing_last}
 use Rattle.bits.proofs.put_low.Goals as goal
-
-pub loop-i-init : goal.loop-i-init
-loop-i-init c =
-    (c.room-count.ensures, writing_first c.args.buf.now c.args.at c.args.n c.args.v)
 
 pub loop-i-preserved : goal.loop-i-preserved
 loop-i-preserved c = (

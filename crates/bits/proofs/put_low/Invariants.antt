@@ -8,7 +8,3 @@ use Rattle.bits.proofs.put_low.Given as goal
 abbrev pub invariant-loop-i : goal.invariant-loop-i
 invariant-loop-i l =
     (l.count ≡ min (length l.initial.buf - l.at) l.n) × Writing l.initial.buf l.buf l.at l.n l.v l.rest l.i
-
-abbrev pub decreases-loop-i : goal.decreases-loop-i
-decreases-loop-i l =
-    l.count - l.i

@@ -1,46 +1,38 @@
 -- The invariant: to write what is left, on the buffer as it is, gives what to write all gave at first.
-use mathlib.Core.Path.{sym, ◌∙◌}
-use native.Mathlib.Omega.{arith}
-use Rattle.deck.proofs.Cutting.{LineAt, line_at}
-use Rattle.deck.proofs.Writes.{cards_none, cards_end, joining_first, joining_over, joining_next}
-use Rattle.deck.proofs.Writes.{joining_last}
+use Rattle.std.proofs.Common.{sym, ◌∙◌, arith}
+use Rattle.deck.specs.Next.{lines_at}
+use Rattle.deck.proofs.Ahead.{line_turn, line_last}
+use Rattle.deck.proofs.Writes.{joining_over, joining_next, joining_last, part_fits, joined_fits}
 use Rattle.deck.proofs.join.Goals as goal
-
-pub loop-left-init : goal.loop-left-init
-loop-left-init c =
-    let a = c.args in
-    joining_first a.text.now a.start a.lines a.out.now
-
-pub returns-then-text-at : goal.returns-then-text-at
-returns-then-text-at c =
-    let text = c.args.text.now in
-    joining_last _ _ _ _ _ _ _ _ _ c.loop-left.invariant
-    (cards_end text c.loop-left.at c.loop-left.left c.if-text-at.true)
-
-pub loop-left-preserved-then-is_comment : goal.loop-left-preserved-then-is_comment
-loop-left-preserved-then-is_comment c =
-    let line : LineAt c.args.text.now c.loop-left.at
-    c.line_end-e.result = line_at _ c.loop-left.at c.line_end-e.result c.if-text-at.false c.line_end-e.ensures.value in
-    joining_over _ _ _ _ _ _ _ _ _ c.loop-left.invariant c.line_end-e.result c.loop-left-test.true
-    line (sym c.is_comment.ensures ∙ c.if-is_comment.true)
 
 pub put_card-w-requires : goal.put_card-w-requires
 put_card-w-requires c =
-    let line : LineAt c.args.text.now c.loop-left.at
-    c.line_end-e.result = line_at _ c.loop-left.at c.line_end-e.result c.if-text-at.false c.line_end-e.ensures.value in
-    omega (arith, c.loop-left.invariant, line.from, line.upto, line.long)
+    let text = c.args.text.now in
+    let left = line_turn (lines_at text c.args.start c.args.lines) c.lines_at-line-items.ensures
+    c.into_iter-line-iterator.ensures.into_iter_gives c.loop-line.yielded c.loop-line.line-iterator
+    c.loop-line.yielded_by c.next.result c.next.new.self c.next.ensures.steps c.in-Some.line c.in-Some.is in
+    let card = sym c.is_comment.ensures ∙ c.if-not-is_comment.true in
+    omega (arith, part_fits c.loop-line.invariant.2 _ _ left card, joined_fits text c.args.start c.args.lines)
 
-pub loop-left-preserved : goal.loop-left-preserved
-loop-left-preserved c =
-    let line : LineAt c.args.text.now c.loop-left.at
-    c.line_end-e.result = line_at _ c.loop-left.at c.line_end-e.result c.if-text-at.false c.line_end-e.ensures.value in
-    joining_next _ _ _ _ _ _ _ _ _ c.loop-left.invariant c.line_end-e.result _ c.put_card-w.result
-    c.loop-left-test.true line (sym c.is_comment.ensures ∙ c.if-is_comment.false)
-    c.put_card-w.ensures.value
-    c.put_card-w.ensures.written
+pub loop-line-preserved-then-not-is_comment : goal.loop-line-preserved-then-not-is_comment
+loop-line-preserved-then-not-is_comment c =
+    let left = line_turn (lines_at c.args.text.now c.args.start c.args.lines) c.lines_at-line-items.ensures
+    c.into_iter-line-iterator.ensures.into_iter_gives c.loop-line.yielded c.loop-line.line-iterator
+    c.loop-line.yielded_by c.next.result c.next.new.self c.next.ensures.steps c.in-Some.line c.in-Some.is in
+    let card = sym c.is_comment.ensures ∙ c.if-not-is_comment.true in
+    let put = c.put_card-w.ensures in
+    (tt, tt, joining_next c.loop-line.invariant.2 _ _ left _ _ card put.value put.written)
+
+pub loop-line-preserved : goal.loop-line-preserved
+loop-line-preserved c =
+    let left = line_turn (lines_at c.args.text.now c.args.start c.args.lines) c.lines_at-line-items.ensures
+    c.into_iter-line-iterator.ensures.into_iter_gives c.loop-line.yielded c.loop-line.line-iterator
+    c.loop-line.yielded_by c.next.result c.next.new.self c.next.ensures.steps c.in-Some.line c.in-Some.is in
+    (tt, tt, joining_over c.loop-line.invariant.2 _ _ left (sym c.is_comment.ensures ∙ c.if-not-is_comment.false))
 
 pub returns : goal.returns
 returns c =
-    let text = c.args.text.now in
-    joining_last _ _ _ _ _ _ _ _ _ c.loop-left.invariant
-    (cards_none text c.loop-left.at c.loop-left.left c.loop-left-test.false)
+    joining_last c.loop-line.invariant.2
+    (line_last (lines_at c.args.text.now c.args.start c.args.lines) c.lines_at-line-items.ensures
+    c.into_iter-line-iterator.ensures.into_iter_gives c.loop-line.yielded c.loop-line.line-iterator
+    c.loop-line.yielded_by c.next.result c.next.new.self c.next.ensures.steps c.in-None.is)

@@ -1,20 +1,21 @@
 -- A line for each byte 10, and one more where the last byte is another.
-use mathlib.Core.Path.{sym, ◌∙◌}
-use native.Mathlib.Omega.{arith}
+use Rattle.std.proofs.Common.{◌≡◌, ◌≢◌, ◌-◌, length, Some, arith, rules}
+use Rattle.std.specs.List.{slice_get}
 use Rattle.deck.proofs.Ends.{lines_none, lines_closed, lines_open}
 use Rattle.deck.proofs.line_count.Goals as goal
 
-pub returns-then-size-eq0 : goal.returns-then-size-eq0
-returns-then-size-eq0 c =
-    c.count_ends-n.ensures.0 ∙ sym (lines_none _ c.if-size-eq0.true)
+pub returns-in-Some : goal.returns-in-Some
+returns-in-Some c =
+    let other : c.in-Some.field-0.now ≢ 10 = search rules in
+    let many = lines_open c.args.text.now c.in-Some.field-0.now c.in-Some.ensures.value other in
+    omega (arith, many, c.count_ends-n.ensures.0)
 
-pub returns-then-text-size-eq10 : goal.returns-then-text-size-eq10
-returns-then-text-size-eq10 c =
-    c.count_ends-n.ensures.0
-    ∙ sym (lines_closed c.args.text.now (omega (arith, c.if-size-eq0.false)) c.if-text-size-eq10.true)
+pub returns-in-None : goal.returns-in-None
+returns-in-None c =
+    let many = lines_none c.args.text.now c.in-None.ensures.value in omega (arith, many, c.count_ends-n.ensures.0)
 
-pub returns : goal.returns
-returns c =
-    let t = c.args.text.now in
-    let e = lines_open t (omega (arith, c.if-size-eq0.false)) c.if-text-size-eq10.false in
-    omega (arith, c.count_ends-n.ensures.0, e)
+pub returns-in-None-2 : goal.returns-in-None-2
+returns-in-None-2 c =
+    let text = c.args.text.now in
+    let ten : Some 10 ≡ slice_get text (length text - 1) = search rules in
+    omega (arith, lines_closed text ten, c.count_ends-n.ensures.0)

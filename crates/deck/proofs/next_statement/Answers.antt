@@ -1,47 +1,39 @@
 -- The invariant: what is found from the present line on is what is found from the cursor.
-use mathlib.Core.Path.{sym, ◌∙◌}
-use Rattle.deck.proofs.Cutting.{LineAt, line_at}
+use Rattle.std.proofs.Common.{Some, None, refl, sym, ap, ◌∙◌, arith}
 use Rattle.deck.proofs.Steps.{seeking_first, seeking_next, seeking_run, seeking_end, found_none}
-use Rattle.deck.proofs.Steps.{found_end}
 use Rattle.deck.proofs.Walking.{found_both}
 use Rattle.deck.proofs.next_statement.Goals as goal
 
-pub returns-then-text-at : goal.returns-then-text-at
-returns-then-text-at c =
-    let a =
-    c.args in found_both a.text.now a.c _ (found_end a.text.now a.c c.if-text-at.true)
+pub returns-then-saturating_add-c : goal.returns-then-saturating_add-c
+returns-then-saturating_add-c c =
+    found_both c.args.text.now c.args.c None (found_none c.args.text.now c.args.c (omega arith))
 
-pub returns-then-at-line : goal.returns-then-at-line
-returns-then-at-line c =
-    let a = c.args in
-    found_both a.text.now a.c _ (found_none a.text.now a.c c.if-at-line.true)
+pub loop-line-init : goal.loop-line-init
+loop-line-init c = (refl, seeking_first c.args.text.now c.args.c (omega arith))
 
-pub loop-at-init : goal.loop-at-init
-loop-at-init c =
-    let a = c.args in seeking_first a.text.now a.c c.if-at-line.false
+pub returns-in_err-line : goal.returns-in_err-line
+returns-in_err-line c =
+    let text = c.args.text.now in
+    let sought = c.loop-line.invariant in
+    let end = rw sought.0 at c.in_err-line.ensures.steps.1.0 in
+    found_both text c.args.c _ (c.from_residual.ensures ∙ seeking_end text c.args.c sought.1 end)
 
-pub loop-at-preserved : goal.loop-at-preserved
-loop-at-preserved c =
-    let line : LineAt c.args.text.now c.loop-at.at
-    c.line_end-e.result = line_at _ c.loop-at.at c.line_end-e.result c.loop-at-test.true
-    c.line_end-e.ensures.value in
-    let a = c.args in
-    let d = sym c.is_passed.ensures ∙ c.if-is_passed.true in
-    seeking_next a.text.now a.c c.loop-at.at c.loop-at.line c.loop-at.invariant c.line_end-e.result line d
+pub returns-then-not-is_passed : goal.returns-then-not-is_passed
+returns-then-not-is_passed c =
+    let text = c.args.text.now in
+    let sought = c.loop-line.invariant in
+    let line = rw sought.0 at c.in_ok-line.ensures.steps.1.0 in
+    let starts = sym c.is_passed.ensures ∙ c.if-not-is_passed.true in
+    found_both text c.args.c (Some c.run.result)
+    (seeking_run text c.args.c sought.1 c.in_ok-line.line.now (Some c.run.result) line starts c.run.ensures)
 
-pub returns-else-is_passed : goal.returns-else-is_passed
-returns-else-is_passed c =
-    let line : LineAt c.args.text.now c.loop-at.at
-    c.line_end-e.result = line_at _ c.loop-at.at c.line_end-e.result c.loop-at-test.true
-    c.line_end-e.ensures.value in
-    let a = c.args in
-    let d = sym c.is_passed.ensures ∙ c.if-is_passed.false in
-    found_both a.text.now a.c c.run.result
-    (seeking_run a.text.now a.c c.loop-at.at c.loop-at.line c.loop-at.invariant c.line_end-e.result
-    c.run.result line d c.run.ensures)
-
-pub returns : goal.returns
-returns c =
-    let a = c.args in
-    found_both a.text.now a.c _
-    (seeking_end a.text.now a.c c.loop-at.at c.loop-at.line c.loop-at.invariant c.loop-at-test.false)
+pub loop-line-preserved : goal.loop-line-preserved
+loop-line-preserved c =
+    let text = c.args.text.now in
+    let sought = c.loop-line.invariant in
+    let steps = c.in_ok-line.ensures.steps in
+    let line = rw sought.0 at steps.1.0 in
+    let over = sym c.is_passed.ensures ∙ c.if-not-is_passed.false in (
+      ap (λ t. t.now) steps.0 ∙ sought.0,
+      rw steps.1.1 (seeking_next text c.args.c sought.1 c.in_ok-line.line.now line over),
+    )

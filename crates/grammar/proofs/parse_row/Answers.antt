@@ -1,66 +1,46 @@
 -- `grammar::parse_row` meets its contract.
-use mathlib.Core.Path.{sym, ◌∙◌}
-use native.Mathlib.Omega.{arith}
-use Rattle.grammar.proofs.Meets.{is_done}
-use Rattle.grammar.proofs.Entry.{uneven, no_kinds, no_args, entry_ready, entry_byte, entry_stopped, entry_done}
-use Rattle.grammar.proofs.Entry.{entry_more}
+use Rattle.std.proofs.Common.{rules, arith, sym, ◌∙◌}
+use Rattle.std.proofs.lemmas.Result.{err_from_is_err_and}
+use Rattle.grammar.proofs.Entry.{moved, uneven, no_kinds, no_args, entry_stopped, entry_done, entry_more}
 use Rattle.grammar.proofs.parse_row.Goals as goal
+use Rattle.grammar.proofs.parse_row.Goals.{then-args-n-via-then-args-n, then-args-n-via-else-args-n+then-lacks}
+use Rattle.grammar.proofs.parse_row.Goals.{then-args-n-via-else-args-n+else-lacks+then-lacks-2}
 
 pub returns-then-args-n : goal.returns-then-args-n
 returns-then-args-n c =
-    uneven c.args.kinds.now c.args.args.now c.args.place c.args.out_kinds.now
-    c.args.out_args.now
-    c.if-args-n.true
+    let ks = c.args.kinds.now in
+    let us = c.args.args.now in
+    let p = c.args.place in
+    let l = c.args.out_kinds.now in
+    let u = c.args.out_args.now in
+    elim c.then-args-n.branch [
+      | then-args-n-via-then-args-n w ↦ uneven ks us p l u w.if-args-n.true
+      | then-args-n-via-else-args-n+then-lacks w ↦
+          no_kinds ks us p l u w.if-args-n.false (sym w.if-lacks.true ∙ w.lacks.ensures)
+      | then-args-n-via-else-args-n+else-lacks+then-lacks-2 w ↦
+          no_args ks us p l u w.if-args-n.false (sym w.if-lacks.false ∙ w.lacks.ensures)
+          (sym w.if-lacks-2.true ∙ w.lacks-else-lacks.ensures)
+    ]
 
-pub returns-then-lacks : goal.returns-then-lacks
-returns-then-lacks c =
-    no_kinds c.args.kinds.now c.args.args.now c.args.place c.args.out_kinds.now
-    c.args.out_args.now
-    c.if-args-n.false (sym c.if-lacks.true ∙ c.lacks.ensures)
+pub returns-in_err-next : goal.returns-in_err-next
+returns-in_err-next c =
+    let p = err_from_is_err_and c.from_residual.result c.from_residual.ensures.1 in
+    rw (p.1, p.2)
+    (moved (search rules) (search rules)
+    (entry_stopped c.args.kinds.now c.args.args.now c.args.place c.args.out_kinds.now c.args.out_args.now
+    c.if-args-n.false (sym c.if-lacks.false ∙ c.lacks.ensures) (sym c.if-lacks-2.false ∙ c.lacks-else-lacks.ensures)
+    c.in_err-next.field-0.0 c.in_err-next.ensures.reads))
 
-pub returns-then-lacks-2 : goal.returns-then-lacks-2
-returns-then-lacks-2 c =
-    no_args c.args.kinds.now c.args.args.now c.args.place c.args.out_kinds.now
-    c.args.out_args.now
-    c.if-args-n.false (sym c.if-lacks.false ∙ c.lacks.ensures)
-    (sym c.if-lacks-2.true ∙ c.lacks-2.ensures)
-
-pub any_statement-r-requires : goal.any_statement-r-requires
-any_statement-r-requires c =
-    entry_ready c.args.kinds.now c.args.args.now c.args.place c.args.out_kinds.now
-    c.args.out_args.now
-    c.if-args-n.false (sym c.if-lacks.false ∙ c.lacks.ensures)
-    (sym c.if-lacks-2.false ∙ c.lacks-2.ensures)
-
-pub overflow_cast-result : goal.overflow_cast-result
-overflow_cast-result c =
-    let h = entry_byte c.args.kinds.now c.args.args.now c.args.place
-    c.args.out_kinds.now c.args.out_args.now
-    c.if-args-n.false (sym c.if-lacks.false ∙ c.lacks.ensures)
-    (sym c.if-lacks-2.false ∙ c.lacks-2.ensures)
-    c.any_statement-r.ensures in
-    omega arith
-
-pub returns-then-r-ne0 : goal.returns-then-r-ne0
-returns-then-r-ne0 c =
-    entry_stopped c.args.kinds.now c.args.args.now c.args.place c.args.out_kinds.now
-    c.args.out_args.now
-    c.if-args-n.false (sym c.if-lacks.false ∙ c.lacks.ensures)
-    (sym c.if-lacks-2.false ∙ c.lacks-2.ensures)
-    c.any_statement-r.ensures c.if-r-ne0.true
-
-pub returns-then-r-n : goal.returns-then-r-n
-returns-then-r-n c =
-    entry_done c.args.kinds.now c.args.args.now c.args.place c.args.out_kinds.now
-    c.args.out_args.now
-    c.if-args-n.false (sym c.if-lacks.false ∙ c.lacks.ensures)
-    (sym c.if-lacks-2.false ∙ c.lacks-2.ensures)
-    c.any_statement-r.ensures (is_done c.if-r-ne0.false) c.if-r-n.true
+pub returns-then-next-n : goal.returns-then-next-n
+returns-then-next-n c =
+    moved (search rules) (search rules)
+    (entry_more c.args.kinds.now c.args.args.now c.args.place c.args.out_kinds.now c.args.out_args.now
+    c.if-args-n.false (sym c.if-lacks.false ∙ c.lacks.ensures) (sym c.if-lacks-2.false ∙ c.lacks-else-lacks.ensures)
+    c.in_ok-next.ensures.reads c.if-next-n.true)
 
 pub returns : goal.returns
 returns c =
-    entry_more c.args.kinds.now c.args.args.now c.args.place c.args.out_kinds.now
-    c.args.out_args.now
-    c.if-args-n.false (sym c.if-lacks.false ∙ c.lacks.ensures)
-    (sym c.if-lacks-2.false ∙ c.lacks-2.ensures)
-    c.any_statement-r.ensures (is_done c.if-r-ne0.false) c.if-r-n.false
+    moved (search rules) (search rules)
+    (entry_done c.args.kinds.now c.args.args.now c.args.place c.args.out_kinds.now c.args.out_args.now
+    c.if-args-n.false (sym c.if-lacks.false ∙ c.lacks.ensures) (sym c.if-lacks-2.false ∙ c.lacks-else-lacks.ensures)
+    c.in_ok-next.ensures.reads (omega arith))

@@ -1,29 +1,25 @@
 -- The loop: the search from `from` on is the search from i on.
-use mathlib.Core.Path.{refl, sym, ◌∙◌}
-use Rattle.order.specs.Marks.{flag}
-use Rattle.order.proofs.Searches.{first_stop, first_pass, first_none}
-use Rattle.order.proofs.Seeking.{flag_set, flag_clear}
+use mathlib.Core.Path.{sym, ap, ◌∙◌}
+use Rattle.order.specs.Marks.{flag, below_end}
+use Rattle.order.proofs.Searches.{first_stop, first_pass, first_none, before_found, before_past}
 use Rattle.order.proofs.seek_one.Goals as goal
 
-pub loop-i-init : goal.loop-i-init
-loop-i-init c =
-    refl
-
-pub returns-then-ready-i-ne0 : goal.returns-then-ready-i-ne0
-returns-then-ready-i-ne0 c =
+pub returns-then-flags-i : goal.returns-then-flags-i
+returns-then-flags-i c =
     let s = c.args in
-    let i = c.loop-i.i in
-    sym (c.loop-i.invariant
-    ∙ first_stop (flag s.ready.now) s.n i c.loop-i-test.true (flag_set s.ready.now i c.if-ready-i-ne0.true))
+    let l = c.loop-i in
+    let stop = first_stop (flag s.flags.now) s.n l.i c.loop-i-test.true c.if-flags-i.true in
+    sym (ap (below_end s.n) (l.invariant ∙ stop) ∙ before_found s.n c.loop-i-test.true)
 
 pub loop-i-preserved : goal.loop-i-preserved
 loop-i-preserved c =
     let s = c.args in
-    let i = c.loop-i.i in
-    c.loop-i.invariant
-    ∙ first_pass (flag s.ready.now) s.n i c.loop-i-test.true (flag_clear s.ready.now i c.if-ready-i-ne0.false)
+    c.loop-i.invariant ∙ first_pass (flag s.flags.now) s.n c.loop-i.i c.loop-i-test.true c.if-flags-i.false
 
 pub returns : goal.returns
 returns c =
     let s = c.args in
-    sym (c.loop-i.invariant ∙ first_none (flag s.ready.now) s.n c.loop-i.i c.loop-i-test.false)
+    let l = c.loop-i in
+    sym
+    (ap (below_end s.n) (l.invariant ∙ first_none (flag s.flags.now) s.n l.i c.loop-i-test.false)
+    ∙ before_past s.n c.loop-i-test.false)

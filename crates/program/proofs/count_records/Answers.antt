@@ -2,24 +2,25 @@
 use mathlib.Core.Path.{ap, ◌∙◌}
 use native.Mathlib.Omega.{arith}
 use borrow.Author.Rules.{rules}
-use lib.ListN.{drop_of_length-le}
+use Prim.Native.Nat.{◌≤◌}
+use lib.ListN.{length, drop_of_length-le}
 use Rattle.program.specs.Written.{record_count}
 use Rattle.program.proofs.StepCases.{counted}
 use Rattle.program.proofs.count_records.Goals as goal
 
-pub loop-i-init : goal.loop-i-init
-loop-i-init c =
-    (search rules, search rules, omega arith)
+pub loop-kind-init : goal.loop-kind-init
+loop-kind-init c = (search rules, omega arith)
 
-pub loop-i-preserved : goal.loop-i-preserved
-loop-i-preserved c =
+pub loop-kind-preserved : goal.loop-kind-preserved
+loop-kind-preserved c =
     let kinds = c.args.kinds.now in
-    let e = counted kinds c.loop-i.i c.loop-i.n c.records_of-n.result c.loop-i-test.true
-    c.records_of-n.ensures.0 in
-    (omega arith, omega (arith, c.records_of-n.ensures.1), e ∙ c.loop-i.invariant.2)
+    let e =
+    counted kinds c.loop-kind.kind-index c.loop-kind.n c.records_of-n.result (omega arith) c.records_of-n.ensures.0 in
+    (omega (arith, c.records_of-n.ensures.1), e ∙ c.loop-kind.invariant.1)
 
 pub returns : goal.returns
 unfolding record_count
 returns c =
     let kinds = c.args.kinds.now in
-    omega (arith, ap record_count (drop_of_length-le kinds c.loop-i-test.false))
+    let h : length kinds ≤ c.loop-kind.kind-index = omega arith in
+    omega (arith, ap record_count (drop_of_length-le kinds h))

@@ -6,8 +6,9 @@ use Rattle.program.proofs.put_all_settings.Goals as goal
 pub loop-j-init : goal.loop-j-init
 loop-j-init c =
     let a = c.args in
+    let s = a.sheet.now in
     filling_first _ _ _ _ _
-    (whole_settings a.phase a.places.now a.lines.now a.bounds.now a.kinds.now a.slots.now)
+    (whole_settings a.phase a.places.now s.lines.now s.bounds.now s.kinds.now s.args.now)
     c.requires
 
 pub put_settings-w-requires : goal.put_settings-w-requires

@@ -4,26 +4,28 @@ use Rattle.program.proofs.RoomFilled.{fill_as, filling_first, filling_next, fill
 use Rattle.program.proofs.StepCases.{whole_unit, ordered_gather}
 use Rattle.program.proofs.put_ordered.Goals as goal
 
-pub loop-q-init : goal.loop-q-init
-loop-q-init c =
+pub loop-place-init : goal.loop-place-init
+loop-place-init c =
     let a = c.args in
+    let s = a.sheet.now in
     filling_first _ _ _ _ _
-    (λ p. whole_unit a.firsts.now a.lines.now a.bounds.now a.kinds.now a.slots.now _)
+    (λ p. whole_unit a.firsts.now s.lines.now s.bounds.now s.kinds.now s.args.now _)
     c.requires
 
 pub put_unit-w-requires : goal.put_unit-w-requires
 put_unit-w-requires c =
-    (search rules, c.loop-q.invariant.within)
+    (search rules, c.loop-place.invariant.within)
 
-pub loop-q-preserved : goal.loop-q-preserved
-loop-q-preserved c =
-    filling_next c.loop-q.invariant c.loop-q-test.true
-    (rw (← c.short_at.ensures.0, ← c.short_at-j.ensures.0) c.put_unit-w.ensures)
+pub loop-place-preserved : goal.loop-place-preserved
+loop-place-preserved c =
+    filling_next c.loop-place.invariant c.loop-place-test.true
+    (rw (← c.short_at-j.ensures.0) c.put_unit-w.ensures)
 
 pub returns : goal.returns
 returns c =
     let a = c.args in
+    let s = a.sheet.now in
     fill_as
-    (ordered_gather a.equated.now a.firsts.now a.lines.now a.bounds.now a.kinds.now a.slots.now
+    (ordered_gather a.equated.now a.firsts.now s.lines.now s.bounds.now s.kinds.now s.args.now
     a.order.now)
-    (filling_whole c.loop-q.invariant c.loop-q-test.false)
+    (filling_whole c.loop-place.invariant c.loop-place-test.false)

@@ -8,9 +8,10 @@ use Rattle.program.proofs.put_setting.Goals as goal
 pub returns-then-byte_at-phase : goal.returns-then-byte_at-phase
 returns-then-byte_at-phase c =
     let a = c.args in
-    let here : setting_at a.phase a.places.now a.kinds.now a.slots.now a.line a.i
-    ≡ field_bytes a.phase (get_or a.slots.now a.i 0) a.line
-    (value_at a.places.now a.kinds.now a.slots.now a.i) =
+    let s = a.sheet.now in
+    let here : setting_at a.phase a.places.now s.kinds.now s.args.now a.line a.i
+    ≡ field_bytes a.phase (get_or s.args.now a.i 0) a.line
+    (value_at a.places.now s.kinds.now s.args.now a.i) =
     rw (eq-eqb _ _ (sym c.byte_at.ensures ∙ c.if-byte_at-phase.true)) in
     fill_as here
     (rw (← c.value_at-bits.ensures, ← c.word_at-slot.ensures) c.put_record.ensures)

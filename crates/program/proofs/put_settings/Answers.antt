@@ -11,15 +11,17 @@ use Rattle.program.proofs.put_settings.Goals as goal
 pub returns-then-byte_at-phase : goal.returns-then-byte_at-phase
 returns-then-byte_at-phase c =
     let a = c.args in
-    fill_none a.at a.out.now
-    (settings_none a.phase a.places.now a.lines.now a.bounds.now a.kinds.now a.slots.now a.j
-    c.short_at-i.ensures.0 (λ e. c.if-byte_at-phase.true (c.byte_at.ensures ∙ e)))
+    let s = a.sheet.now in
+    fill_none a.w a.out.now
+    (settings_none a.phase a.places.now s.lines.now s.bounds.now s.kinds.now s.args.now a.j
+    c.short_at-begin.ensures.0 (λ e. c.if-byte_at-phase.true (c.byte_at.ensures ∙ e)))
 
 pub loop-i-init : goal.loop-i-init
 loop-i-init c =
     let a = c.args in
+    let s = a.sheet.now in
     filling_first _ _ _ _ _
-    (whole_setting a.phase a.places.now a.kinds.now a.slots.now c.short_at-line.result)
+    (whole_setting a.phase a.places.now s.kinds.now s.args.now c.short_at-line.result)
     c.requires.1
 
 pub put_setting-w-requires : goal.put_setting-w-requires
@@ -33,12 +35,13 @@ loop-i-preserved c =
 pub returns : goal.returns
 returns c =
     let a = c.args in
-    let i = c.short_at-i.result in
-    let here : settings_of a.phase a.places.now a.lines.now a.bounds.now a.kinds.now a.slots.now a.j
-    ≡ gather (setting_at a.phase a.places.now a.kinds.now a.slots.now c.short_at-line.result)
+    let s = a.sheet.now in
+    let i = c.short_at-begin.result in
+    let here : settings_of a.phase a.places.now s.lines.now s.bounds.now s.kinds.now s.args.now a.j
+    ≡ gather (setting_at a.phase a.places.now s.kinds.now s.args.now c.short_at-line.result)
     (c.setting_end-end.result - i) i =
-    settings_some a.phase a.places.now a.lines.now a.bounds.now a.kinds.now a.slots.now a.j
-    c.short_at-i.ensures.0 c.setting_end-end.result c.short_at-line.ensures.0
+    settings_some a.phase a.places.now s.lines.now s.bounds.now s.kinds.now s.args.now a.j
+    c.short_at-begin.ensures.0 c.setting_end-end.result c.short_at-line.ensures.0
     c.short_at.ensures.0
     c.setting_end-end.ensures.0 (sym c.byte_at.ensures ∙ c.if-byte_at-phase.false) in
     fill_as here (filling_all c.loop-i.invariant c.loop-i-test.false)

@@ -7,7 +7,8 @@ use Rattle.program.proofs.put_unit.Goals as goal
 pub loop-i-init : goal.loop-i-init
 loop-i-init c =
     let a = c.args in
-    filling_first _ _ _ _ _ (whole_steps a.lines.now a.bounds.now a.kinds.now a.slots.now) c.requires.1
+    let s = a.sheet.now in
+    filling_first _ _ _ _ _ (whole_steps s.lines.now s.bounds.now s.kinds.now s.args.now) c.requires.1
 
 pub put_steps-w-requires : goal.put_steps-w-requires
 put_steps-w-requires c =
@@ -19,5 +20,5 @@ loop-i-preserved c =
 
 pub returns : goal.returns
 returns c =
-    rw (← c.short_at-i.ensures.0, ← c.short_at-end.ensures.0)
+    rw (← c.short_at-begin.ensures.0, ← c.short_at-end.ensures.0)
     (filling_all c.loop-i.invariant c.loop-i-test.false)

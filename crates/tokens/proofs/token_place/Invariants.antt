@@ -1,12 +1,8 @@
--- The invariant: the token is so many further on from here.
-use mathlib.Core.Path.{◌≡◌}
+-- The invariant: the token is so many further on from here as turns are left.
+use Rattle.std.proofs.Common.{◌≡◌, ◌-◌}
 use Rattle.tokens.specs.Skips.{place_behind}
 use Rattle.tokens.proofs.token_place.Given as goal
 
-abbrev pub invariant-loop-left : goal.invariant-loop-left
-invariant-loop-left l =
-    place_behind l.left l.body l.from ≡ place_behind l.i l.body 0
-
-abbrev pub decreases-loop-left : goal.decreases-loop-left
-decreases-loop-left l =
-    l.left
+abbrev pub invariant-loop-k : goal.invariant-loop-k
+invariant-loop-k l =
+    place_behind (l.i - l._k) l.body l.from ≡ place_behind l.i l.body 0

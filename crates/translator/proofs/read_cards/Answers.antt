@@ -5,11 +5,10 @@ use mathlib.Core.List.{List}
 use native.Mathlib.Omega.{arith}
 use lib.ListN.{length, take, replicate}
 use lib.Seq.{length-take-le}
-use Rattle.deck.specs.Joined.{joined}
 use Rattle.deck.specs.Codes.{joined_room}
-use Rattle.deck.specs.Next.{cards_at}
 use Rattle.tokens.specs.Row.{row_of}
 use Rattle.sheet.specs.Reader.{tokened}
+use Rattle.translator.specs.Working.{joined_at}
 use Rattle.translator.proofs.Telling.{tells_of, taken}
 use Rattle.translator.proofs.read_cards.Goals as goal
 
@@ -25,23 +24,19 @@ slice_bounds-read_joined-end c =
 
 pub read_joined-requires : goal.read_joined-requires
 read_joined-requires c =
-    let a = c.args in
-    let cards = joined (cards_at a.text.now a.start a.lines) in
+    let cards = joined_at c.args.text.now c.args.s in
     let body : take c.join-n.result c.join-n.new.out ≡ cards =
     taken (replicate joined_room 0) cards c.join-n.new.out c.join-n.ensures.0 c.requires.short c.join-n.ensures.1 in
     let l = ap length body in
-    let p = c.requires.room in
     record {
-      row_kinds = omega (arith, p.row_kinds);
-      row_args = omega (arith, p.row_args);
-      room_kinds = omega (arith, p.room_kinds);
-      room_args = omega (arith, p.room_args);
+      short = omega (arith, c.requires.short);
+      room_kinds = omega (arith, c.requires.room_kinds);
+      room_args = omega (arith, c.requires.room_args);
     }
 
 pub returns : goal.returns
 returns c =
-    let a = c.args in
-    let cards = joined (cards_at a.text.now a.start a.lines) in
+    let cards = joined_at c.args.text.now c.args.s in
     let body : take c.join-n.result c.join-n.new.out ≡ cards =
     taken (replicate joined_room 0) cards c.join-n.new.out c.join-n.ensures.0 c.requires.short c.join-n.ensures.1 in
     tells_of (ap (λ (b : List ℕ). tokened (row_of b)) (sym body)) c.read_joined.ensures

@@ -1,56 +1,40 @@
 -- What the statement tells, noted or listed.
-use Prim.Native.Nat.{ℕ}
-use mathlib.Core.Path.{sym, subst}
 use native.Mathlib.Omega.{arith}
-use lib.ListN.{length}
-use Rattle.deck.specs.Joined.{joined}
 use Rattle.deck.specs.Next.{lines_at, cards_at}
+use lib.ListN.{length}
 use Rattle.sheet.specs.Reader.{told}
-use Rattle.translator.specs.Working.{Size, Before}
+use Rattle.translator.specs.Working.{joined_at}
 use Rattle.translator.proofs.Parsing.{drafts_few}
 use Rattle.translator.proofs.Telling.{end_near, down_few, adds_says, adds_faulty}
 use Rattle.translator.proofs.read_one.Goals as goal
 
-pub read_statement-r-requires : goal.read_statement-r-requires
-read_statement-r-requires c =
-    let a = c.args in
-    subst
-    (λ (k : ℕ). Before a.text.now a.start a.span a.next k a.row_kinds.now a.row_args.now
-    a.n.drafts
-    a.kinds.now a.args.now) (sym c.size_code-code.ensures) c.requires.before
-
 pub overflow_cast-bounds : goal.overflow_cast-bounds
 overflow_cast-bounds c =
     let a = c.args in
-    let cards = cards_at a.text.now a.start a.span in
-    let tells =
-    c.read_statement-r.ensures (subst (Size cards a.closed) (sym c.size_code-code.ensures) c.requires.size) in
-    let few = drafts_few cards a.closed in
-    let near = end_near a.n tells (lines_at a.text.now a.start a.span) (length (joined cards)) few c.in-Says.is in
+    let few = drafts_few (cards_at a.text.now a.s.start a.s.lines) a.s.closed in
+    let ls = lines_at a.text.now a.s.start a.s.lines in
+    let near = end_near a.n c.read_statement.ensures ls (length (joined_at a.text.now a.s)) few c.in-Ok.is in
     omega (arith, near, c.requires.drafts_fit)
 
-pub overflow_add-first : goal.overflow_add-first
-overflow_add-first c =
+pub overflow_add-s : goal.overflow_add-s
+overflow_add-s c =
     let a = c.args in
-    let spot = down_few a.text.now a.start a.span c.in-Faulty.place c.find_spot-at.result c.find_spot-at.ensures in
+    let spot =
+    down_few a.text.now a.s.start a.s.lines c.in-Err.field-0.place c.find_spot-at.result c.find_spot-at.ensures in
     omega (arith, c.requires.first_fits, c.requires.brief, spot)
 
-pub returns-in-Says : goal.returns-in-Says
+pub returns-in-Ok : goal.returns-in-Ok
 unfolding told
-returns-in-Says c =
+returns-in-Ok c =
     let a = c.args in
-    let cards = cards_at a.text.now a.start a.span in
-    let tells =
-    c.read_statement-r.ensures (subst (Size cards a.closed) (sym c.size_code-code.ensures) c.requires.size) in
-    adds_says a.n tells (lines_at a.text.now a.start a.span) a.first a.lines.now a.bounds.now a.list.now c.in-Says.is
+    let ls = lines_at a.text.now a.s.start a.s.lines in
+    adds_says a.n c.read_statement.ensures ls a.s.first a.lines.now a.bounds.now a.list.now c.in-Ok.is
 
-pub returns-in-Faulty : goal.returns-in-Faulty
+pub returns-in-Err : goal.returns-in-Err
 unfolding told
-returns-in-Faulty c =
+returns-in-Err c =
     let a = c.args in
-    let cards = cards_at a.text.now a.start a.span in
-    let tells =
-    c.read_statement-r.ensures (subst (Size cards a.closed) (sym c.size_code-code.ensures) c.requires.size) in
-    adds_faulty a.n tells (lines_at a.text.now a.start a.span) a.first a.lines.now a.bounds.now a.list.now
-    c.put_fault.new.list c.find_spot-at.result c.in-Faulty.is c.find_spot-at.ensures
+    let ls = lines_at a.text.now a.s.start a.s.lines in
+    adds_faulty a.n c.read_statement.ensures ls c.in-Err.field-0 a.s.first a.lines.now a.bounds.now a.list.now
+    c.put_fault.new.list c.find_spot-at.result c.in-Err.is c.from-code.ensures c.find_spot-at.ensures
     c.put_fault.ensures

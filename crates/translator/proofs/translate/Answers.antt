@@ -1,9 +1,18 @@
 -- With no place lent for the order.
 use mathlib.Core.List.{[]}
+use Rattle.std.specs.Prelude.{Ok, Err}
+use Rattle.std.proofs.lemmas.Result.{err_from_is_err_and}
 use Rattle.translator.proofs.Verdicts.{without_order}
 use Rattle.translator.proofs.translate.Goals as goal
 
 pub returns : goal.returns
 returns c =
     let a = c.args in
-    without_order a.text.now a.faults.now a.program.now [] c.translate_in_order-r.ensures
+    without_order a.text.now a.faults.now a.program.now [] (Ok c.in_ok-done.done) c.in_ok-done.ensures
+
+pub returns-in_err-done : goal.returns-in_err-done
+returns-in_err-done c =
+    let a = c.args in
+    let p = err_from_is_err_and c.from_residual.result c.from_residual.ensures.1 in
+    rw (p.1, p.2)
+    (without_order a.text.now a.faults.now a.program.now [] (Err c.in_err-done.field-0.0) c.in_err-done.ensures)

@@ -5,4 +5,4 @@ use Rattle.translator.proofs.translate_in_order.Goals as goal
 pub returns : goal.returns
 returns c =
     let a = c.args in
-    answers_program a.text.now a.faults.now a.program.now a.ordered.now c.answer.ensures
+    answers_program a.text.now a.faults.now a.program.now a.ordered.now c.answer.result c.answer.ensures

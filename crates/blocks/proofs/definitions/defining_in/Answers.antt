@@ -1,15 +1,25 @@
--- The invariant: what is counted and what is left to count are all.
-use Rattle.blocks.proofs.DefiningCounted.{counting_first, counting_next, counting_last}
+-- Each draft adds 1 or 0, so that the sum is no more than the length.
+use Rattle.std.proofs.Common.{◌≡◌, ℕ, ◌<◌, arith, sym, ◌∙◌, sum_by, rules}
+use Rattle.std.proofs.iter.runs.Made.{chains}
+use Rattle.std.proofs.lemmas.Iterator.{YieldsList-from_slice, YieldsList-from_map}
+use Rattle.std.proofs.lemmas.Iterator.Consumers.{fits_by_from_yields_list}
+use Rattle.laws.specs.Counts.{once}
+use Rattle.drafts.specs.Kinds.{defines}
+use Rattle.blocks.proofs.DefiningCounted.{defining_sum, defining_le}
 use Rattle.blocks.proofs.definitions.defining_in.Goals as goal
 
-pub loop-i-init : goal.loop-i-init
-loop-i-init c =
-    counting_first _
-
-pub loop-i-preserved : goal.loop-i-preserved
-loop-i-preserved c =
-    counting_next c.loop-i.invariant c.loop-i-test.true c.one_of-n.ensures
+pub sum-requires-clause-fits : goal.sum-requires-clause-fits
+sum-requires-clause-fits c =
+    let part = c.args.part.now in
+    let few : sum_by (λ (k : ℕ). once (defines k)) part < 256 =
+    omega (arith, defining_sum part, defining_le part, c.requires) in
+    fits_by_from_yields_list _ _ c.map.result _
+    (YieldsList-from_map _ (λ (k : ℕ). once (defines k)) (YieldsList-from_slice part cc) c.map.ensures.closure
+    (λ x r q k. search rules))
+    few
 
 pub returns : goal.returns
 returns c =
-    counting_last c.loop-i.invariant c.loop-i-test.false
+    let part = c.args.part.now in
+    let total : c.sum.result ≡ sum_by (λ (k : ℕ). once (defines k)) part = search (rules, chains) in
+    total ∙ sym (defining_sum part)

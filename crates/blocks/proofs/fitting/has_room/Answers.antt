@@ -1,19 +1,13 @@
 -- One array after the other.
-use borrow.Author.Tests.{le-leb, lt-leb}
+use Rattle.std.proofs.Common.{arith}
+use Rattle.std.proofs.lemmas.Bool.Decides.{nat_tests}
 use Rattle.blocks.specs.Grouped.{group_roomy}
 use Rattle.blocks.proofs.fitting.has_room.Goals as goal
 
-pub returns-then-ulines-n : goal.returns-then-ulines-n
+pub returns-then-n-ubounds : goal.returns-then-n-ubounds
 unfolding group_roomy
-returns-then-ulines-n c =
-    rw (lt-leb _ _ c.if-ulines-n.true)
+returns-then-n-ubounds c = grind (arith, nat_tests)
 
-pub returns-then-ubounds-n : goal.returns-then-ubounds-n
+pub returns-else-n-ubounds : goal.returns-else-n-ubounds
 unfolding group_roomy
-returns-then-ubounds-n c =
-    rw (le-leb _ _ c.if-ulines-n.false, lt-leb _ _ c.if-ubounds-n.true)
-
-pub returns : goal.returns
-unfolding group_roomy
-returns c =
-    rw (le-leb _ _ c.if-ulines-n.false, le-leb _ _ c.if-ubounds-n.false)
+returns-else-n-ubounds c = grind (arith, nat_tests)

@@ -1,12 +1,11 @@
 -- What the stores before statement j become is noted.
-use Prim.Native.Nat.{◌-◌}
+use mathlib.Core.List.{map}
+use lib.ListN.{length}
+use Rattle.blocks.specs.InsideWorking.{standing_in, role_in}
 use Rattle.blocks.proofs.KindsRenewed.{Noting}
 use Rattle.blocks.proofs.rewrite.note_roles.Given as goal
 
 abbrev pub invariant-loop-j : goal.invariant-loop-j
 invariant-loop-j l =
-    Noting l.bounds l.kinds l.args l.n l.initial.roles l.c l.j l.roles
-
-abbrev pub decreases-loop-j : goal.decreases-loop-j
-decreases-loop-j l =
-    l.n - l.j
+    Noting l.s.bounds.now l.s.kinds.now l.s.args.now (length l.s.lines.now) (map role_in l.initial.roles)
+    (standing_in l.c) l.j (map role_in l.roles)

@@ -11,7 +11,7 @@ loop-i-preserved c =
     renewing_next c.loop-i.invariant
     c.loop-i-test.true
     c.byte_at-kind.ensures c.role_kind.ensures
-    c.put_byte.ensures
+    c.put.ensures
 
 pub returns : goal.returns
 returns c =

@@ -1,15 +1,23 @@
--- The invariant: what is counted and what is left to count are all.
-use Rattle.deck.proofs.Ends.{counts_first, counts_next, counts_last}
+-- Each byte adds 1 or 0, so that the sum is no more than the length.
+use Rattle.std.proofs.Common.{◌≡◌, ℕ, ◌==◌, ◌<◌, arith, sym, ◌∙◌, sum_by, rules}
+use Rattle.std.proofs.iter.runs.Made.{chains}
+use Rattle.std.proofs.lemmas.Iterator.{YieldsList-from_slice, YieldsList-from_map}
+use Rattle.std.proofs.lemmas.Iterator.Consumers.{fits_by_from_yields_list}
+use Rattle.laws.specs.Counts.{once}
+use Rattle.deck.proofs.Ends.{ends_sum, ends_le}
 use Rattle.deck.proofs.counts.ends_in.Goals as goal
 
-pub loop-i-init : goal.loop-i-init
-loop-i-init c =
-    counts_first _
-
-pub loop-i-preserved : goal.loop-i-preserved
-loop-i-preserved c =
-    counts_next c.loop-i.invariant c.loop-i-test.true c.one_of-n.ensures
+pub sum-requires-clause-fits : goal.sum-requires-clause-fits
+sum-requires-clause-fits c =
+    let part = c.args.part.now in
+    let few : sum_by (λ (b : ℕ). once (b == 10)) part < 256 = omega (arith, ends_sum part, ends_le part, c.requires) in
+    fits_by_from_yields_list _ _ c.map.result _
+    (YieldsList-from_map _ (λ (b : ℕ). once (b == 10)) (YieldsList-from_slice part cc) c.map.ensures.closure
+    (λ x r q k. search rules))
+    few
 
 pub returns : goal.returns
 returns c =
-    counts_last c.loop-i.invariant c.loop-i-test.false
+    let part = c.args.part.now in
+    let total : c.sum.result ≡ sum_by (λ (b : ℕ). once (b == 10)) part = search (rules, chains) in
+    total ∙ sym (ends_sum part)

@@ -1,19 +1,18 @@
--- A line with no bytes but spaces passes either way; any other by its first byte alone.
-use mathlib.Core.Path.{sym}
-use mathlib.Core.Bool.{or-true, or-false}
-use borrow.Author.Tests.{eq-eqb, ne_eqb}
-use Rattle.deck.specs.Lines.{starred, passed}
+-- A comment passes; any other line where trailing spaces aside nothing is left.
+use Rattle.std.proofs.Common.{ℕ, ◌==◌, length, ap, refl, ◌∙◌}
+use Rattle.std.proofs.Math.Seq.{length-take-le}
+use Rattle.deck.specs.Lines.{trimmed, passed}
+use Rattle.deck.proofs.Cutting.{trimmed_le}
 use Rattle.deck.proofs.lines.is_passed.Goals as goal
 
-pub returns-then-n-eq0 : goal.returns-then-n-eq0
+pub returns-then-is_comment : goal.returns-then-is_comment
 unfolding passed
-returns-then-n-eq0 c =
-    let l = c.args.line.now in
-    rw (← c.trim-n.ensures.value, eq-eqb _ _ c.if-n-eq0.true) (sym (or-true (starred l)))
+returns-then-is_comment c = rw (← c.is_comment.ensures, c.if-is_comment.true) refl
 
-pub returns : goal.returns
+pub returns-else-is_comment : goal.returns-else-is_comment
 unfolding passed
-returns c =
+returns-else-is_comment c =
     let l = c.args.line.now in
-    rw (← c.trim-n.ensures.value, ne_eqb _ _ c.if-n-eq0.false, c.is_comment.ensures)
-    (sym (or-false (starred l)))
+    rw (← c.is_comment.ensures, c.if-is_comment.false)
+    (c.is_empty.ensures
+    ∙ ap (λ (n : ℕ). n == 0) (ap length c.trimmed.ensures ∙ length-take-le (trimmed l) l (trimmed_le l)))

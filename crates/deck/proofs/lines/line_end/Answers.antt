@@ -1,36 +1,22 @@
--- The invariant: where the line ends is the same from every place that the loop passed.
-use native.Mathlib.Omega.{arith}
+-- The line ends at the first byte 10 behind what was passed, or at the text's end.
+use Rattle.std.proofs.Common.{◌-◌, length, take, drop, Some, None, arith}
+use Rattle.std.proofs.Math.ListN.{length-drop}
+use Rattle.deck.proofs.Cutting.{rest_whole, width_found}
 use Rattle.deck.proofs.Ends.{passes_both}
-use Rattle.deck.proofs.Cutting.{width_ten, width_more, width_end}
 use Rattle.deck.proofs.lines.line_end.Goals as goal
 
-pub loop-i-init : goal.loop-i-init
-loop-i-init c =
-    passes_both c.pass-far.ensures c.pass-i.ensures
+pub returns-in-Some-clause-value : goal.returns-in-Some-clause-value
+returns-in-Some-clause-value c =
+    let passed = passes_both c.pass-far.ensures c.pass-near.ensures in
+    let text = c.args.text.now in
+    let rest = take (length text - c.pass-near.result) (drop c.pass-near.result text) in
+    let found = rw (rest_whole text c.pass-near.result) at (width_found rest (Some c.in-Some.i) c.in-Some.ensures) in
+    omega (arith, passed.same, found)
 
-pub returns-then-text-i-eq10 : goal.returns-then-text-i-eq10
-returns-then-text-i-eq10 c =
-    let w = c.loop-i.invariant in
-    let m = width_ten c.args.text.now c.loop-i.i
-    c.loop-i-test.true c.if-text-i-eq10.true in
-    record {
-      value = omega (arith, w.same, w.from, w.upto, m);
-      within = (omega (arith, w.from), omega (arith, w.upto));
-    }
-
-pub loop-i-preserved : goal.loop-i-preserved
-loop-i-preserved c =
-    let w = c.loop-i.invariant in
-    let h = c.loop-i-test.true in
-    let m = width_more c.args.text.now c.loop-i.i h c.if-text-i-eq10.false in
-    record { from = omega (arith, w.from); upto = omega arith; same = omega (arith, w.same, m) }
-
-pub returns : goal.returns
-returns c =
-    let w = c.loop-i.invariant in
-    let e = width_end c.args.text.now c.loop-i.i
-    c.loop-i-test.false in
-    record {
-      value = omega (arith, w.same, w.from, w.upto, e);
-      within = (omega (arith, w.from), omega (arith, w.upto));
-    }
+pub returns-in-None-clause-value : goal.returns-in-None-clause-value
+returns-in-None-clause-value c =
+    let passed = passes_both c.pass-far.ensures c.pass-near.ensures in
+    let text = c.args.text.now in
+    let rest = take (length text - c.pass-near.result) (drop c.pass-near.result text) in
+    let found = rw (rest_whole text c.pass-near.result) at (width_found rest None c.in-None.ensures) in
+    omega (arith, passed.same, passed.upto, found, length-drop c.pass-near.result c.args.text.now)

@@ -1,42 +1,52 @@
 -- The invariant: to search the lines that are left gives what to search all gave at first.
-use mathlib.Core.Path.{sym, ◌∙◌}
-use native.Mathlib.Omega.{arith}
-use Rattle.deck.proofs.Cutting.{LineAt, line_at}
-use Rattle.deck.proofs.Spotting.{byte_first, byte_none, byte_end, byte_comment, byte_found, byte_card}
+use Rattle.std.proofs.Common.{◌≡◌, ◌+◌, ◌-◌, ◌<◌, ◌≤◌, suc, length, ap, sym, ◌∙◌, arith}
+use Rattle.deck.specs.Next.{lines_at}
+use Rattle.deck.specs.Joined.{line_part}
+use Rattle.deck.proofs.Ahead.{numbered_turn, numbered_last}
+use Rattle.deck.proofs.Spotting.{byte_none, byte_comment, byte_found, byte_card}
 use Rattle.deck.proofs.spots.byte_spot.Goals as goal
-
-pub loop-down-init : goal.loop-down-init
-loop-down-init c =
-    let a = c.args in byte_first a.text.now a.start a.lines a.n
-
-pub returns-then-text-at : goal.returns-then-text-at
-returns-then-text-at c =
-    byte_end _ _ _ _ _ _ _ c.loop-down.invariant c.if-text-at.true
 
 pub loop-down-preserved-then-is_comment : goal.loop-down-preserved-then-is_comment
 loop-down-preserved-then-is_comment c =
-    let line : LineAt c.args.text.now c.loop-down.at
-    c.line_end-e.result = line_at _ c.loop-down.at c.line_end-e.result c.if-text-at.false c.line_end-e.ensures.value in
-    byte_comment _ _ _ _ _ _ _ c.loop-down.invariant c.line_end-e.result c.loop-down-test.true
-    line (sym c.is_comment.ensures ∙ c.if-is_comment.true)
+    let turn = numbered_turn (lines_at c.args.text.now c.args.start c.args.lines) c.lines_at.ensures
+    c.enumerate-down-items.ensures.source c.enumerate-down-items.ensures.count
+    c.into_iter-down-iterator.ensures.into_iter_gives c.loop-down.yielded c.loop-down.down-iterator
+    c.loop-down.yielded_by c.next.result c.next.new.self c.next.ensures.steps
+    c.in-Some.down c.in-Some.line c.in-Some.is in
+    let comment = sym c.is_comment.ensures ∙ c.if-is_comment.true in
+    (c.in-Some.ensures.goes.keeps, tt, rw turn.1 (byte_comment c.loop-down.invariant.2 _ _ turn.2 comment))
 
 pub returns-then-left-part : goal.returns-then-left-part
 returns-then-left-part c =
-    let line : LineAt c.args.text.now c.loop-down.at
-    c.line_end-e.result = line_at _ c.loop-down.at c.line_end-e.result c.if-text-at.false c.line_end-e.ensures.value in
-    byte_found _ _ _ _ _ _ _ c.loop-down.invariant c.line_end-e.result c.loop-down-test.true
-    line (sym c.is_comment.ensures ∙ c.if-is_comment.false)
-    (omega (arith, c.part_len-part.ensures, c.if-left-part.true))
+    let turn = numbered_turn (lines_at c.args.text.now c.args.start c.args.lines) c.lines_at.ensures
+    c.enumerate-down-items.ensures.source c.enumerate-down-items.ensures.count
+    c.into_iter-down-iterator.ensures.into_iter_gives c.loop-down.yielded c.loop-down.down-iterator
+    c.loop-down.yielded_by c.next.result c.next.new.self c.next.ensures.steps
+    c.in-Some.down c.in-Some.line c.in-Some.is in
+    let card = sym c.is_comment.ensures ∙ c.if-is_comment.false in
+    let here : c.loop-down.left < length (line_part c.in-Some.line.now) =
+    omega (arith, ap length c.part_of-part.ensures, c.if-left-part.true) in
+    let next : c.loop-down.left + 1 ≡ suc c.loop-down.left = omega arith in
+    rw (turn.0, next) (byte_found c.loop-down.invariant.2 _ _ turn.2 card here)
 
 pub loop-down-preserved : goal.loop-down-preserved
 loop-down-preserved c =
-    let line : LineAt c.args.text.now c.loop-down.at
-    c.line_end-e.result = line_at _ c.loop-down.at c.line_end-e.result c.if-text-at.false c.line_end-e.ensures.value in
-    rw (c.past-left.ensures, c.part_len-part.ensures)
-    (byte_card _ _ _ _ _ _ _ c.loop-down.invariant c.line_end-e.result c.loop-down-test.true
-    line (sym c.is_comment.ensures ∙ c.if-is_comment.false)
-    (omega (arith, c.part_len-part.ensures, c.if-left-part.false)))
+    let turn = numbered_turn (lines_at c.args.text.now c.args.start c.args.lines) c.lines_at.ensures
+    c.enumerate-down-items.ensures.source c.enumerate-down-items.ensures.count
+    c.into_iter-down-iterator.ensures.into_iter_gives c.loop-down.yielded c.loop-down.down-iterator
+    c.loop-down.yielded_by c.next.result c.next.new.self c.next.ensures.steps
+    c.in-Some.down c.in-Some.line c.in-Some.is in
+    let card = sym c.is_comment.ensures ∙ c.if-is_comment.false in
+    let part = ap length c.part_of-part.ensures in
+    let past : length (line_part c.in-Some.line.now) ≤ c.loop-down.left = omega (arith, part, c.if-left-part.false) in
+    let rest : c.saturating_sub-left.result ≡ c.loop-down.left - suc (length (line_part c.in-Some.line.now)) =
+    omega (arith, part, c.saturating_sub-left.ensures) in
+    (c.in-Some.ensures.goes.keeps, tt, rw (turn.1, rest) (byte_card c.loop-down.invariant.2 _ _ turn.2 card past))
 
 pub returns : goal.returns
 returns c =
-    byte_none _ _ _ _ _ _ _ c.loop-down.invariant c.loop-down-test.false
+    byte_none c.loop-down.invariant.2
+    (numbered_last (lines_at c.args.text.now c.args.start c.args.lines) c.lines_at.ensures
+    c.enumerate-down-items.ensures.source c.enumerate-down-items.ensures.count
+    c.into_iter-down-iterator.ensures.into_iter_gives c.loop-down.yielded c.loop-down.down-iterator
+    c.loop-down.yielded_by c.next.result c.next.new.self c.next.ensures.steps c.in-None.is)

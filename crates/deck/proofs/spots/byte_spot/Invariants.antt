@@ -1,12 +1,12 @@
 -- The invariant: to search the lines that are left gives what to search all gave at first.
-use Prim.Native.Nat.{◌-◌}
+use Rattle.std.proofs.Common.{length, drop}
+use Rattle.deck.specs.Next.{lines_at}
 use Rattle.deck.proofs.Spotting.{ByteLeft}
 use Rattle.deck.proofs.spots.byte_spot.Given as goal
 
 abbrev pub invariant-loop-down : goal.invariant-loop-down
 invariant-loop-down l =
-    ByteLeft l.text l.start l.lines l.n l.at l.down l.left
-
-abbrev pub decreases-loop-down : goal.decreases-loop-down
-decreases-loop-down l =
-    l.lines - l.down
+    (goal.iterator-loop-down).can_next l.down-iterator
+    × (goal.iterator-loop-down).is_finite l.down-iterator
+    × (let all = lines_at l.text l.start l.lines in
+    ByteLeft all (drop (length l.yielded) all) l.n (length l.yielded) l.left)

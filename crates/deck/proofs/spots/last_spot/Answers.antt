@@ -1,31 +1,38 @@
 -- The invariant: to search the lines that are left gives what to search all gave at first.
-use mathlib.Core.Path.{sym, ◌∙◌}
-use Rattle.deck.proofs.Cutting.{LineAt, line_at}
-use Rattle.deck.proofs.Spotting.{last_first, last_none, last_end, last_comment, last_card}
+use Rattle.std.proofs.Common.{length, sym, ◌∙◌}
+use Rattle.deck.specs.Next.{lines_at}
+use Rattle.deck.proofs.Ahead.{numbered_turn, numbered_last}
+use Rattle.deck.proofs.Spotting.{last_none, last_comment, last_card, column_max}
 use Rattle.deck.proofs.spots.last_spot.Goals as goal
 
-pub loop-down-init : goal.loop-down-init
-loop-down-init c =
-    let a = c.args in last_first a.text.now a.start a.lines
-
-pub returns-then-text-at : goal.returns-then-text-at
-returns-then-text-at c =
-    last_end _ _ _ _ _ _ c.loop-down.invariant c.if-text-at.true
-
-pub loop-down-preserved-then-is_comment : goal.loop-down-preserved-then-is_comment
-loop-down-preserved-then-is_comment c =
-    let line : LineAt c.args.text.now c.loop-down.at
-    c.line_end-e.result = line_at _ c.loop-down.at c.line_end-e.result c.if-text-at.false c.line_end-e.ensures.value in
-    last_comment _ _ _ _ _ _ c.loop-down.invariant c.line_end-e.result c.loop-down-test.true
-    line (sym c.is_comment.ensures ∙ c.if-is_comment.true)
+pub loop-down-preserved-then-not-is_comment : goal.loop-down-preserved-then-not-is_comment
+loop-down-preserved-then-not-is_comment c =
+    let turn = numbered_turn (lines_at c.args.text.now c.args.start c.args.lines) c.lines_at.ensures
+    c.enumerate-down-items.ensures.source c.enumerate-down-items.ensures.count
+    c.into_iter-down-iterator.ensures.into_iter_gives c.loop-down.yielded c.loop-down.down-iterator
+    c.loop-down.yielded_by c.next.result c.next.new.self c.next.ensures.steps
+    c.in-Some.down c.in-Some.line c.in-Some.is in
+    let card = sym c.is_comment.ensures ∙ c.if-not-is_comment.true in
+    let column = c.max.ensures ∙ column_max (length c.in-Some.line.now) in (
+      c.in-Some.ensures.goes.keeps,
+      tt,
+      rw (turn.1, turn.0, column) (last_card c.loop-down.invariant.2 _ _ turn.2 card),
+    )
 
 pub loop-down-preserved : goal.loop-down-preserved
 loop-down-preserved c =
-    let line : LineAt c.args.text.now c.loop-down.at
-    c.line_end-e.result = line_at _ c.loop-down.at c.line_end-e.result c.if-text-at.false c.line_end-e.ensures.value in
-    last_card _ _ _ _ _ _ c.loop-down.invariant c.line_end-e.result c.loop-down-test.true
-    line (sym c.is_comment.ensures ∙ c.if-is_comment.false) _ c.last_column.ensures
+    let turn = numbered_turn (lines_at c.args.text.now c.args.start c.args.lines) c.lines_at.ensures
+    c.enumerate-down-items.ensures.source c.enumerate-down-items.ensures.count
+    c.into_iter-down-iterator.ensures.into_iter_gives c.loop-down.yielded c.loop-down.down-iterator
+    c.loop-down.yielded_by c.next.result c.next.new.self c.next.ensures.steps
+    c.in-Some.down c.in-Some.line c.in-Some.is in
+    let comment = sym c.is_comment.ensures ∙ c.if-not-is_comment.false in
+    (c.in-Some.ensures.goes.keeps, tt, rw turn.1 (last_comment c.loop-down.invariant.2 _ _ turn.2 comment))
 
 pub returns : goal.returns
 returns c =
-    last_none _ _ _ _ _ _ c.loop-down.invariant c.loop-down-test.false
+    last_none c.loop-down.invariant.2
+    (numbered_last (lines_at c.args.text.now c.args.start c.args.lines) c.lines_at.ensures
+    c.enumerate-down-items.ensures.source c.enumerate-down-items.ensures.count
+    c.into_iter-down-iterator.ensures.into_iter_gives c.loop-down.yielded c.loop-down.down-iterator
+    c.loop-down.yielded_by c.next.result c.next.new.self c.next.ensures.steps c.in-None.is)

@@ -1,27 +1,23 @@
 use borrow.Author.Rules.{rules}
-use Rattle.evaluator.proofs.JudgedProgram.{first, ready, refused, next, tall, owing, well}
+use Rattle.evaluator.proofs.JudgedProgram.{first, ready, refused, next, unfinished, well}
 use Rattle.evaluator.proofs.judge.judge.Goals as goal
 
 pub loop-i-init : goal.loop-i-init
-loop-i-init c =
-    first c.args.program.now c.fine-t.ensures
+loop-i-init c = search first
+
+pub step-requires : goal.step-requires
+step-requires c = search (rules, ready)
 
 pub loop-i-preserved : goal.loop-i-preserved
 loop-i-preserved c =
-    next c.loop-i.invariant c.loop-i-test.true c.decode-ins.ensures c.judge_step-t.ensures
-    c.if-not-t.false
+    next c.loop-i.invariant c.loop-i-test.true c.decode.ensures c.step.new.self c.step.result
+    c.in_ok-ok_or.ensures.value c.step.ensures
 
-pub judge_step-t-requires : goal.judge_step-t-requires
-judge_step-t-requires c = search (rules, ready)
-
-pub returns-then-not-t : goal.returns-then-not-t
-returns-then-not-t c = search refused
+pub returns-in_err-ok_or : goal.returns-in_err-ok_or
+returns-in_err-ok_or c = search (rules, refused)
 
 pub returns-then-t-ne0 : goal.returns-then-t-ne0
-returns-then-t-ne0 c = search tall
-
-pub returns-then-t-ne0-2 : goal.returns-then-t-ne0-2
-returns-then-t-ne0-2 c = search owing
+returns-then-t-ne0 c = unfinished c.loop-i.invariant (search rules) c.then-t-ne0.either
 
 pub returns : goal.returns
-returns c = search well
+returns c = search (rules, well)

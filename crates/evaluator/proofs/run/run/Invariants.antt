@@ -1,11 +1,5 @@
-use Prim.Native.Nat.{◌-◌}
 use Rattle.evaluator.proofs.RunProgram.{Running}
 use Rattle.evaluator.proofs.run.run.Given as goal
 
 abbrev pub invariant-loop-i : goal.invariant-loop-i
-invariant-loop-i l =
-    Running l.program l.initial.values l.initial.derivs l.values l.derivs l.s.items l.count l.i
-
-abbrev pub decreases-loop-i : goal.decreases-loop-i
-decreases-loop-i l =
-    l.total - l.i
+invariant-loop-i l = Running l.program l.initial.values l.initial.derivs l.values l.derivs l.s.items l.count l.i

@@ -1,156 +1,220 @@
 -- The members of the cycle meet their contracts.
-use Rattle.std.proofs.Common.{arith, sym, ◌∙◌}
-use Rattle.grammar.proofs.Meets.{is_done}
+use Rattle.std.proofs.Common.{ℕ, ◌+◌, ◌-◌, rules, arith}
+use Rattle.std.proofs.lemmas.Result.{err_from_is_err_and}
+use Rattle.faults.proofs.Apart.{fault_code}
 use Rattle.grammar.proofs.Ways.{terms_chain, factors_chain, term_first, expr_first}
 use Rattle.grammar.proofs.Ways.{part_stopped, op_room, part_last, part_inside, part_less, part_again}
 use Rattle.grammar.proofs.Openings.{one_inside, one_room, factor_one, group_enter, factor_group}
 use Rattle.grammar.proofs.Openings.{factor_function, factor_shut, factor_none, opened_deep, opened_on}
-use Rattle.grammar.proofs.Openings.{item_stopped, item_shut, item_room, item_under, item_less, item_again}
-use Rattle.grammar.proofs.Openings.{item_bare, item_last}
+use Rattle.grammar.proofs.Openings.{closer_last, closer_comma, list_from, item_enter, item_stopped, item_shut}
+use Rattle.grammar.proofs.Openings.{item_room, item_next, item_last}
 use Rattle.grammar.proofs.expressions.+expression_factor_items_opened_term.Goals as goal
 
 -- ---- expression
-pub expression-loop-r-init : goal.expression-loop-r-init
-expression-loop-r-init t c =
-    expr_first _ c.requires c.byte_at-k.ensures c.sign_op-op.ensures c.skip_of.ensures
+pub expression-loop-next-init : goal.expression-loop-next-init
+expression-loop-next-init t c =
+    (search rules, expr_first _ c.requires c.kind-k.ensures c.sign_op-op.ensures c.skip_of.ensures)
 
-pub expression-returns-then-r-ne0 : goal.expression-returns-then-r-ne0
-expression-returns-then-r-ne0 t c = part_stopped c.loop-r.invariant c.if-r-ne0.true c.term-r.ensures
+pub expression-returns-in_err-next-clause-reads : goal.expression-returns-in_err-next-clause-reads
+expression-returns-in_err-next-clause-reads t c =
+    let p = err_from_is_err_and c.from_residual.result c.from_residual.ensures.1 in
+    rw (p.1, p.2)
+    (part_stopped c.loop-next.invariant.1 (fault_code c.in_err-next.field-0.0.fault) c.in_err-next.ensures.reads)
 
-pub expression-put_op-w-requires : goal.expression-put_op-w-requires
-expression-put_op-w-requires t c = op_room c.loop-r.invariant (is_done c.if-r-ne0.false) c.term-r.ensures
+pub expression-emit_op-requires : goal.expression-emit_op-requires
+expression-emit_op-requires t c = op_room c.loop-next.invariant.1 c.in_ok-next.ensures.reads
 
-pub expression-returns-then-op-eq0 : goal.expression-returns-then-op-eq0
-expression-returns-then-op-eq0 t c =
-    part_last c.loop-r.invariant (is_done c.if-r-ne0.false) c.term-r.ensures c.put_op-w.ensures terms_chain
-    c.byte_at.ensures c.add_op-op.ensures c.if-op-eq0.true
+pub expression-returns-in_default-clause-reads : goal.expression-returns-in_default-clause-reads
+expression-returns-in_default-clause-reads t c =
+    let going = c.loop-next.invariant.1 in
+    let part = c.in_ok-next.ensures.reads in
+    let drafted = c.emit_op.ensures.emits in
+    part_last going part drafted terms_chain c.kind.ensures c.in_default.ensures
 
-pub expression-overflow_add-i-in-loop-r : goal.expression-overflow_add-i-in-loop-r
-expression-overflow_add-i-in-loop-r t c =
-    let h = part_inside c.loop-r.invariant (is_done c.if-r-ne0.false) c.term-r.ensures c.put_op-w.ensures terms_chain
-    c.byte_at.ensures c.add_op-op.ensures c.if-op-eq0.false in
+pub expression-overflow_add-i-in-loop-next : goal.expression-overflow_add-i-in-loop-next
+expression-overflow_add-i-in-loop-next t c =
+    let going = c.loop-next.invariant.1 in
+    let part = c.in_ok-next.ensures.reads in
+    let drafted = c.emit_op.ensures.emits in
+    let h = part_inside going part drafted terms_chain c.kind.ensures c.in-Some.ensures in
     omega (arith, c.well_formed)
 
-pub expression-loop-r-smaller : goal.expression-loop-r-smaller
-expression-loop-r-smaller t c =
-    part_less c.loop-r.invariant (is_done c.if-r-ne0.false) c.term-r.ensures c.put_op-w.ensures terms_chain
-    c.byte_at.ensures c.add_op-op.ensures c.if-op-eq0.false
+pub expression-loop-next-smaller : goal.expression-loop-next-smaller
+expression-loop-next-smaller t c =
+    let going = c.loop-next.invariant.1 in
+    let part = c.in_ok-next.ensures.reads in
+    let drafted = c.emit_op.ensures.emits in
+    part_less going part drafted terms_chain c.kind.ensures c.in-Some.ensures
 
-pub expression-loop-r-preserved : goal.expression-loop-r-preserved
-expression-loop-r-preserved t c =
-    part_again c.loop-r.invariant (is_done c.if-r-ne0.false) c.term-r.ensures c.put_op-w.ensures terms_chain
-    c.byte_at.ensures c.add_op-op.ensures c.if-op-eq0.false
+pub expression-loop-next-preserved : goal.expression-loop-next-preserved
+expression-loop-next-preserved t c =
+    let going = c.loop-next.invariant.1 in
+    let part = c.in_ok-next.ensures.reads in
+    let drafted = c.emit_op.ensures.emits in
+    (search rules, part_again going part drafted terms_chain c.kind.ensures c.in-Some.ensures)
 
 -- ---- factor
-pub factor-bounds-args-at : goal.factor-bounds-args-at
-factor-bounds-args-at t c =
-    let h = one_inside c.requires c.byte_at.ensures c.face_of-face.ensures c.in-One.is in
+pub factor-bounds-row-at : goal.factor-bounds-row-at
+factor-bounds-row-at t c =
+    let e = rw c.in-Some-One.field-0-is at c.in-Some-One.is in
+    let h = one_inside c.requires c.kind.ensures c.face_of.ensures e in
     omega (arith, c.requires.even)
 
 pub factor-emit-requires : goal.factor-emit-requires
-factor-emit-requires t c = one_room c.requires c.byte_at.ensures c.face_of-face.ensures c.in-One.is
+factor-emit-requires t c =
+    let e = rw c.in-Some-One.field-0-is at c.in-Some-One.is in
+    one_room c.requires c.kind.ensures c.face_of.ensures e
 
 pub factor-opened-requires : goal.factor-opened-requires
 factor-opened-requires t c =
-    group_enter c.requires c.byte_at.ensures c.face_of-face.ensures c.in-Group.is c.decreases
+    let e = rw c.in-Some-Group.field-0-is at c.in-Some-Group.is in
+    group_enter c.requires c.kind.ensures c.face_of.ensures e c.decreases
 
-pub factor-returns-in-One : goal.factor-returns-in-One
-factor-returns-in-One t c =
-    factor_one c.requires c.byte_at.ensures c.face_of-face.ensures c.in-One.is c.leaf_arg.ensures c.emit.ensures.0
-    c.emit.ensures.1
+pub factor-returns-in_err-need-in-Some-Function-clause-reads
+    : goal.factor-returns-in_err-need-in-Some-Function-clause-reads
+factor-returns-in_err-need-in-Some-Function-clause-reads t c =
+    let e = rw c.in-Some-Function.field-0-is at c.in-Some-Function.is in
+    let p = err_from_is_err_and c.from_residual.result c.from_residual.ensures.1 in
+    rw (p.1, p.2)
+    (factor_shut c.requires c.kind.ensures c.face_of.ensures e c.in_err-need-in-Some-Function.ensures)
 
-pub factor-returns-in-Group : goal.factor-returns-in-Group
-factor-returns-in-Group t c =
-    factor_group c.requires c.byte_at.ensures c.face_of-face.ensures c.in-Group.is c.opened.ensures
+pub factor-returns-in-Some-One-clause-reads : goal.factor-returns-in-Some-One-clause-reads
+factor-returns-in-Some-One-clause-reads t c =
+    let e = rw c.in-Some-One.field-0-is at c.in-Some-One.is in
+    factor_one c.requires c.kind.ensures c.face_of.ensures e c.leaf_arg.ensures c.emit.ensures.emits
 
-pub factor-returns-then-byte_at-eq40 : goal.factor-returns-then-byte_at-eq40
-factor-returns-then-byte_at-eq40 t c =
-    factor_function c.requires c.byte_at.ensures c.face_of-face.ensures c.in-Function.is
-    (sym c.byte_at-in-Function.ensures ∙ c.if-byte_at-eq40.true) c.opened-then-byte_at-eq40.ensures
+pub factor-returns-in-Some-Group-clause-reads : goal.factor-returns-in-Some-Group-clause-reads
+factor-returns-in-Some-Group-clause-reads t c =
+    let e = rw c.in-Some-Group.field-0-is at c.in-Some-Group.is in
+    factor_group c.requires c.kind.ensures c.face_of.ensures e c.opened.ensures.reads
 
-pub factor-returns-else-byte_at-eq40 : goal.factor-returns-else-byte_at-eq40
-factor-returns-else-byte_at-eq40 t c =
-    factor_shut c.requires c.byte_at.ensures c.face_of-face.ensures c.in-Function.is
-    (λ z. c.if-byte_at-eq40.false (c.byte_at-in-Function.ensures ∙ z))
+pub factor-returns-in_ok-need-in-Some-Function-clause-reads
+    : goal.factor-returns-in_ok-need-in-Some-Function-clause-reads
+factor-returns-in_ok-need-in-Some-Function-clause-reads t c =
+    let e = rw c.in-Some-Function.field-0-is at c.in-Some-Function.is in
+    factor_function c.requires c.kind.ensures c.face_of.ensures e c.in_ok-need-in-Some-Function.ensures.0
+    c.opened-in-Some-Function.ensures.reads
 
-pub factor-returns-in-Nothing : goal.factor-returns-in-Nothing
-factor-returns-in-Nothing t c =
-    factor_none c.requires c.byte_at.ensures c.face_of-face.ensures c.in-Nothing.is
+pub factor-returns-in-None-clause-reads : goal.factor-returns-in-None-clause-reads
+factor-returns-in-None-clause-reads t c = factor_none c.requires c.kind.ensures c.face_of.ensures c.in-None.is
 
 -- ---- items
-pub items-returns-then-r-ne0 : goal.items-returns-then-r-ne0
-items-returns-then-r-ne0 t c = item_stopped c.loop-r.invariant c.if-r-ne0.true c.expression-r.ensures
+pub items-loop-i-init : goal.items-loop-i-init
+items-loop-i-init t c = (search rules, omega arith, λ m e. list_from c.args.count m c.args.kind c.requires e)
 
-pub items-returns-then-byte_at-closer_of : goal.items-returns-then-byte_at-closer_of
-items-returns-then-byte_at-closer_of t c =
-    item_shut c.loop-r.invariant (is_done c.if-r-ne0.false) c.expression-r.ensures c.byte_at.ensures c.closer_of.ensures
-    c.if-byte_at-closer_of.true
+pub items-expression-requires : goal.items-expression-requires
+items-expression-requires t c =
+    let left : ℕ = c.args.count + 1 - c.loop-i._i in
+    let going = c.loop-i.invariant.2 left (omega (arith, c.loop-i.invariant.1)) in
+    item_enter going c.decreases
 
-pub items-returns-then-kind-eq0 : goal.items-returns-then-kind-eq0
-items-returns-then-kind-eq0 t c =
-    item_bare c.loop-r.invariant (is_done c.if-r-ne0.false) c.expression-r.ensures c.byte_at.ensures c.closer_of.ensures
-    c.if-byte_at-closer_of.false c.if-left-le1.true c.if-kind-eq0.true
+pub items-returns-in_err-next-clause-reads : goal.items-returns-in_err-next-clause-reads
+items-returns-in_err-next-clause-reads t c =
+    let left : ℕ = c.args.count + 1 - c.loop-i._i in
+    let going = c.loop-i.invariant.2 left (omega (arith, c.loop-i.invariant.1)) in
+    let p = err_from_is_err_and c.from_residual.result c.from_residual.ensures.1 in
+    rw (p.1, p.2)
+    (item_stopped going (fault_code c.in_err-next.field-0.0.fault) c.in_err-next.ensures.reads)
 
-pub items-emit-requires : goal.items-emit-requires
-items-emit-requires t c =
-    item_room c.loop-r.invariant (is_done c.if-r-ne0.false) c.expression-r.ensures c.byte_at.ensures c.closer_of.ensures
-    c.if-byte_at-closer_of.false
+pub items-returns-in_err-i-clause-reads : goal.items-returns-in_err-i-clause-reads
+items-returns-in_err-i-clause-reads t c =
+    let left : ℕ = c.args.count + 1 - c.loop-i._i in
+    let going = c.loop-i.invariant.2 left (omega (arith, c.loop-i.invariant.1)) in
+    let mark = closer_comma left (omega arith) in
+    let p = err_from_is_err_and c.from_residual-in_err-i.result c.from_residual-in_err-i.ensures.1 in
+    rw (p.1, p.2)
+    (item_shut going c.in_ok-next.ensures.reads mark c.in_err-i.ensures)
 
-pub items-overflow_add-result-then-left-le1-2 : goal.items-overflow_add-result-then-left-le1-2
-items-overflow_add-result-then-left-le1-2 t c =
-    let h = item_under c.loop-r.invariant (is_done c.if-r-ne0.false) c.expression-r.ensures c.byte_at.ensures
-    c.closer_of.ensures c.if-byte_at-closer_of.false in
-    omega (arith, c.well_formed)
+pub items-loop-i-preserved : goal.items-loop-i-preserved
+items-loop-i-preserved t c = (
+  search rules,
+  omega arith,
+  λ m e. item_next m (c.loop-i.invariant.2 (m + 1) (omega arith)) c.in_ok-next.ensures.reads c.in_ok-i.ensures
+      (omega arith),
+)
 
-pub items-returns-then-left-le1 : goal.items-returns-then-left-le1
-items-returns-then-left-le1 t c =
-    item_last c.loop-r.invariant (is_done c.if-r-ne0.false) c.expression-r.ensures c.byte_at.ensures c.closer_of.ensures
-    c.if-byte_at-closer_of.false c.if-left-le1.true c.if-kind-eq0.false c.emit.ensures.0 c.emit.ensures.1
+pub items-expression-requires-2 : goal.items-expression-requires-2
+items-expression-requires-2 t c =
+    let left : ℕ = c.args.count + 1 - c.loop-i._i in
+    let going = c.loop-i.invariant.2 left (omega (arith, c.loop-i.invariant.1)) in
+    item_enter going c.decreases
 
-pub items-loop-r-smaller : goal.items-loop-r-smaller
-items-loop-r-smaller t c =
-    item_less c.loop-r.invariant (is_done c.if-r-ne0.false) c.expression-r.ensures c.byte_at.ensures c.closer_of.ensures
-    c.if-byte_at-closer_of.false
+pub items-returns-in_err-last-clause-reads : goal.items-returns-in_err-last-clause-reads
+items-returns-in_err-last-clause-reads t c =
+    let left : ℕ = c.args.count + 1 - c.loop-i._i in
+    let going = c.loop-i.invariant.2 left (omega (arith, c.loop-i.invariant.1)) in
+    let p = err_from_is_err_and c.from_residual-in_err-last.result c.from_residual-in_err-last.ensures.1 in
+    rw (p.1, p.2)
+    (item_stopped going (fault_code c.in_err-last.field-0.0.fault) c.in_err-last.ensures.reads)
 
-pub items-loop-r-preserved : goal.items-loop-r-preserved
-items-loop-r-preserved t c =
-    item_again c.loop-r.invariant (is_done c.if-r-ne0.false) c.expression-r.ensures c.byte_at.ensures
-    c.closer_of.ensures c.if-byte_at-closer_of.false c.if-left-le1.false
+pub items-returns-in_err-behind-clause-reads : goal.items-returns-in_err-behind-clause-reads
+items-returns-in_err-behind-clause-reads t c =
+    let left : ℕ = c.args.count + 1 - c.loop-i._i in
+    let going = c.loop-i.invariant.2 left (omega (arith, c.loop-i.invariant.1)) in
+    let mark = closer_last left (omega (arith, c.loop-i.invariant.1)) in
+    let p = err_from_is_err_and c.from_residual-in_err-behind.result c.from_residual-in_err-behind.ensures.1 in
+    rw (p.1, p.2)
+    (item_shut going c.in_ok-last.ensures.reads mark c.in_err-behind.ensures)
+
+pub items-emit_op-requires : goal.items-emit_op-requires
+items-emit_op-requires t c =
+    let left : ℕ = c.args.count + 1 - c.loop-i._i in
+    let going = c.loop-i.invariant.2 left (omega (arith, c.loop-i.invariant.1)) in
+    let mark = closer_last left (omega (arith, c.loop-i.invariant.1)) in
+    item_room going c.in_ok-last.ensures.reads mark c.in_ok-behind.ensures
+
+pub items-returns-clause-reads : goal.items-returns-clause-reads
+items-returns-clause-reads t c =
+    let left : ℕ = c.args.count + 1 - c.loop-i._i in
+    let going = c.loop-i.invariant.2 left (omega (arith, c.loop-i.invariant.1)) in
+    let mark = closer_last left (omega (arith, c.loop-i.invariant.1)) in
+    item_last going c.in_ok-last.ensures.reads mark c.in_ok-behind.ensures (omega arith) c.emit_op.ensures.emits
 
 -- ---- opened
-pub opened-returns-then-allowed-eq0 : goal.opened-returns-then-allowed-eq0
-opened-returns-then-allowed-eq0 t c o _ _ = opened_deep c.requires c.if-allowed-eq0.true o
+pub opened-returns-then-allowed-eq0-clause-reads : goal.opened-returns-then-allowed-eq0-clause-reads
+opened-returns-then-allowed-eq0-clause-reads t c o _ _ = opened_deep c.requires c.if-allowed-eq0.true o
 
-pub opened-returns : goal.opened-returns
-opened-returns t c o n k = opened_on c.requires c.if-allowed-eq0.false o (c.items.ensures o n k)
+pub opened-returns-clause-reads : goal.opened-returns-clause-reads
+opened-returns-clause-reads t c o n k = opened_on c.requires c.if-allowed-eq0.false o (c.items.ensures.reads o n k)
 
 -- ---- term
-pub term-loop-r-init : goal.term-loop-r-init
-term-loop-r-init t c = term_first c.requires
+pub term-loop-next-init : goal.term-loop-next-init
+term-loop-next-init t c = (search rules, term_first c.requires)
 
-pub term-returns-then-r-ne0 : goal.term-returns-then-r-ne0
-term-returns-then-r-ne0 t c = part_stopped c.loop-r.invariant c.if-r-ne0.true c.factor-r.ensures
+pub term-returns-in_err-next-clause-reads : goal.term-returns-in_err-next-clause-reads
+term-returns-in_err-next-clause-reads t c =
+    let p = err_from_is_err_and c.from_residual.result c.from_residual.ensures.1 in
+    rw (p.1, p.2)
+    (part_stopped c.loop-next.invariant.1 (fault_code c.in_err-next.field-0.0.fault) c.in_err-next.ensures.reads)
 
-pub term-put_op-w-requires : goal.term-put_op-w-requires
-term-put_op-w-requires t c = op_room c.loop-r.invariant (is_done c.if-r-ne0.false) c.factor-r.ensures
+pub term-emit_op-requires : goal.term-emit_op-requires
+term-emit_op-requires t c = op_room c.loop-next.invariant.1 c.in_ok-next.ensures.reads
 
-pub term-returns-then-op-eq0 : goal.term-returns-then-op-eq0
-term-returns-then-op-eq0 t c =
-    part_last c.loop-r.invariant (is_done c.if-r-ne0.false) c.factor-r.ensures c.put_op-w.ensures factors_chain
-    c.byte_at.ensures c.mul_op-op.ensures c.if-op-eq0.true
+pub term-returns-in_default-clause-reads : goal.term-returns-in_default-clause-reads
+term-returns-in_default-clause-reads t c =
+    let going = c.loop-next.invariant.1 in
+    let part = c.in_ok-next.ensures.reads in
+    let drafted = c.emit_op.ensures.emits in
+    part_last going part drafted factors_chain c.kind.ensures c.in_default.ensures
 
 pub term-overflow_add-i : goal.term-overflow_add-i
 term-overflow_add-i t c =
-    let h = part_inside c.loop-r.invariant (is_done c.if-r-ne0.false) c.factor-r.ensures c.put_op-w.ensures
-    factors_chain c.byte_at.ensures c.mul_op-op.ensures c.if-op-eq0.false in
+    let going = c.loop-next.invariant.1 in
+    let part = c.in_ok-next.ensures.reads in
+    let drafted = c.emit_op.ensures.emits in
+    let h = part_inside going part drafted factors_chain c.kind.ensures c.in-Some.ensures in
     omega (arith, c.well_formed)
 
-pub term-loop-r-smaller : goal.term-loop-r-smaller
-term-loop-r-smaller t c =
-    part_less c.loop-r.invariant (is_done c.if-r-ne0.false) c.factor-r.ensures c.put_op-w.ensures factors_chain
-    c.byte_at.ensures c.mul_op-op.ensures c.if-op-eq0.false
+pub term-loop-next-smaller : goal.term-loop-next-smaller
+term-loop-next-smaller t c =
+    let going = c.loop-next.invariant.1 in
+    let part = c.in_ok-next.ensures.reads in
+    let drafted = c.emit_op.ensures.emits in
+    part_less going part drafted factors_chain c.kind.ensures c.in-Some.ensures
 
-pub term-loop-r-preserved : goal.term-loop-r-preserved
-term-loop-r-preserved t c =
-    part_again c.loop-r.invariant (is_done c.if-r-ne0.false) c.factor-r.ensures c.put_op-w.ensures factors_chain
-    c.byte_at.ensures c.mul_op-op.ensures c.if-op-eq0.false
+pub term-loop-next-preserved : goal.term-loop-next-preserved
+term-loop-next-preserved t c =
+    let going = c.loop-next.invariant.1 in
+    let part = c.in_ok-next.ensures.reads in
+    let drafted = c.emit_op.ensures.emits in
+    (search rules, part_again going part drafted factors_chain c.kind.ensures c.in-Some.ensures)

@@ -1,8 +1,7 @@
 -- `grammar::skip_of` meets its contract: + and - are signs.
-use Prim.Native.Nat.{ℕ}
-use mathlib.Core.Path.{sym, ap}
-use native.Mathlib.Omega.{arith}
-use borrow.Author.Tests.{ne_eqb}
+use Rattle.std.proofs.Common.{ℕ, sym, ap, arith}
+use Rattle.std.proofs.lemmas.Bool.Decides.{nat_tests}
+use mathlib.Core.Logic.{⊎_elim}
 use Rattle.tokens.specs.Symbol.{mark}
 use Rattle.grammar.specs.Look.{byte_of, add_op}
 use Rattle.grammar.specs.Codes.{skip_of}
@@ -11,14 +10,9 @@ use Rattle.grammar.proofs.faces.skip_of.Goals as goal
 pub returns-in-43 : goal.returns-in-43
 unfolding byte_of
 returns-in-43 c =
-    sym (ap (λ (k : ℕ). skip_of (add_op (mark k))) c.in-43.is)
-
-pub returns-in-45 : goal.returns-in-45
-unfolding byte_of
-returns-in-45 c =
-    sym (ap (λ (k : ℕ). skip_of (add_op (mark k))) c.in-45.is)
+    ⊎_elim (λ z. sym (ap (λ (k : ℕ). skip_of (add_op (mark k))) z))
+    (λ z. sym (ap (λ (k : ℕ). skip_of (add_op (mark k))) z)) c.in-43.is
 
 pub returns-in_default : goal.returns-in_default
 unfolding byte_of
-returns-in_default c =
-    simp (ne_eqb c.args.k 43 (omega arith), ne_eqb c.args.k 45 (omega arith))
+returns-in_default c = grind (arith, nat_tests)

@@ -1,29 +1,17 @@
 -- `grammar::assignment` meets its contract.
-use native.Mathlib.Omega.{arith}
-use Rattle.grammar.proofs.Meets.{is_done}
-use Rattle.grammar.proofs.Statements.{ready_less, assign_stopped, assign_room, assign_under, assign_done}
+use Rattle.std.proofs.lemmas.Result.{err_from_is_err_and}
+use Rattle.faults.proofs.Apart.{fault_code}
+use Rattle.grammar.proofs.Statements.{assign_stopped, assign_room, assign_done}
 use Rattle.grammar.proofs.forms.assignment.Goals as goal
 
-pub expression-r-requires : goal.expression-r-requires
-expression-r-requires c =
-    ready_less c.args.place c.requires
-
-pub returns-then-r-ne0 : goal.returns-then-r-ne0
-returns-then-r-ne0 c =
-    assign_stopped c.args.key c.requires c.expression-r.ensures c.if-r-ne0.true
+pub returns-in_err-next-clause-reads : goal.returns-in_err-next-clause-reads
+returns-in_err-next-clause-reads c =
+    let p = err_from_is_err_and c.from_residual.result c.from_residual.ensures.1 in
+    rw (p.1, p.2)
+    (assign_stopped c.args.key c.requires (fault_code c.in_err-next.field-0.0.fault) c.in_err-next.ensures.reads)
 
 pub emit-requires : goal.emit-requires
-emit-requires c =
-    assign_room c.args.key c.requires c.expression-r.ensures (is_done c.if-r-ne0.false)
+emit-requires c = assign_room c.args.key c.requires c.in_ok-next.ensures.reads
 
-pub overflow_add-result : goal.overflow_add-result
-overflow_add-result c =
-    let h = assign_under c.args.key c.requires c.expression-r.ensures
-    (is_done c.if-r-ne0.false) in
-    omega (arith, c.well_formed)
-
-pub returns : goal.returns
-returns c =
-    assign_done c.args.key c.requires c.expression-r.ensures (is_done c.if-r-ne0.false)
-    c.emit.ensures.0
-    c.emit.ensures.1
+pub returns-clause-reads : goal.returns-clause-reads
+returns-clause-reads c = assign_done c.args.key c.requires c.in_ok-next.ensures.reads c.emit.ensures.emits

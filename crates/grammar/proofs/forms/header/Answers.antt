@@ -1,69 +1,40 @@
 -- `grammar::header` meets its contract.
-use native.Mathlib.Omega.{arith}
-use Rattle.grammar.proofs.Meets.{is_done}
-use Rattle.grammar.proofs.Headers.{outputs_stopped, header_shut, header_equals, header_unnamed, header_named}
-use Rattle.grammar.proofs.Headers.{header_closed, header_opened, inputs_enter, header_done}
+use Rattle.std.proofs.lemmas.Result.{err_from_is_err_and}
+use Rattle.faults.proofs.Apart.{fault_code}
+use Rattle.grammar.proofs.Headers.{outputs_stopped, header_shut, header_unnamed, header_closed, inputs_enter}
+use Rattle.grammar.proofs.Headers.{header_done}
 use Rattle.grammar.proofs.forms.header.Goals as goal
 
-pub returns-then-r-ne0 : goal.returns-then-r-ne0
-returns-then-r-ne0 c =
-    outputs_stopped c.requires c.names-r.ensures c.if-r-ne0.true
+pub returns-in_err-behind-clause-reads : goal.returns-in_err-behind-clause-reads
+returns-in_err-behind-clause-reads c =
+    let p = err_from_is_err_and c.from_residual.result c.from_residual.ensures.1 in
+    rw (p.1, p.2)
+    (outputs_stopped c.requires (fault_code c.in_err-behind.field-0.0.fault) c.in_err-behind.ensures.reads)
 
-pub returns-then-byte_at-ne61 : goal.returns-then-byte_at-ne61
-returns-then-byte_at-ne61 c =
-    header_shut c.requires c.names-r.ensures (is_done c.if-r-ne0.false) c.byte_at.ensures
-    c.if-byte_at-ne61.true
+pub returns-in_err-name-clause-reads : goal.returns-in_err-name-clause-reads
+returns-in_err-name-clause-reads c =
+    let p = err_from_is_err_and c.from_residual-in_err-name.result c.from_residual-in_err-name.ensures.1 in
+    rw (p.1, p.2)
+    (header_shut c.requires c.in_ok-behind.ensures.reads c.in_err-name.ensures)
 
-pub overflow_add-next : goal.overflow_add-next
-overflow_add-next c =
-    let h = header_equals c.requires c.names-r.ensures (is_done c.if-r-ne0.false)
-    c.byte_at.ensures c.if-byte_at-ne61.false in
-    omega (arith, c.well_formed)
+pub returns-in_err-open-clause-reads : goal.returns-in_err-open-clause-reads
+returns-in_err-open-clause-reads c =
+    let p = err_from_is_err_and c.from_residual-in_err-open.result c.from_residual-in_err-open.ensures.1 in
+    rw (p.1, p.2)
+    (header_unnamed c.requires c.in_ok-behind.ensures.reads c.in_ok-name.ensures c.in_err-open.ensures)
 
-pub overflow_add-result : goal.overflow_add-result
-overflow_add-result c =
-    let h = header_equals c.requires c.names-r.ensures (is_done c.if-r-ne0.false)
-    c.byte_at.ensures c.if-byte_at-ne61.false in
-    omega (arith, c.well_formed)
-
-pub returns-then-byte_at-ne-NAME : goal.returns-then-byte_at-ne-NAME
-returns-then-byte_at-ne-NAME c =
-    header_unnamed c.requires c.names-r.ensures (is_done c.if-r-ne0.false) c.byte_at.ensures
-    c.if-byte_at-ne61.false c.byte_at-2.ensures c.if-byte_at-ne-NAME.true
-
-pub overflow_add-next-2 : goal.overflow_add-next-2
-overflow_add-next-2 c =
-    let h = header_named c.requires c.names-r.ensures (is_done c.if-r-ne0.false)
-    c.byte_at.ensures c.if-byte_at-ne61.false c.byte_at-2.ensures c.if-byte_at-ne-NAME.false in
-    omega (arith, c.well_formed)
-
-pub overflow_add-result-then-byte_at-ne40 : goal.overflow_add-result-then-byte_at-ne40
-overflow_add-result-then-byte_at-ne40 c =
-    let h = header_named c.requires c.names-r.ensures (is_done c.if-r-ne0.false)
-    c.byte_at.ensures c.if-byte_at-ne61.false c.byte_at-2.ensures c.if-byte_at-ne-NAME.false in
-    omega (arith, c.well_formed)
-
-pub returns-then-byte_at-ne40 : goal.returns-then-byte_at-ne40
-returns-then-byte_at-ne40 c =
-    header_closed c.requires c.names-r.ensures (is_done c.if-r-ne0.false) c.byte_at.ensures
-    c.if-byte_at-ne61.false c.byte_at-2.ensures c.if-byte_at-ne-NAME.false c.byte_at-3.ensures
-    c.if-byte_at-ne40.true
-
-pub overflow_add-next-3 : goal.overflow_add-next-3
-overflow_add-next-3 c =
-    let h = header_opened c.requires c.names-r.ensures (is_done c.if-r-ne0.false)
-    c.byte_at.ensures c.if-byte_at-ne61.false c.byte_at-2.ensures c.if-byte_at-ne-NAME.false
-    c.byte_at-3.ensures c.if-byte_at-ne40.false in
-    omega (arith, c.well_formed)
+pub returns-in_err-start-clause-reads : goal.returns-in_err-start-clause-reads
+returns-in_err-start-clause-reads c =
+    let p = err_from_is_err_and c.from_residual-in_err-start.result c.from_residual-in_err-start.ensures.1 in
+    rw (p.1, p.2)
+    (header_closed c.requires c.in_ok-behind.ensures.reads c.in_ok-name.ensures c.in_ok-open.ensures
+    c.in_err-start.ensures)
 
 pub inputs-requires : goal.inputs-requires
 inputs-requires c =
-    inputs_enter c.requires c.names-r.ensures (is_done c.if-r-ne0.false) c.byte_at.ensures
-    c.if-byte_at-ne61.false c.byte_at-2.ensures c.if-byte_at-ne-NAME.false c.byte_at-3.ensures
-    c.if-byte_at-ne40.false
+    inputs_enter c.requires c.in_ok-behind.ensures.reads c.in_ok-name.ensures c.in_ok-open.ensures c.in_ok-start.ensures
 
-pub returns : goal.returns
-returns c =
-    header_done c.requires c.names-r.ensures (is_done c.if-r-ne0.false) c.byte_at.ensures
-    c.if-byte_at-ne61.false c.byte_at-2.ensures c.if-byte_at-ne-NAME.false c.byte_at-3.ensures
-    c.if-byte_at-ne40.false c.inputs.ensures
+pub returns-clause-reads : goal.returns-clause-reads
+returns-clause-reads c =
+    header_done c.requires c.in_ok-behind.ensures.reads c.in_ok-name.ensures c.in_ok-open.ensures c.in_ok-start.ensures
+    c.inputs.ensures.reads

@@ -1,25 +1,14 @@
 -- `grammar::inputs` meets its contract.
-use native.Mathlib.Omega.{arith}
-use Rattle.grammar.proofs.Meets.{is_done}
-use Rattle.grammar.proofs.Headers.{inputs_stopped, inputs_shut, inputs_inside, inputs_done}
+use Rattle.std.proofs.lemmas.Result.{err_from_is_err_and}
+use Rattle.faults.proofs.Apart.{fault_code}
+use Rattle.grammar.proofs.Headers.{inputs_stopped, inputs_end}
 use Rattle.grammar.proofs.forms.inputs.Goals as goal
 
-pub returns-then-r-ne0 : goal.returns-then-r-ne0
-returns-then-r-ne0 c =
-    inputs_stopped c.requires c.names-r.ensures c.if-r-ne0.true
+pub returns-in_err-behind-clause-reads : goal.returns-in_err-behind-clause-reads
+returns-in_err-behind-clause-reads c =
+    let p = err_from_is_err_and c.from_residual.result c.from_residual.ensures.1 in
+    rw (p.1, p.2)
+    (inputs_stopped c.requires (fault_code c.in_err-behind.field-0.0.fault) c.in_err-behind.ensures.reads)
 
-pub returns-then-byte_at-ne41 : goal.returns-then-byte_at-ne41
-returns-then-byte_at-ne41 c =
-    inputs_shut c.requires c.names-r.ensures (is_done c.if-r-ne0.false) c.byte_at.ensures
-    c.if-byte_at-ne41.true
-
-pub overflow_add-result : goal.overflow_add-result
-overflow_add-result c =
-    let h = inputs_inside c.requires c.names-r.ensures (is_done c.if-r-ne0.false)
-    c.byte_at.ensures c.if-byte_at-ne41.false in
-    omega (arith, c.well_formed)
-
-pub returns : goal.returns
-returns c =
-    inputs_done c.requires c.names-r.ensures (is_done c.if-r-ne0.false) c.byte_at.ensures
-    c.if-byte_at-ne41.false
+pub returns-clause-reads : goal.returns-clause-reads
+returns-clause-reads c = inputs_end c.requires c.in_ok-behind.ensures.reads c.need.result c.need.ensures

@@ -1,37 +1,39 @@
 -- `grammar::names` meets its contract. The measure is the count of tokens that are left.
-use native.Mathlib.Omega.{arith}
-use Rattle.grammar.proofs.Headers.{names_first, names_none, name_there, name_room, names_last}
-use Rattle.grammar.proofs.Headers.{names_again}
+use Rattle.std.proofs.Common.{rules, arith}
+use Rattle.std.proofs.lemmas.Result.{err_from_is_err_and}
+use Rattle.grammar.proofs.Headers.{names_first, names_none, name_there, name_room, names_last, names_again}
 use Rattle.grammar.proofs.forms.names.Goals as goal
 
-pub loop-drafts-init : goal.loop-drafts-init
-loop-drafts-init c =
-    names_first c.args.kind c.requires
+pub loop-next-init : goal.loop-next-init
+loop-next-init c = (search rules, names_first c.args.kind c.requires)
 
-pub bounds-args-i : goal.bounds-args-i
-bounds-args-i c =
-    let h = name_there c.loop-drafts.invariant c.byte_at.ensures c.loop-drafts-test.true in
-    omega (arith, c.loop-drafts.invariant.ready.even)
+pub returns-in_err-next-clause-reads : goal.returns-in_err-next-clause-reads
+returns-in_err-next-clause-reads c =
+    let p = err_from_is_err_and c.from_residual.result c.from_residual.ensures.1 in
+    rw (p.1, p.2)
+    (names_none c.loop-next.invariant.1 c.in_err-next.ensures)
+
+pub bounds-row-i : goal.bounds-row-i
+bounds-row-i c =
+    let h = name_there c.loop-next.invariant.1 c.in_ok-next.ensures in
+    omega (arith, c.loop-next.invariant.1.ready.even)
 
 pub emit-requires : goal.emit-requires
-emit-requires c =
-    name_room c.loop-drafts.invariant c.byte_at.ensures c.loop-drafts-test.true
+emit-requires c = name_room c.loop-next.invariant.1 c.in_ok-next.ensures
 
-pub returns-then-byte_at-ne44 : goal.returns-then-byte_at-ne44
-returns-then-byte_at-ne44 c =
-    names_last c.loop-drafts.invariant c.byte_at.ensures c.loop-drafts-test.true c.emit.ensures.0
-    c.emit.ensures.1 c.byte_at-in-loop-drafts.ensures c.if-byte_at-ne44.true
+pub returns-then-kind-ne44-clause-reads : goal.returns-then-kind-ne44-clause-reads
+returns-then-kind-ne44-clause-reads c =
+    names_last c.loop-next.invariant.1 c.in_ok-next.ensures c.emit.ensures.emits c.kind.ensures
+    c.if-kind-ne44.true
 
-pub loop-drafts-smaller : goal.loop-drafts-smaller
-loop-drafts-smaller c =
-    let h = name_there c.loop-drafts.invariant c.byte_at.ensures c.loop-drafts-test.true in
-    omega arith
+pub loop-next-smaller : goal.loop-next-smaller
+loop-next-smaller c =
+    let h = name_there c.loop-next.invariant.1 c.in_ok-next.ensures in
+    omega (arith, c.in_ok-next.ensures.1)
 
-pub loop-drafts-preserved : goal.loop-drafts-preserved
-loop-drafts-preserved c =
-    names_again c.loop-drafts.invariant c.byte_at.ensures c.loop-drafts-test.true c.emit.ensures.0
-    c.emit.ensures.1 c.byte_at-in-loop-drafts.ensures c.if-byte_at-ne44.false
-
-pub returns : goal.returns
-returns c =
-    names_none c.loop-drafts.invariant c.byte_at.ensures c.loop-drafts-test.false
+pub loop-next-preserved : goal.loop-next-preserved
+loop-next-preserved c = (
+  search rules,
+  names_again c.loop-next.invariant.1 c.in_ok-next.ensures c.emit.ensures.emits c.kind.ensures
+      c.if-kind-ne44.false,
+)

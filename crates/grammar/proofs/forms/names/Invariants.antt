@@ -1,13 +1,15 @@
--- `grammar::names` meets its contract. The measure is the count of tokens that are left.
-use Prim.Native.Nat.{◌-◌}
-use lib.ListN.{length}
+-- The names still to be read give what all give; the measure is the count of tokens that are left.
+use Rattle.std.proofs.Common.{◌-◌, length}
+use Rattle.grammar.specs.Contract.{SameBuffers}
 use Rattle.grammar.proofs.Headers.{GoingNames}
 use Rattle.grammar.proofs.forms.names.Given as goal
 
-abbrev pub invariant-loop-drafts : goal.invariant-loop-drafts
-invariant-loop-drafts l =
-    GoingNames l.kinds l.args l.kind l.at l.place l.initial.drafts l.initial.values l.i l.w l.drafts l.values
+abbrev pub invariant-loop-next : goal.invariant-loop-next
+invariant-loop-next l =
+    let o = l.initial.out in
+    SameBuffers o l.out
+    × GoingNames l.row.kinds.now l.row.args.now l.kind l.at o.place o.kinds.now o.args.now l.i l.out.place
+    l.out.kinds.now l.out.args.now
 
-abbrev pub decreases-loop-drafts : goal.decreases-loop-drafts
-decreases-loop-drafts l =
-    length l.kinds - l.i
+abbrev pub decreases-loop-next : goal.decreases-loop-next
+decreases-loop-next l = length l.row.kinds.now - l.i

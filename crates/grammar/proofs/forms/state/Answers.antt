@@ -1,62 +1,37 @@
 -- `grammar::state` meets its contract.
-use mathlib.Core.Path.{sym, ◌∙◌}
-use native.Mathlib.Omega.{arith}
-use Rattle.grammar.proofs.Statements.{comma_inside, state_shut, state_within, state_missing}
-use Rattle.grammar.proofs.Statements.{state_on, state_second, state_alone, state_next, state_rated}
+use Rattle.std.proofs.lemmas.Result.{err_from_is_err_and}
+use Rattle.grammar.proofs.Statements.{state_shut, state_missing, state_second, state_alone, state_next, state_rated}
 use Rattle.grammar.proofs.forms.state.Goals as goal
 
-pub returns-then-byte_at-ne40 : goal.returns-then-byte_at-ne40
-returns-then-byte_at-ne40 c =
-    state_shut c.args.key c.requires c.byte_at.ensures c.if-byte_at-ne40.true
+pub returns-in_err-start-clause-reads : goal.returns-in_err-start-clause-reads
+returns-in_err-start-clause-reads c =
+    let p = err_from_is_err_and c.from_residual.result c.from_residual.ensures.1 in
+    rw (p.1, p.2)
+    (state_shut c.args.key c.requires c.in_err-start.ensures)
 
-pub initial-value-requires : goal.initial-value-requires
-initial-value-requires c =
-    state_within c.args.key c.requires c.byte_at.ensures c.if-byte_at-ne40.false
+pub returns-in_err-value-clause-reads : goal.returns-in_err-value-clause-reads
+returns-in_err-value-clause-reads c =
+    let p = err_from_is_err_and c.from_residual-in_err-value.result c.from_residual-in_err-value.ensures.1 in
+    rw (p.1, p.2)
+    (state_missing c.args.key c.requires c.in_ok-start.ensures c.in_err-value.ensures)
 
-pub emit-requires : goal.emit-requires
-emit-requires c =
-    (state_on c.args.key c.requires c.byte_at.ensures c.if-byte_at-ne40.false
-    (sym c.in-Found.is ∙ c.initial-value.ensures)).first
+pub emit-requires-2 : goal.emit-requires-2
+emit-requires-2 c =
+    state_second c.args.key c.requires c.in_ok-start.ensures c.in_ok-value.ensures c.emit.ensures.emits
 
-pub emit-requires-in-Found : goal.emit-requires-in-Found
-emit-requires-in-Found c =
-    state_second c.args.key c.requires c.byte_at.ensures c.if-byte_at-ne40.false
-    (sym c.in-Found.is ∙ c.initial-value.ensures) c.emit.ensures.0
-    c.emit.ensures.1
-
-pub returns-then-byte_at-ne44 : goal.returns-then-byte_at-ne44
-returns-then-byte_at-ne44 c =
-    state_alone c.args.key c.requires c.byte_at.ensures c.if-byte_at-ne40.false
-    (sym c.in-Found.is ∙ c.initial-value.ensures) c.byte_at-in-Found.ensures
-    c.emit.ensures.0 c.emit.ensures.1
-    c.emit-in-Found.ensures.0 c.emit-in-Found.ensures.1 c.if-byte_at-ne44.true
-
-pub overflow_add-next : goal.overflow_add-next
-overflow_add-next c =
-    let h = comma_inside c.args.kinds.now _ c.byte_at-in-Found.ensures c.if-byte_at-ne44.false in
-    omega (arith, c.well_formed)
-
-pub overflow_add-place-in-Found : goal.overflow_add-place-in-Found
-overflow_add-place-in-Found c =
-    let h = (state_on c.args.key c.requires c.byte_at.ensures c.if-byte_at-ne40.false
-    (sym c.in-Found.is ∙ c.initial-value.ensures)).under in
-    omega (arith, c.well_formed)
+pub returns-in_err-second-clause-reads : goal.returns-in_err-second-clause-reads
+returns-in_err-second-clause-reads c =
+    let p = err_from_is_err_and c.from_residual-in_err-second.result c.from_residual-in_err-second.ensures.1 in
+    rw (p.1, p.2)
+    (state_alone c.args.key c.requires c.in_ok-start.ensures c.in_ok-value.ensures c.emit.ensures.emits
+    c.emit-2.ensures.emits c.in_err-second.ensures)
 
 pub rate-requires : goal.rate-requires
 rate-requires c =
-    state_next c.args.key c.requires c.byte_at.ensures c.if-byte_at-ne40.false
-    (sym c.in-Found.is ∙ c.initial-value.ensures) c.byte_at-in-Found.ensures
-    c.emit.ensures.0 c.emit.ensures.1
-    c.emit-in-Found.ensures.0 c.emit-in-Found.ensures.1 c.if-byte_at-ne44.false
+    state_next c.args.key c.requires c.in_ok-start.ensures c.in_ok-value.ensures c.emit.ensures.emits
+    c.emit-2.ensures.emits c.in_ok-second.ensures
 
-pub returns-in-Missing : goal.returns-in-Missing
-returns-in-Missing c =
-    state_missing c.args.key c.requires c.byte_at.ensures c.if-byte_at-ne40.false
-    (sym c.in-Missing.is ∙ c.initial-value.ensures)
-
-pub returns-else-byte_at-ne44 : goal.returns-else-byte_at-ne44
-returns-else-byte_at-ne44 c =
-    state_rated c.args.key c.requires c.byte_at.ensures c.if-byte_at-ne40.false
-    (sym c.in-Found.is ∙ c.initial-value.ensures) c.byte_at-in-Found.ensures
-    c.emit.ensures.0 c.emit.ensures.1
-    c.emit-in-Found.ensures.0 c.emit-in-Found.ensures.1 c.if-byte_at-ne44.false c.rate.ensures
+pub returns-clause-reads : goal.returns-clause-reads
+returns-clause-reads c =
+    state_rated c.args.key c.requires c.in_ok-start.ensures c.in_ok-value.ensures c.emit.ensures.emits
+    c.emit-2.ensures.emits c.in_ok-second.ensures c.rate.ensures.reads

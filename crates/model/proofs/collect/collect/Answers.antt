@@ -1,15 +1,20 @@
 -- The loop goes over the drafts.
-use mathlib.Core.Path.{refl}
-use Rattle.model.proofs.DefinitionsCollected.{collecting_first, collecting_next, collecting_last}
+use mathlib.Core.Path.{◌∙◌}
+use Rattle.model.proofs.DefinitionsCollected.{collecting_one, collecting_none, collecting_last}
 use Rattle.model.proofs.collect.collect.Goals as goal
-
-pub loop-i-init : goal.loop-i-init
-loop-i-init c =
-    collecting_first _ _ _ _
+use Rattle.model.proofs.collect.collect.Goals.{then-is_defining, else-is_defining}
 
 pub loop-i-preserved : goal.loop-i-preserved
 loop-i-preserved c =
-    collecting_next c.loop-i.invariant c.loop-i-test.true refl c.note-d.ensures
+    let v = c.loop-i.invariant in
+    let h = c.loop-i-test.true in
+    elim c.if-is_defining.branch [
+      | then-is_defining w ↦
+          collecting_one v h c.is_defining.ensures w.if-is_defining.true (w.keys-is ∙ w.put.ensures)
+          (w.places-is ∙ w.put-then-is_defining.ensures) w.d-is
+      | else-is_defining w ↦
+          collecting_none v h c.is_defining.ensures w.if-is_defining.false w.keys-is w.places-is w.d-is
+    ]
 
 pub returns : goal.returns
 returns c =

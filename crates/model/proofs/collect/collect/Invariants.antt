@@ -1,13 +1,7 @@
 -- The loop goes over the drafts.
-use Prim.Native.Nat.{◌-◌}
-use lib.ListN.{length}
 use Rattle.model.proofs.DefinitionsCollected.{Collecting}
 use Rattle.model.proofs.collect.collect.Given as goal
 
 abbrev pub invariant-loop-i : goal.invariant-loop-i
 invariant-loop-i l =
     Collecting l.kinds l.args l.initial.keys l.initial.places l.d l.i l.keys l.places
-
-abbrev pub decreases-loop-i : goal.decreases-loop-i
-decreases-loop-i l =
-    length l.kinds - l.i

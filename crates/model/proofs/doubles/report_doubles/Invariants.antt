@@ -1,5 +1,4 @@
 -- Before statement j as many definitions are passed as stand before it.
-use Prim.Native.Nat.{◌-◌}
 use mathlib.Core.Path.{◌≡◌}
 use lib.ListN.{length}
 use Rattle.drafts.specs.Places.{begins}
@@ -10,8 +9,5 @@ use Rattle.model.proofs.doubles.report_doubles.Given as goal
 abbrev pub invariant-loop-j : goal.invariant-loop-j
 invariant-loop-j l =
     (l.d ≡ before (begins l.bounds l.j) l.places)
-    × Reports (repeat_at l.lines l.bounds l.keys l.places) (length l.lines) l.j l.count l.initial.faults l.faults
-
-abbrev pub decreases-loop-j : goal.decreases-loop-j
-decreases-loop-j l =
-    length l.lines - l.j
+    × Reports (repeat_at l.lines l.bounds l.names.keys.now l.places) (length l.lines) l.j l.count l.initial.faults
+    l.faults

@@ -1,5 +1,6 @@
 -- The hints and links of the keys from the last down to the present one are noted.
-use Rattle.model.proofs.KeysFound.{hinting_first, hinting_next, hinting_last}
+use mathlib.Core.Path.{refl}
+use Rattle.model.proofs.KeysFound.{hinting_first, hinting_next}
 use Rattle.model.proofs.hints.note_hints.Goals as goal
 
 pub loop-d-init : goal.loop-d-init
@@ -9,10 +10,4 @@ loop-d-init c =
 pub loop-d-preserved : goal.loop-d-preserved
 loop-d-preserved c =
     let bucket = c.bucket-b.ensures in
-    let v = c.loop-d.invariant in
-    hinting_next v c.loop-d-test.true bucket.0 bucket.1 c.short_at.ensures.0
-    c.put_short.ensures c.put_short-in-loop-d.ensures
-
-pub returns : goal.returns
-returns c =
-    hinting_last c.loop-d.invariant c.loop-d-test.false
+    hinting_next c.loop-d.invariant c.loop-d-test.true bucket.0 bucket.1 refl refl refl

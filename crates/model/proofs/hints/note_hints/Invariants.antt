@@ -5,7 +5,3 @@ use Rattle.model.proofs.hints.note_hints.Given as goal
 abbrev pub invariant-loop-d : goal.invariant-loop-d
 invariant-loop-d l =
     Hinting l.keys l.initial.links l.d l.hints l.links
-
-abbrev pub decreases-loop-d : goal.decreases-loop-d
-decreases-loop-d l =
-    l.d

@@ -1,5 +1,4 @@
 -- The equations before statement j are stored.
-use Prim.Native.Nat.{◌-◌}
 use Rattle.model.specs.Places.{is_ordered}
 use Rattle.model.proofs.UnitReads.{Listing}
 use Rattle.model.proofs.units.collect_ordered.Given as goal
@@ -8,7 +7,3 @@ abbrev pub invariant-loop-j : goal.invariant-loop-j
 invariant-loop-j l =
     Listing
     (is_ordered l.bounds l.kinds) l.n l.j l.count l.initial.equated l.equated
-
-abbrev pub decreases-loop-j : goal.decreases-loop-j
-decreases-loop-j l =
-    l.n - l.j

@@ -5,8 +5,6 @@ use Rattle.model.proofs.units.note_owners.Given as goal
 
 abbrev pub invariant-loop-r : goal.invariant-loop-r
 invariant-loop-r l =
-    Owning (assigned_slots l.equated l.bounds l.kinds (resolved l.keys l.kinds l.args)) l.initial.owners l.r l.owners
-
-abbrev pub decreases-loop-r : goal.decreases-loop-r
-decreases-loop-r l =
-    l.r
+    let s = l.sheet in
+    let slots = resolved l.names.keys.now s.kinds.now s.args.now in
+    Owning (assigned_slots l.equated s.bounds.now s.kinds.now slots) l.initial.owners l.r l.owners

@@ -9,9 +9,9 @@ loop-i-init c =
 pub loop-i-preserved : goal.loop-i-preserved
 loop-i-preserved c =
     entering_next c.loop-i.invariant c.loop-i-test.true
-    (rw (← c.word_at.ensures, ← c.byte_at.ensures) c.enter-n.ensures)
+    (rw (← c.word_at.ensures, ← c.byte_at-kind.ensures) c.enter-n.ensures)
 
 pub returns : goal.returns
 returns c =
-    rw (← c.short_at-i.ensures.0, ← c.short_at-end.ensures.0, ← c.short_at-line.ensures.0)
+    rw (← c.short_at-begin.ensures.0, ← c.short_at-end.ensures.0, ← c.short_at-line.ensures.0)
     (entering_all c.loop-i.invariant c.loop-i-test.false)

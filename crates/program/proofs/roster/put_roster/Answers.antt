@@ -13,5 +13,6 @@ loop-j-preserved c =
 pub returns : goal.returns
 returns c =
     let a = c.args in
-    roster_put a.lines.now a.bounds.now a.kinds.now a.args.now c.loop-j.invariant
+    let s = a.sheet.now in
+    roster_put s.lines.now s.bounds.now s.kinds.now s.args.now c.loop-j.invariant
     c.loop-j-test.false

@@ -1,43 +1,21 @@
--- The invariant: so many stand from the place on as were counted, and as stand behind them.
-use Prim.Native.Nat.{ℕ, ◌+◌}
-use mathlib.Core.Path.{◌≡◌, refl, sym, ap, ◌∙◌}
-use mathlib.Core.Bool.{Bool, true}
-use mathlib.Core.List.{List}
-use native.Mathlib.Omega.{arith}
-use lib.ListN.{length, get_or}
-use Rattle.laws.proofs.Runs.{inside, run_len, run_stop}
-use Rattle.tokens.specs.Bytes.{is_word, word_at}
+use Rattle.std.proofs.Common.{◌+◌, ◌∙◌, drop, take, rules, tests}
+use Rattle.std.proofs.lemmas.Iterator.{YieldsList-from_slice, YieldsList-from_take}
+use Rattle.std.proofs.lemmas.Iterator.Consumers.{YieldsList-at, count_from_yields_List}
+use Rattle.std.proofs.lemmas.Iterator.Search.{YieldsList-from_take_while}
+use Rattle.limits.specs.Limits.{name_bytes}
+use Rattle.tokens.specs.Bytes.{is_word}
+use Rattle.tokens.proofs.Prefixes.{run_taken, run_front, all_behind}
 use Rattle.tokens.proofs.name.name_bytes.Goals as goal
-
--- one more
-more : (s : List ℕ) (at n : ℕ) → is_word (get_or s (at + n) 0) ≡ true
-    → n + 1 + length (word_at s (at + (n + 1))) ≡ n + length (word_at s (at + n))
-more s at n h =
-    let e : at + (n + 1) ≡ at + n + 1 = omega arith in rw e (omega (arith, run_len is_word s (at + n) refl h))
-
-pub loop-n-init : goal.loop-n-init
-loop-n-init c =
-    let a = c.args in
-    let e : a.at + 0 ≡ a.at = omega arith in
-    (omega arith, omega (arith, c.requires), rw e (omega arith))
-
-pub loop-n-preserved : goal.loop-n-preserved
-loop-n-preserved c =
-    let test_is : (b : Bool) → c.is_word.result ≡ b
-    → is_word (get_or c.args.body.now (c.args.at + c.loop-n.n) 0)
-    ≡ b = λ b t. ap is_word (sym c.byte_at.ensures) ∙ sym c.is_word.ensures ∙ t in
-    let w = test_is _ c.if-is_word.true in
-    let i = inside is_word c.args.body.now (c.args.at + c.loop-n.n) refl w in
-    (omega arith, omega (arith, i), more c.args.body.now c.args.at c.loop-n.n w ∙ c.loop-n.invariant.2)
-
-pub returns-else-is_word : goal.returns-else-is_word
-returns-else-is_word c =
-    let test_is : (b : Bool) → c.is_word.result ≡ b
-    → is_word (get_or c.args.body.now (c.args.at + c.loop-n.n) 0)
-    ≡ b = λ b t. ap is_word (sym c.byte_at.ensures) ∙ sym c.is_word.ensures ∙ t in
-    let e = run_stop is_word c.args.body.now (c.args.at + c.loop-n.n) (test_is _ c.if-is_word.false) in
-    omega (arith, c.loop-n.invariant, ap length e)
 
 pub returns : goal.returns
 returns c =
-    omega (arith, c.loop-n.invariant, c.loop-n-test.false)
+    let s = drop c.args.at c.args.body.now in
+    let from_here = c.iter.ensures.rest ∙ all_behind c.args.body.now c.args.at in
+    count_from_yields_List c.take_while.result c.count.result c.count.ensures.ran
+    (YieldsList-from_take_while _ is_word
+    (YieldsList-at c.take_while.ensures.source
+    (YieldsList-from_take _ (YieldsList-at c.take.ensures.source (YieldsList-from_slice s from_here))
+    c.take.ensures.count))
+    c.take_while.ensures.closure c.take_while.ensures.done (λ x b f called. search (rules, tests)))
+    ∙ run_taken is_word (take (name_bytes + 1) s)
+    ∙ run_front is_word (name_bytes + 1) s

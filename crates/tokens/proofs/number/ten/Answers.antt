@@ -1,4 +1,4 @@
--- The invariant: x is 10 to the i. Ten times x is the next power, exactly.
+-- Ten times x is the next power, exactly.
 use Prim.Native.Nat.{ℕ, ◌+◌, ◌<◌}
 use mathlib.Core.Path.{◌≡◌, refl, sym, ap, ◌∙◌}
 use native.Mathlib.Numerals.{add-one}
@@ -17,17 +17,13 @@ more x i h e = ap (λ (y : Float). mul binary64 y (ten_to 1)) e ∙ (ten_times i
 pub loop-i-init : goal.loop-i-init
 unfolding Ieee.of_bits Ieee.of_int ten_to
 loop-i-init c =
-    (omega arith, refl)
+    refl
 
 pub loop-i-preserved : goal.loop-i-preserved
 unfolding Ieee.of_bits Ieee.of_int ten_to
 loop-i-preserved c =
-    let l = c.loop-i in
-    let below : l.i < most_tens = omega (arith, c.loop-i-test.true, c.requires) in
-    (omega (arith, c.loop-i-test.true), more l.x l.i below l.invariant.1)
+    more c.loop-i.x c.loop-i._i (omega (arith, c.requires)) c.loop-i.invariant
 
 pub returns : goal.returns
 returns c =
-    let l = c.loop-i in
-    let done : l.i ≡ c.args.k = omega (arith, c.loop-i-test.false, l.invariant.0) in
-    l.invariant.1 ∙ ap ten_to done
+    let done : c.loop-i._i ≡ c.args.k = omega arith in c.loop-i.invariant ∙ ap ten_to done

@@ -3,11 +3,8 @@ use Rattle.tokens.proofs.step.held_name.Goals as goal
 
 pub returns-then-kind-eq-NAME : goal.returns-then-kind-eq-NAME
 returns-then-kind-eq-NAME c =
-    let found = c.kind_of-kind in
-    held_name c.args.name.now found.result c.key_of.result c.requires found.ensures
-    c.if-kind-eq-NAME.true c.key_of.ensures
+    held_name _ _ _ c.requires c.kind_of-kind.ensures c.if-kind-eq-NAME.true c.key_of-arg.ensures
 
-pub returns : goal.returns
-returns c =
-    let found = c.kind_of-kind in
-    held_word c.args.name.now found.result found.ensures c.if-kind-eq-NAME.false
+pub returns-else-kind-eq-NAME : goal.returns-else-kind-eq-NAME
+returns-else-kind-eq-NAME c =
+    held_word _ _ c.kind_of-kind.ensures c.if-kind-eq-NAME.false

@@ -18,15 +18,6 @@ returns-then-kinds-room c =
 
 pub returns-then-n-gt-RECORDS : goal.returns-then-n-gt-RECORDS
 returns-then-n-gt-RECORDS c =
-    let a = c.args in
-    rw
-    (lt-ltb most_records (record_count a.kinds.now) (omega (arith, c.if-n-gt-RECORDS.true, c.count_records-n.ensures)))
-
-pub returns : goal.returns
-returns c =
-    let a = c.args in
-    rw (
-      le-ltb most_records (record_count a.kinds.now)
-          (omega (arith, c.if-n-gt-RECORDS.false, c.count_records-n.ensures)),
-      c.count_records-n.ensures,
-    )
+    let n = record_count c.args.kinds.now in
+    let many = lt-ltb most_records n (omega (arith, c.if-n-gt-RECORDS.true, c.count_records-n.ensures)) in
+    rw (c.count_records-n.ensures, many)

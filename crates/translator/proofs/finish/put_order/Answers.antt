@@ -13,7 +13,7 @@ returns-then-ordered-i c =
 pub loop-i-preserved : goal.loop-i-preserved
 loop-i-preserved c =
     hands_next c.loop-i.invariant c.loop-i-test.true _
-    (rw (← c.short_at.ensures.0, ← c.short_at-in-loop-i.ensures.0) c.short_at-in-loop-i-2.ensures.0)
+    (rw (← c.short_at.ensures.0) c.short_at-in-loop-i.ensures.0)
 
 pub returns : goal.returns
 returns c =

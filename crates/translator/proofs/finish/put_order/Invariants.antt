@@ -1,13 +1,7 @@
 -- The loop goes over the order, until no place is left.
-use Prim.Native.Nat.{◌-◌}
-use lib.ListN.{length}
 use Rattle.translator.proofs.Handing.{Hands}
 use Rattle.translator.proofs.finish.put_order.Given as goal
 
 abbrev pub invariant-loop-i : goal.invariant-loop-i
 invariant-loop-i l =
     Hands l.equated l.lines l.order l.i l.initial.ordered l.ordered
-
-abbrev pub decreases-loop-i : goal.decreases-loop-i
-decreases-loop-i l =
-    length l.order - l.i

@@ -1,8 +1,0 @@
--- Past the end the byte is 0.
-use mathlib.Core.Path.{sym}
-use lib.ListN.{get_or-eq_default}
-use Rattle.bits.proofs.reads.byte_at.Goals as goal
-
-pub returns-else-i-s : goal.returns-else-i-s
-returns-else-i-s c =
-    sym (get_or-eq_default c.args.s.now 0 c.if-i-s.false)

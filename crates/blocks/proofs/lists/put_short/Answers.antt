@@ -1,8 +1,0 @@
--- Past the end nothing is stored.
-use mathlib.Core.Path.{sym}
-use lib.Seq.{set_out}
-use Rattle.blocks.proofs.lists.put_short.Goals as goal
-
-pub returns-else-i-s : goal.returns-else-i-s
-returns-else-i-s c =
-    sym (set_out c.args.s.now c.args.i _ c.if-i-s.false)

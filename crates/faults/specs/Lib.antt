@@ -1,0 +1,2 @@
+-- the paper
+pub mod Codes
