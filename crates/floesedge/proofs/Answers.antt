@@ -31,7 +31,8 @@ use Rattle.evaluator.specs.Contract.{answer_in, Evaluated, Started, Stepped}
 use Rattle.evaluator.specs.declared.Refusal.{Refusal as RunRefusal}
 
 -- ---- the count of a verdict
-pub count_small : (text f p f' p' : List ℕ) (r : Result ℕ Refusal) → Translates text f p r f' p' → count_in r ≤ most_records
+pub count_small : (text f p f' p' : List ℕ) (r : Result ℕ Refusal) → Translates text f p r f' p'
+    → count_in r ≤ most_records
 unfolding translation
 count_small text f p f' p' r e =
     let v = verdict_of text (length f) (length p) in
@@ -96,7 +97,8 @@ module _ {p : List ℕ} {v d : List Float} {r : Result (Unit {0}) RunRefusal} {v
   started_small w =
       small_by p v d (answer_in r) (ap (λ (o : RunOutcome). o.answer) w.meets ∙ answer_kept (refusal p v d) v d _ _)
 
-  pub stepped_small : (h : Float) → Stepped p h v d r v' d' → ((answer_in r).number ≤ 4) × ((answer_in r).place ≤ most_records)
+  pub stepped_small : (h : Float) → Stepped p h v d r v' d'
+      → ((answer_in r).number ≤ 4) × ((answer_in r).place ≤ most_records)
   unfolding stepped_within
   stepped_small h w =
       small_by p v d (answer_in r) (ap (λ (o : RunOutcome). o.answer) w.meets ∙ answer_kept (refusal p v d) v d _ _)
@@ -108,7 +110,8 @@ pub same_translation : (text f p f' p' : List ℕ) (r : Result ℕ Refusal) (v :
 same_translation text f p f' p' r v e n c = rw (n, c) (by_number text f p r e)
 
 -- ---- names
-pub names_small : (text f o f' o' : List ℕ) (r : Result ℕ Refusal) → NamesSlots text f o r f' o' → count_in r ≤ most_records
+pub names_small : (text f o f' o' : List ℕ) (r : Result ℕ Refusal) → NamesSlots text f o r f' o'
+    → count_in r ≤ most_records
 unfolding names_given
 names_small text f o f' o' r e =
     let v = naming_of text (length f) (length o) in

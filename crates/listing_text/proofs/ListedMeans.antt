@@ -64,7 +64,8 @@ module _ (text f p o : List ℕ) (room_faults : fault_room ≤ length f) (room_o
         )
 
     -- and what is written of that is what is listed
-    listed_of : written (number_in (records_answered r)) (count_in (records_answered r)) (units_in r) f' o' ≡ listing_of verdict
+    listed_of : written (number_in (records_answered r)) (count_in (records_answered r)) (units_in r) f' o'
+        ≡ listing_of verdict
     unfolding translation
     listed_of =
         let t = by_number text f p (records_answered r) (without_order text f p o r e) in

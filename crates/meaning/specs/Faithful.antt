@@ -45,9 +45,11 @@ Accepted program = (v d : List Float) → HasSlots v d → refusal program v d �
 -- starts and steps; there is one solution; and nothing is lost
 pub record Faithful (text program : List ℕ) : Type 0 where
   pub accepted : Accepted program
-  pub evaluates : (v d : List Float) → HasSlots v d → (r : Result (Unit {0}) Refusal) (v' d' : List Float) → Evaluated program v d r v' d'
+  pub evaluates : (v d : List Float) → HasSlots v d → (r : Result (Unit {0}) Refusal) (v' d' : List Float)
+      → Evaluated program v d r v' d'
       → Evaluates text v d (run_outcome (answer_in r) v' d')
-  pub starts : (v d : List Float) → HasSlots v d → (r : Result (Unit {0}) Refusal) (v' d' : List Float) → Started program v d r v' d'
+  pub starts : (v d : List Float) → HasSlots v d → (r : Result (Unit {0}) Refusal) (v' d' : List Float)
+      → Started program v d r v' d'
       → Starts text v d (run_outcome (answer_in r) v' d')
   pub steps : (h : Float) (v d : List Float) → HasSlots v d → (r : Result (Unit {0}) Refusal) (v' d' : List Float)
       → Stepped program h v d r v' d'
