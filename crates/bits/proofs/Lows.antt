@@ -9,7 +9,7 @@ use native.Mathlib.Omega.{arith}
 use lib.Dec.{lit<}
 use lib.ListN.{length, get_or, set, take, drop, length-take, length-set, drop_of_length-le}
 use lib.Seq.{sets, drop-cons, get_or-take}
-use Rattle.laws.proofs.Sets.{sets_out}
+use Rattle.laws.proofs.Sets.{sets_out, sets_append}
 use Rattle.std.specs.Int.{bytes_low_first}
 use Rattle.laws.proofs.Tests.{lt_or_ge}
 use Rattle.bits.specs.Low.{low_bytes, low_word}
@@ -125,3 +125,9 @@ unfolding low_bytes
 low_append zero n v = rw (zero-add, div-one)
 low_append (suc m) n v =
     rw (suc-add m n, low_append m n (v / 256), div-div-eq-div-mul v 256 (256 ^ m), ← (pow-succ' 256 m))
+
+-- one behind the other
+pub low_both : (l half whole : List ℕ) (at m n v : ℕ) → half ≡ sets l at (low_bytes m v)
+    → whole ≡ sets half (at + m) (low_bytes n (v / 256 ^ m))
+    → whole ≡ sets l at (low_bytes (m + n) v)
+low_both l half whole at m n v p q = q ∙ rw (p, low_append m n v, sets_append l at (low_bytes m v), length_low m v)

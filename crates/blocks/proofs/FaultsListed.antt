@@ -27,6 +27,20 @@ if_length true line code = omega arith
 if_length false line code = omega arith
 
 -- a fault that is written, and none
+pub fault_put : (line code c : ℕ) {stands : Bool} {list list' : List ℕ} → stands ≡ true
+    → list' ≡ sets list (fault_bytes * c) (entry_of (fault_at_first line code))
+    → Reported (fault_if stands line code) c (c + 1) list list'
+unfolding fault_list fault_entry concat_map
+fault_put line code c {stands} {list} {list'} t e =
+    let one = ap (sets list (fault_bytes * c)) (sym (append-nil (entry_of (fault_at_first line code)))) in
+    rw t (record { behind = refl; written = e ∙ one })
+
+pub fault_none : (line code c : ℕ) (stands : Bool) (list : List ℕ) → stands ≡ false
+    → Reported (fault_if stands line code) c c list list
+unfolding fault_list concat_map
+fault_none line code c stands list t = rw t (record { behind = omega arith; written = refl })
+
+-- the same for a fault that is there or not
 pub fault_added : {f : Option FaultKind} {line code r : ℕ} {x : FaultKind} {list list' : List ℕ} (c : ℕ)
     → f ≡ Some x → code ≡ code_of x
     → list' ≡ sets list (fault_bytes * c) (entry_of (record { line = line; code = code; place = line; column = 1 }))

@@ -10,11 +10,11 @@ use lib.Pointwise.{pointwise}
 use Rattle.std.specs.Prelude.{Option, Some, None, MatchOption, unwrap_or}
 use Rattle.std.specs.Borrow.{Bor}
 use lib.ListN.{length, get_or, take, drop, drop_of_length-le, length-append}
-use lib.Seq.{drop-cons, length-take-le}
+use lib.Seq.{drop-cons, length-take-le, take-length}
 use Rattle.std.proofs.lemmas.List.{get_or-take, take-take}
 use borrow.Author.Tests.{le-leb, leb-true, ltb-false}
 use Rattle.limits.specs.Limits.{most_cards, card_bytes}
-use Rattle.laws.proofs.Tests.{cond_ind, not_both, lt_or_ge}
+use Rattle.laws.proofs.Tests.{cond_ind, and_true, not_both, lt_or_ge}
 use Rattle.deck.specs.Lines.{Line, trimmed, dots_at, dotted}
 use Rattle.deck.specs.Joined.{line_part, joined}
 use Rattle.deck.specs.declared.Place.TheVariants.{AtStart}
@@ -29,6 +29,24 @@ part_le l =
     let h : trimmed l - 3 ≤ length l = omega (arith, trimmed_le l) in
     cond_ind (λ (p : List ℕ). length p ≤ length l) (dotted l) (take (trimmed l - 3) l) l
     (λ _. omega (arith, length-take-le (trimmed l - 3) l h)) (λ _. omega arith)
+
+-- three points need three places
+pub dots_three : (l : Line) (n : ℕ) → dots_at l n ≡ true → 3 ≤ n
+dots_three l n e = leb-true 3 n (and_true _ _ e).0
+
+module _ (l : Line) where
+  -- the line's front of the part's length is the part
+  pub part_take : take (length (line_part l)) l ≡ line_part l
+  unfolding line_part
+  part_take =
+      cond_ind (λ (p : List ℕ). take (length p) l ≡ p) (dotted l) (take (trimmed l - 3) l) l
+      (λ _. ap (λ (k : ℕ). take k l) (length-take-le (trimmed l - 3) l (omega (arith, trimmed_le l))))
+      (λ _. take-length l)
+
+  -- with dots it ends in front of them
+  pub part_dotted : dotted l ≡ true → length (line_part l) ≡ trimmed l - 3
+  unfolding line_part
+  part_dotted d = rw d (length-take-le (trimmed l - 3) l (omega (arith, trimmed_le l)))
 
 -- ---- the closing dots
 

@@ -5,7 +5,7 @@ use mathlib.Core.Bool.{not, ◌||◌}
 use mathlib.Core.List.{List}
 use Rattle.std.specs.Prelude.{Ok, Err}
 use native.Mathlib.Omega.{arith}
-use borrow.Author.Tests.{lt-ltb, le-ltb, eqb-true, ltb-false}
+use borrow.Author.Tests.{ne_eqb, lt-ltb, le-ltb, eqb-true, ltb-false}
 use lib.Dec.{eqb, ltb, lit<}
 use lib.ListN.{length, set}
 use lib.Ieee.{Float}
@@ -48,6 +48,20 @@ module _ (p : List ℕ) (v d : List Float) (r : Answer) where
   pub short_derivs : r ≡ answer 1 0 → slots ≤ length v → length d < slots → r ≡ refusal p v d
   unfolding refusal_within
   short_derivs e hv h = rw (e, le-ltb (length v) slots hv, lt-ltb (length d) slots h)
+
+  module _ (hv : slots ≤ length v) (hd : slots ≤ length d) where
+    -- 2: no whole records, or too many of them
+    pub ragged : r ≡ answer 2 0 → (length p % record_bytes ≡ 0 → ⊥) → r ≡ refusal p v d
+    unfolding refusal_within
+    ragged e h =
+        rw (e, le-ltb (length v) slots hv, le-ltb (length d) slots hd, ne_eqb (length p % record_bytes) 0 h)
+
+    module _ (hp : length p % record_bytes ≡ 0) where
+      pub too_long : r ≡ answer 2 0 → most_records < length p / record_bytes → r ≡ refusal p v d
+      unfolding refusal_within
+      too_long e h =
+          let long = lt-ltb most_records (length p / record_bytes) h in
+          rw (e, le-ltb (length v) slots hv, le-ltb (length d) slots hd, hp, long)
 
   -- 3, 4 or 0: the judge's
   pub by_judge : slots ≤ length v → slots ≤ length d → length p % record_bytes ≡ 0 → r ≡ judge (decoded p)

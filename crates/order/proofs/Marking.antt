@@ -5,7 +5,7 @@ use mathlib.Core.Logic.{⊎_elim}
 use mathlib.Core.List.{List}
 use Prim.Native.Nat.{ℕ, ◌+◌, ◌-◌, ◌≤◌, ◌<◌}
 use native.Mathlib.Omega.{arith}
-use borrow.Author.Tests.{not-false}
+use borrow.Author.Tests.{not-true, not-false}
 use lib.ListN.{length, get_or, set}
 use Rattle.std.proofs.lemmas.Grind.{common_steps}
 use Rattle.laws.specs.Counts.{has}
@@ -15,7 +15,7 @@ use Rattle.laws.proofs.Members.{in_has}
 use Rattle.order.specs.Greedy.{first, ready}
 use Rattle.order.specs.Table.{used_of, uses_by_table, Fit}
 use Rattle.order.specs.Marks.{placed_in, open_at, free_in, ready_in, Cursors}
-use Rattle.order.proofs.Sorting.{all_true, all_intro, all_same, first_before}
+use Rattle.order.proofs.Sorting.{all_true, all_intro, all_same, first_hit, first_before}
 use Rattle.order.proofs.Searches.{first_from}
 use Rattle.order.proofs.Tables.{in_part, part_place}
 
@@ -84,6 +84,14 @@ module _ (n : ℕ) (s u : List ℕ) (m : List Bool) (c : List ℕ) (t : Fit n s 
   goal_used l =
       let lo = first_from (open_at u m) (stop - start) start in
       in_has (get_or u goal 0) (used_of s u i) (in_part (get_or s i 0) stop u (t.ends i h) goal (omega arith) l)
+
+  -- and that is not placed
+  pub goal_open : goal < stop → free_in n s u m i ≡ false
+  goal_open l =
+      let x = get_or u goal 0 in
+      let e = t.ends i h in
+      let w = first_hit (open_at u m) (stop - start) start (omega arith) in
+      free_not n s u m i x (goal_used l) (t.below goal (omega arith)) (not-true (placed_in m x) w)
 
   -- at the end all are placed
   pub goal_end : stop ≤ goal → free_in n s u m i ≡ true

@@ -53,6 +53,23 @@ ended l x [] h f e = refl
 ended l x (y ∷ zs) h f e = absurd (omega (arith, e.0, f y (omega (arith, once_same y))))
 
 module _ {n : ℕ} {h l v : List ℕ} (few : n ≤ most_statements) where
+  -- ---- the list of j is taken off, to be gone through
+  pub open_list : Queues n h l v none none → (j : ℕ) → j < n → Queues n (set h j none) l v j (get_or h j 0)
+  open_list g j hj =
+      record {
+        room = record {
+          heads_size = omega (arith, length-set h j none, g.room.heads_size);
+          links_size = g.room.links_size;
+          waits_size = g.room.waits_size;
+        };
+        queue = g.queue;
+        own = λ _. g.others j hj (λ e. omega arith);
+        shut = λ _. get_or-set_same h j none 0 (omega (arith, g.room.heads_size));
+        others = λ q hq e. rw (get_or-set_other h j q none 0 e) (g.others q hq (λ z. omega arith));
+        stands = g.stands;
+        only = g.only;
+      }
+
   -- it has been gone through
   module _ {p x : ℕ} (g : Queues n h l v p x) (hp : p < n) where
     pub close_list : none ≤ x → Queues n h l v none none × ((i : ℕ) → i < n → get_or v i 0 ≡ p → ⊥)

@@ -1,7 +1,7 @@
 -- Decoding: what is known of a record that is not refused.
 use Prim.Native.Nat.{ℕ, zero-le, ◌+◌, ◌*◌, ◌/◌, ◌≤◌, ◌<◌}
 use mathlib.Core.Path.{◌≡◌, refl, sym, ◌∙◌}
-use mathlib.Core.Bool.{true, ◌||◌}
+use mathlib.Core.Bool.{Bool, true, ◌||◌}
 use mathlib.Core.List.{List}
 use mathlib.Core.Logic.{◌⊎◌, inr, ⊎_elim}
 use native.Mathlib.Nat.{le_refl}
@@ -18,7 +18,7 @@ use Rattle.records.specs.declared.Instr.TheVariants.{Bad}
 use Rattle.records.specs.declared.Fields.{Fields}
 use Rattle.records.specs.Fields.{operand_of, has_slot, has_value, kinds, by_kind, in_order, instr_of, instr_within}
 use Rattle.records.specs.Record.{field, decode_at, decode_at_within}
-use Rattle.records.specs.Decode.{HoldsFields, decoded_at, read_at}
+use Rattle.records.specs.Decode.{HoldsFields, decoded_at, read_at, with_fields}
 use Rattle.records.proofs.FieldBytes.{field_two}
 
 -- no kind but 1 to 15 is known
@@ -32,6 +32,12 @@ unfolding instr_within
 unknown_refused k s b h =
     rw (unknown k s (of_bits binary64 b) h)
     (cond_ind (λ (i : Instr). Bad ≡ i) (in_order slots k 0 s b) Bad Bad (λ _. refl) (λ _. refl))
+
+-- what a kind that uses these fields holds
+pub uses : (k s b : ℕ) (slotted valued : Bool) → has_slot k ≡ slotted → has_value k ≡ valued
+    → with_fields slotted valued k s b ≡ instr_of k 0 s b
+unfolding instr_within
+uses k s b slotted valued p q = rw (p, q)
 
 -- ---- the code reads kind k and byte 1 z as one number, w
 

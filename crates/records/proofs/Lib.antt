@@ -1,4 +1,5 @@
 pub mod FieldBytes
+pub mod FieldParts
 pub mod Decoding
 pub mod ReadBack
 pub mod LeftRecords

@@ -102,7 +102,7 @@ module _ {lines bounds kinds args used faults : List ℕ} (ready : ArraysReady l
   unfolding united
   listed_zero = refl
 
-  says_six : g.number ≡ 6 → ConcludesFor b ss faults out lent (Err ManyDefinitions) faults' out lent
+  pub says_six : g.number ≡ 6 → ConcludesFor b ss faults out lent (Err ManyDefinitions) faults' out lent
   says_six e = go grouped
     where
       go : Grouped → ConcludesFor b ss faults out lent (Err ManyDefinitions) faults' out lent
@@ -111,7 +111,7 @@ module _ {lines bounds kinds args used faults : List ℕ} (ready : ArraysReady l
       go (sound t m q) = absurd
           (let z : g.number ≡ 0 = ap (λ (o : GroupOutcome). o.grouping.number) q ∙ listed_zero in omega arith)
 
-  says_blocks : g.number ≡ 7 → ConcludesFor b ss faults out lent (Err (ModelFaults g.count)) faults' out lent
+  pub says_blocks : g.number ≡ 7 → ConcludesFor b ss faults out lent (Err (ModelFaults g.count)) faults' out lent
   says_blocks e = go grouped
     where
       go : Grouped → ConcludesFor b ss faults out lent (Err (ModelFaults g.count)) faults' out lent

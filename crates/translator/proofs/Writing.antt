@@ -224,6 +224,12 @@ module _ {lines bounds ulines ubounds firsts kinds args used faults : List ℕ}
       let c = and_true (leb (length ulines) (length lines)) _ b.1 in
       omega (arith, leb-true (length lines) most_statements a.0, leb-true (length ulines) (length lines) c.0)
 
+  pub says_seven : (b : Bool) → (plan_in answer).number ≡ 7
+      → UnitsConcludeFor b of faults out lent (Err (ModelFaults (plan_in answer).count)) faults' out lent
+  says_seven b e =
+      decides_seven of kinds args lines bounds ulines ubounds firsts ready.laid used faults out lent reached
+      conclusion b e
+
   -- the arrays fit, and definitions are not too many: there are faults, or none
   numbered : ((plan_in answer).number ≡ 7) ⊎ ((plan_in answer).number ≡ 0)
   numbered = go conclusion
