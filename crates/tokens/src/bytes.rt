@@ -11,7 +11,7 @@ use bits::reads::byte_at;
 pub fn is_word(b: u8) -> bool
     ensures { result ≡ is_word b }
 {
-    b.is_ascii_uppercase() || b.is_ascii_digit()
+    matches!(b, b'0'..=b'9' | b'A'..=b'Z')
 }
 
 // What a number begins with.
@@ -28,11 +28,11 @@ pub fn is_tail(b: u8) -> bool
     is_word(b) || b == b'.'
 }
 
-// / = and ( ) * + , - which stand side by side.
+// ( ) * + , - which stand side by side, and / =.
 pub fn is_mark(b: u8) -> bool
     ensures { result ≡ is_mark b }
 {
-    matches!(b, b'/' | b'=' | b'('..=b'-')
+    matches!(b, b'('..=b'-') || matches!(b, b'/' | b'=')
 }
 
 // Behind the bytes from a place on that pass a test, up to the first that does not.
@@ -48,11 +48,15 @@ pub fn run_end<F: FnMut(&&u8) -> bool>(body: &[u8], from: usize, passes: F) -> u
     from + rest.iter().take_while(passes).count()
 }
 
-// The place behind the spaces from a place on.
+// The place behind the spaces from a place on. Most tokens follow one another directly, so the first byte is looked at
+// before the run.
 pub fn past_spaces(body: &[u8], from: usize) -> usize
     ensures { result ≡ from + length (spaces_at body.now from) }
 {
-    run_end(body, from, |&&b| b == b' ')
+    if byte_at(body, from) != b' ' {
+        return from;
+    }
+    run_end(body, from + 1, |&&b| b == b' ')
 }
 
 // Behind a sign, if one stands there.

@@ -3,11 +3,19 @@ ghost use Rattle.std.specs.Prelude.{◌≡◌};
 ghost use Rattle.laws.specs.Lists.{same_bytes};
 ghost use Rattle.tokens.specs.Held.{kind_named};
 
-// Whether a name is a word: each byte is the same.
+// Whether a name is a word: each byte is the same. Words are so short that a loop is done before `==` of slices begins.
 fn spells(name: &[u8], word: &[u8]) -> bool
     ensures { result ≡ same_bytes name.now word.now }
 {
-    name == word
+    if name.len() != word.len() {
+        return false;
+    }
+    for i in 0..word.len() {
+        if name[i] != word[i] {
+            return false;
+        }
+    }
+    true
 }
 
 // The kind of a name: that of the reserved word that it spells, or a name's.

@@ -1,16 +1,30 @@
--- `==` of slices compares as `same_bytes` does.
-use Rattle.std.proofs.Common.{◌≡◌, ℕ, Bool, ◌&&◌, List, [], ◌∷◌, eqb, refl, ap, ◌∙◌}
-use Rattle.std.specs.Cmp.Lexicographic.{pointwise}
-use Rattle.laws.specs.Lists.{same_bytes}
+use mathlib.Core.Path.{refl, sym, ◌∙◌}
+use native.Mathlib.Omega.{arith}
+use Rattle.laws.proofs.SameBytes.{other_length, same_stop, same_pass, same_end}
 use Rattle.tokens.proofs.word.spells.Goals as goal
 
-byte_by_byte : (xs ys : List ℕ) → pointwise eqb xs ys ≡ same_bytes xs ys
-unfolding same_bytes
-byte_by_byte [] [] = refl
-byte_by_byte [] (y ∷ ys) = refl
-byte_by_byte (x ∷ xs) [] = refl
-byte_by_byte (x ∷ xs) (y ∷ ys) = ap (λ (b : Bool). eqb x y && b) (byte_by_byte xs ys)
+pub returns-then-name-word : goal.returns-then-name-word
+returns-then-name-word c =
+    let args = c.args in sym (other_length args.name.now args.word.now c.if-name-word.true)
+
+pub loop-i-init : goal.loop-i-init
+loop-i-init c =
+    (c.if-name-word.false, refl)
+
+pub returns-then-name-i : goal.returns-then-name-i
+returns-then-name-i c =
+    let args = c.args in
+    sym (same_stop args.name.now args.word.now c.loop-i.i (omega arith) (omega arith) c.if-name-i.true)
+    ∙ c.loop-i.invariant.1
+
+pub loop-i-preserved : goal.loop-i-preserved
+loop-i-preserved c =
+    let args = c.args in
+    let pass = same_pass args.name.now args.word.now c.loop-i.i (omega arith) (omega arith) c.if-name-i.false in
+    (c.loop-i.invariant.0, sym pass ∙ c.loop-i.invariant.1)
 
 pub returns : goal.returns
 returns c =
-    c.eq.ensures ∙ byte_by_byte c.args.name.now c.args.word.now
+    let args = c.args in
+    sym (same_end args.name.now args.word.now c.loop-i.i (omega arith) (omega arith))
+    ∙ c.loop-i.invariant.1
