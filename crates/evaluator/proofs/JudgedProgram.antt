@@ -9,8 +9,7 @@ use native.Mathlib.Omega.{arith}
 use borrow.Author.Tests.{eq-eqb, ne_eqb}
 use lib.Dec.{eqb, lit<}
 use lib.ListN.{length}
-use Rattle.std.specs.Prelude.{Option, Some, None, Ok, Err}
-use Rattle.std.specs.Option.{ok_or}
+use Rattle.std.specs.Prelude.{Option, Some, None}
 use Rattle.limits.specs.Limits.{slots, record_bytes}
 use Rattle.laws.specs.Counts.{once, count}
 use Rattle.laws.proofs.Counts.{once_other}
@@ -26,9 +25,6 @@ use Rattle.evaluator.specs.Judge.{state_mark, rule_of, good_by, good, judged, ju
 use Rattle.evaluator.specs.Judge.{judge}
 use Rattle.evaluator.specs.Marks.{marks_in}
 use Rattle.evaluator.specs.Reached.{known, Goes, Judges}
-use Rattle.evaluator.specs.declared.Refusal.{Refusal}
-use Rattle.evaluator.specs.declared.Refusal.TheVariants.{BadRecord}
-use Rattle.evaluator.specs.Contract.{answer_in}
 use Rattle.evaluator.specs.declared.judge.Reached.{Reached}
 
 -- where no derivative is owed, no state is without one
@@ -82,14 +78,14 @@ module _ {p : List ℕ} {t : Reached} {i : ℕ} (a : Judging p t i) where
         record { same = a.same ∙ rw (left_next p i h, g, m, add-one) }
 
     -- so says a step's answer r
-    pub refused : {f : Refusal} (u : Reached) (r : Option (Unit {0})) → Err f ≡ ok_or r (BadRecord i)
-        → Judges t (rule_of (shape_of x)) r u → answer_in (Err f) ≡ judge (decoded p)
-    refused {f} u None q j = let z : f ≡ BadRecord i = cc in rw z (bad_here j)
+    pub refused : (u : Reached) (r : Option (Unit {0})) → r ≡ None → Judges t (rule_of (shape_of x)) r u
+        → answer 3 i ≡ judge (decoded p)
+    refused u None q j = bad_here j
     refused u (Some y) q j = cc
 
-    pub next : {y : Unit {0}} (u : Reached) (r : Option (Unit {0})) → Ok y ≡ ok_or r (BadRecord i)
-        → Judges t (rule_of (shape_of x)) r u → Judging p u (i + 1)
-    next u None q j = cc
+    pub next : (u : Reached) (r : Option (Unit {0})) → (r ≡ None → ⊥) → Judges t (rule_of (shape_of x)) r u
+        → Judging p u (i + 1)
+    next u None q j = absurd (q refl)
     next u (Some y) q j = good_here j
 
   module _ (h : length p / record_bytes ≤ i) where

@@ -7,5 +7,6 @@ pub mod Contract
 pub mod Sound
 pub mod Stack
 pub mod Marks
+pub mod Judged
 pub mod Reached
 pub mod States

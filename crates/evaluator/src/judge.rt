@@ -3,11 +3,10 @@ ghost use Rattle.std.specs.Prelude.{◌≡◌, ◌<◌, ◌≤◌, eqb, slice_in
 ghost use Rattle.limits.specs.Limits.{slots, stack_places};
 ghost use Rattle.laws.specs.Counts.{count};
 ghost use Rattle.records.specs.Record.{decoded};
-ghost use Rattle.evaluator.specs.Contract.{answer_in};
 ghost use Rattle.evaluator.specs.Marks.{mark_in, marks_in};
 ghost use Rattle.evaluator.specs.Judge.{state_mark, judge};
+ghost use Rattle.evaluator.specs.Judged.{judged_in};
 
-use crate::Refusal;
 use limits::{RECORD_BYTES, SLOTS, STACK};
 use records::{Instr, decode};
 
@@ -64,11 +63,11 @@ impl Reached {
         self.marks[s as usize] == mark
     }
 
-    // k values give way to one; or a value is pushed, for none.
+    // k values give way to one; or a value is pushed, for none, if there is a place.
     fn fold(&mut self, k: usize) -> Option<()>
         ensures { Judges self.old (fold_rule k) result self.new }
     {
-        if self.height < k || STACK < self.height - k + 1 {
+        if self.height < k || k == 0 && self.height == STACK {
             return None;
         }
         self.phase = 3;
@@ -177,16 +176,27 @@ impl Reached {
     }
 }
 
-// Judges all records of a program.
-pub fn judge(program: &[u8]) -> Result<(), Refusal>
-    ensures { answer_in result ≡ judge (decoded program.now) }
+// What the judge finds: all is well; the first bad record; a value left on the stack, or a state without derivative.
+#[derive(Clone, Copy, PartialEq, Eq)]
+pub enum Judged {
+    Sound,
+    BadRecord(usize),
+    Unfinished,
+}
+
+// Judges all records of a program. It only reads, and answers in two words: a caller's loop of steps judges once.
+#[inline(never)]
+pub fn judge(program: &[u8]) -> Judged
+    ensures { judged_in result ≡ judge (decoded program.now) }
 {
     let mut t = Reached::begun();
     for i in 0..program.len() / RECORD_BYTES {
-        t.step(decode(program, i)).ok_or(Refusal::BadRecord(i))?;
+        if t.step(decode(program, i)).is_none() {
+            return Judged::BadRecord(i);
+        }
     }
     if t.height != 0 || t.owed != 0 {
-        return Err(Refusal::Unfinished);
+        return Judged::Unfinished;
     }
-    Ok(())
+    Judged::Sound
 }

@@ -10,6 +10,7 @@ ghost use Rattle.std.specs.Prelude.{◌≡◌};
 ghost use Rattle.evaluator.specs.Evaluate.{refusal};
 ghost use Rattle.evaluator.specs.Contract.{answer_in, AnswersNumber, AnswersPlace, Evaluated, Started, Stepped};
 
+use judge::Judged;
 use limits::{RECORD_BYTES, RECORDS, SLOTS};
 
 // Why a program is not evaluated: a buffer is too short; its size; the first bad record; a value left on the stack, or
@@ -57,7 +58,11 @@ fn refuse(program: &[u8], values: &[f64], derivs: &[f64]) -> Result<(), Refusal>
     if program.len() % RECORD_BYTES != 0 || RECORDS < program.len() / RECORD_BYTES {
         return Err(Refusal::WrongSize);
     }
-    judge::judge(program)
+    match judge::judge(program) {
+        Judged::Sound => Ok(()),
+        Judged::BadRecord(i) => Err(Refusal::BadRecord(i)),
+        Judged::Unfinished => Err(Refusal::Unfinished),
+    }
 }
 
 // Evaluates a program: writes its constants, its stored slots and the derivatives of its states.

@@ -9,12 +9,10 @@ pub step-requires : goal.step-requires
 step-requires c = search (rules, ready)
 
 pub loop-i-preserved : goal.loop-i-preserved
-loop-i-preserved c =
-    next c.loop-i.invariant c.loop-i-test.true c.decode.ensures c.step.new.self c.step.result
-    c.in_ok-ok_or.ensures.value c.step.ensures
+loop-i-preserved c = search (rules, next)
 
-pub returns-in_err-ok_or : goal.returns-in_err-ok_or
-returns-in_err-ok_or c = search (rules, refused)
+pub returns-then-is_none : goal.returns-then-is_none
+returns-then-is_none c = search (rules, refused)
 
 pub returns-then-t-ne0 : goal.returns-then-t-ne0
 returns-then-t-ne0 c = unfinished c.loop-i.invariant (search rules) c.then-t-ne0.either
