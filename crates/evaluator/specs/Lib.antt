@@ -7,6 +7,6 @@ pub mod Contract
 pub mod Sound
 pub mod Stack
 pub mod Marks
-pub mod Judged
+pub mod Finding
 pub mod Reached
 pub mod States

@@ -5,7 +5,7 @@ ghost use Rattle.laws.specs.Counts.{count};
 ghost use Rattle.records.specs.Record.{decoded};
 ghost use Rattle.evaluator.specs.Marks.{mark_in, marks_in};
 ghost use Rattle.evaluator.specs.Judge.{state_mark, judge};
-ghost use Rattle.evaluator.specs.Judged.{judged_in};
+ghost use Rattle.evaluator.specs.Finding.{finding_in};
 
 use limits::{RECORD_BYTES, SLOTS, STACK};
 use records::{Instr, decode};
@@ -178,25 +178,26 @@ impl Reached {
 
 // What the judge finds: all is well; the first bad record; a value left on the stack, or a state without derivative.
 #[derive(Clone, Copy, PartialEq, Eq)]
-pub enum Judged {
+pub enum Finding {
     Sound,
     BadRecord(usize),
     Unfinished,
 }
 
-// Judges all records of a program. It only reads, and answers in two words: a caller's loop of steps judges once.
+// Judges all records of a program. It only reads, and answers in two words, so that a compiler can judge once before a
+// caller's loop of steps.
 #[inline(never)]
-pub fn judge(program: &[u8]) -> Judged
-    ensures { judged_in result ≡ judge (decoded program.now) }
+pub fn judge(program: &[u8]) -> Finding
+    ensures { finding_in result ≡ judge (decoded program.now) }
 {
     let mut t = Reached::begun();
     for i in 0..program.len() / RECORD_BYTES {
         if t.step(decode(program, i)).is_none() {
-            return Judged::BadRecord(i);
+            return Finding::BadRecord(i);
         }
     }
     if t.height != 0 || t.owed != 0 {
-        return Judged::Unfinished;
+        return Finding::Unfinished;
     }
-    Judged::Sound
+    Finding::Sound
 }

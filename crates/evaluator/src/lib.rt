@@ -10,7 +10,7 @@ ghost use Rattle.std.specs.Prelude.{◌≡◌};
 ghost use Rattle.evaluator.specs.Evaluate.{refusal};
 ghost use Rattle.evaluator.specs.Contract.{answer_in, AnswersNumber, AnswersPlace, Evaluated, Started, Stepped};
 
-use judge::Judged;
+use judge::Finding;
 use limits::{RECORD_BYTES, RECORDS, SLOTS};
 
 // Why a program is not evaluated: a buffer is too short; its size; the first bad record; a value left on the stack, or
@@ -59,9 +59,9 @@ fn refuse(program: &[u8], values: &[f64], derivs: &[f64]) -> Result<(), Refusal>
         return Err(Refusal::WrongSize);
     }
     match judge::judge(program) {
-        Judged::Sound => Ok(()),
-        Judged::BadRecord(i) => Err(Refusal::BadRecord(i)),
-        Judged::Unfinished => Err(Refusal::Unfinished),
+        Finding::Sound => Ok(()),
+        Finding::BadRecord(i) => Err(Refusal::BadRecord(i)),
+        Finding::Unfinished => Err(Refusal::Unfinished),
     }
 }
 
